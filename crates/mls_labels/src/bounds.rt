@@ -1,0 +1,47 @@
+// How many levels and categories a scheme has.
+ghost use Rattle.std.specs.Prelude.{◌≡◌, ◌≤◌};
+ghost use Rattle.mls_labels.specs.Label.{has_label};
+
+use crate::labels::Label;
+use std::marker::Model;
+
+/// How many levels and categories a scheme of labels has.
+#[derive(Clone, Copy, Debug)]
+pub struct Bounds {
+    levels: u8,
+    categories: u8,
+}
+
+impl Model for Bounds {
+    ghost use Rattle.std.specs.Prelude.{◌≤◌};
+    ghost use Rattle.mls_labels.specs.Label.{Bounds, bounds_code};
+
+    ghost Value = { Bounds };
+
+    ghost coded = { bounds_code };
+
+    ghost view = { λ a. record { levels = a.levels; categories = a.categories } };
+
+    ghost invariant = { λ a. (1 ≤ a.levels) × (a.levels ≤ 16) × (a.categories ≤ 64) };
+
+    ghost inverse = { λ b. record { levels = b.levels; categories = b.categories } };
+}
+
+impl Bounds {
+    /// A scheme of so many levels and categories.
+    pub fn new(levels: u8, categories: u8) -> Bounds
+        requires some { 1 ≤ levels }
+        requires levels { levels ≤ 16 }
+        requires categories { categories ≤ 64 }
+        ensures { result ≡ record { levels = levels; categories = categories } }
+    {
+        Bounds { levels, categories }
+    }
+
+    /// Whether the label is within the bounds.
+    pub fn has(self, label: Label) -> bool
+        ensures { result ≡ has_label self label }
+    {
+        label.level() < self.levels && label.categories().all_below(self.categories)
+    }
+}

@@ -1,0 +1,94 @@
+// Sets of categories.
+ghost use Rattle.std.specs.Prelude.{◌≡◌, ◌<◌, ◌≤◌, nat_lt};
+ghost use Rattle.mls_labels.specs.Each.{each};
+ghost use Rattle.std.specs.FinSet as set;
+
+use std::marker::Model;
+
+/// A set of categories 0 to 63.
+#[derive(Clone, Copy, Debug)]
+pub struct CatSet {
+    bits: u64,
+}
+
+impl Model for CatSet {
+    ghost use Rattle.std.specs.Prelude.{◌<◌, ◌^◌};
+    ghost use Rattle.std.specs.Ordering.{nat_cmp};
+    ghost use Rattle.std.specs.FinSet as set;
+    ghost use Rattle.std.specs.Coded.{coded_ℕ};
+    ghost use Rattle.mls_labels.specs.CategoryBits.{categories_of, bits_of, bits_of-categories_of};
+
+    ghost Value = { set.FinSet nat_cmp };
+
+    ghost coded = { set.code coded_ℕ };
+
+    ghost view = { λ a. categories_of a.bits };
+
+    ghost invariant = { λ a. a.bits < 2 ^ 64 };
+
+    ghost inverse = { λ s. record { bits = bits_of s } };
+
+    ghost inverse_ok = { λ a h i. record { bits = bits_of-categories_of a.bits h i } };
+}
+
+impl CatSet {
+    /// No category.
+    pub fn empty() -> CatSet
+        ensures { result ≡ set.empty }
+    {
+        CatSet { bits: 0 }
+    }
+
+    /// Whether the category is in the set.
+    pub fn contains(self, n: u8) -> bool
+        requires { n < 64 }
+        ensures { result ≡ set.contains self n }
+    {
+        self.bits >> n & 1 == 1
+    }
+
+    /// The set with one category more.
+    pub fn with(self, n: u8) -> CatSet
+        requires { n < 64 }
+        ensures { result ≡ set.insert self n }
+    {
+        CatSet {
+            bits: self.bits | 1 << n,
+        }
+    }
+
+    /// Whether each category of this set is in the other.
+    pub fn is_subset(self, other: &CatSet) -> bool
+        ensures { result ≡ set.is_subset self other.now }
+    {
+        self.bits & !other.bits == 0
+    }
+
+    /// Whether each category is below a number.
+    pub fn all_below(self, n: u8) -> bool
+        requires { n ≤ 64 }
+        ensures { result ≡ each self (λ q. nat_lt q n) }
+    {
+        let bits = self.bits;
+        n == 64 || bits < 1 << n
+    }
+}
+
+impl PartialEq for CatSet {
+    ghost use Rattle.mls_labels.specs.Same.{same_categories, same_categories_laws};
+    ghost use Rattle.std.specs.Cmp.{partial_equiv_from_equiv};
+
+    ghost eq = { same_categories };
+
+    ghost laws = { partial_equiv_from_equiv same_categories_laws };
+
+    fn eq(&self, other: &CatSet) -> bool {
+        self.bits == other.bits
+    }
+}
+
+impl Eq for CatSet {
+    ghost use Rattle.mls_labels.specs.Same.{same_categories_laws};
+
+    ghost laws = { same_categories_laws };
+}
