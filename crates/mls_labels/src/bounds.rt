@@ -1,12 +1,12 @@
-// How many levels and categories a scheme has.
+//! How many levels and categories a scheme of labels has.
 ghost use Rattle.std.specs.Prelude.{◌≡◌, ◌≤◌};
 ghost use Rattle.mls_labels.specs.Label.{has_label};
 
-use crate::labels::Label;
+use crate::label::Label;
 use std::marker::Model;
 
-/// How many levels and categories a scheme of labels has.
-#[derive(Clone, Copy, Debug)]
+/// How many levels (1 to 16) and categories (0 to 64) a scheme of labels has.
+#[derive(Clone, Copy, Debug, PartialEq, Eq)]
 pub struct Bounds {
     levels: u8,
     categories: u8,
@@ -28,7 +28,7 @@ impl Model for Bounds {
 }
 
 impl Bounds {
-    /// A scheme of so many levels and categories.
+    /// The bounds of a scheme with this many levels and categories.
     pub fn new(levels: u8, categories: u8) -> Bounds
         requires some { 1 ≤ levels }
         requires levels { levels ≤ 16 }
@@ -38,7 +38,8 @@ impl Bounds {
         Bounds { levels, categories }
     }
 
-    /// Whether the label is within the bounds.
+    /// Whether the label's level is less than the number of levels, and each of its categories less
+    /// than the number of categories.
     pub fn has(self, label: Label) -> bool
         ensures { result ≡ has_label self label }
     {

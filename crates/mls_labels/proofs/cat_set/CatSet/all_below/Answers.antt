@@ -1,7 +1,8 @@
 use Rattle.std.proofs.Common.{◌≡◌, ◌<◌, ◌*◌, ◌^◌, ◌%◌, ◌∙◌, sym, arith}
 use Rattle.std.proofs.Math.Pow.{pow-lt}
-use Rattle.mls_labels.specs.CategoryBits.{categories_of-below, true_below}
-use Rattle.mls_labels.proofs.categories.CatSet.all_below.Goals as goal
+use Rattle.mls_labels.specs.CategoryBits.{true_below}
+use Rattle.mls_labels.proofs.CategoryWords.{categories_of-below}
+use Rattle.mls_labels.proofs.cat_set.CatSet.all_below.Goals as goal
 
 pub returns-then-n-eq64 : goal.returns-then-n-eq64
 returns-then-n-eq64 c =

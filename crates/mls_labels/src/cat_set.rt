@@ -1,11 +1,12 @@
-// Sets of categories.
+//! Sets of categories.
 ghost use Rattle.std.specs.Prelude.{◌≡◌, ◌<◌, ◌≤◌, nat_lt};
 ghost use Rattle.mls_labels.specs.Each.{each};
 ghost use Rattle.std.specs.FinSet as set;
 
 use std::marker::Model;
 
-/// A set of categories 0 to 63.
+/// A set of categories, each a number from 0 to 63. It is one word, whose bit `n` is set where
+/// category `n` is in the set.
 #[derive(Clone, Copy, Debug)]
 pub struct CatSet {
     bits: u64,
@@ -32,14 +33,14 @@ impl Model for CatSet {
 }
 
 impl CatSet {
-    /// No category.
+    /// The set without a category.
     pub fn empty() -> CatSet
         ensures { result ≡ set.empty }
     {
         CatSet { bits: 0 }
     }
 
-    /// Whether the category is in the set.
+    /// Whether category `n` is in the set.
     pub fn contains(self, n: u8) -> bool
         requires { n < 64 }
         ensures { result ≡ set.contains self n }
@@ -47,7 +48,7 @@ impl CatSet {
         self.bits >> n & 1 == 1
     }
 
-    /// The set with one category more.
+    /// The set with category `n` added; the same set where it is there already.
     pub fn with(self, n: u8) -> CatSet
         requires { n < 64 }
         ensures { result ≡ set.insert self n }
@@ -57,15 +58,15 @@ impl CatSet {
         }
     }
 
-    /// Whether each category of this set is in the other.
+    /// Whether each category of this set is in `other`.
     pub fn is_subset(self, other: &CatSet) -> bool
         ensures { result ≡ set.is_subset self other.now }
     {
         self.bits & !other.bits == 0
     }
 
-    /// Whether each category is below a number.
-    pub fn all_below(self, n: u8) -> bool
+    /// Whether each category of the set is less than `n`.
+    pub(crate) fn all_below(self, n: u8) -> bool
         requires { n ≤ 64 }
         ensures { result ≡ each self (λ q. nat_lt q n) }
     {

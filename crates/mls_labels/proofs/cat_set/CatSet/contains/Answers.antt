@@ -1,7 +1,7 @@
 use Rattle.std.proofs.Common.{refl}
 use Rattle.std.proofs.lemmas.Nat.Bits.{shr_and_one}
 use Rattle.mls_labels.specs.CategoryBits.{contains-categories_of, true_below}
-use Rattle.mls_labels.proofs.categories.CatSet.contains.Goals as goal
+use Rattle.mls_labels.proofs.cat_set.CatSet.contains.Goals as goal
 
 pub returns : goal.returns
 returns c =

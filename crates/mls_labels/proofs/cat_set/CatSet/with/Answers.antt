@@ -1,7 +1,7 @@
 use Rattle.std.proofs.Common.{◌<◌, ◌*◌, ◌^◌, ◌%◌, arith}
 use Rattle.std.proofs.lemmas.Nat.{or_lt}
-use Rattle.mls_labels.specs.CategoryBits.{categories_of-with}
-use Rattle.mls_labels.proofs.categories.CatSet.with.Goals as goal
+use Rattle.mls_labels.proofs.CategoryWords.{categories_of-with}
+use Rattle.mls_labels.proofs.cat_set.CatSet.with.Goals as goal
 
 pub invariant_of-result : goal.invariant_of-result
 invariant_of-result c =

@@ -1,0 +1,3 @@
+pub mod CategoryWords
+pub mod Dominance
+pub mod Equality
