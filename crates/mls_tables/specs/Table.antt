@@ -19,6 +19,10 @@ IsWithin subjects columns triples = (t : Triple) → IsTrue (set.contains triple
 abbrev pub without_object : TripleSet → ℕ → TripleSet
 without_object triples o = set.retain triples (λ t. not (t.1 == o))
 
+-- A table just made: it has rows for some subjects, no column and no triple. (own)
+abbrev pub empty_table : ℕ → Table
+empty_table subjects = record { subjects = subjects; columns = 0; triples = set.empty }
+
 -- a table is stored as the tuple of its parts
 abbrev pub table_code : Coded Table
 table_code =

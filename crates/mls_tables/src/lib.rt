@@ -1,8 +1,14 @@
 //! The tables of the monitor: ids, modes, the access matrix and the current accesses, as sets of triples.
 #![tactic(auto)]
 
+mod access_set;
 mod ids;
+mod matrix;
 mod mode;
+mod modes;
 
+pub use access_set::AccessSet;
 pub use ids::{ObjectId, SubjectId};
+pub use matrix::Matrix;
 pub use mode::Mode;
+pub use modes::Modes;

@@ -1,6 +1,6 @@
 //! The modes of access.
 ghost use Rattle.std.specs.Prelude.{◌≡◌};
-ghost use Rattle.mls_tables.specs.Mode.{observes, alters, uses};
+ghost use Rattle.mls_tables.specs.Mode.{observes, alters, uses, mode_number};
 
 /// How a subject accesses an object: the four modes of MTR-2997.
 #[derive(Clone, Copy, Debug, PartialEq, Eq)]
@@ -35,5 +35,17 @@ impl Mode {
         ensures { result ≡ uses self }
     {
         !matches!(self, Mode::Append)
+    }
+
+    /// The place of the mode in the order of modes, below 4.
+    pub(crate) fn number(self) -> u8
+        ensures { result ≡ mode_number self }
+    {
+        match self {
+            Mode::Execute => 0,
+            Mode::Read => 1,
+            Mode::Append => 2,
+            Mode::Write => 3,
+        }
     }
 }

@@ -1,0 +1,4 @@
+pub mod ModeBits
+pub mod Within
+pub mod TripleLists
+pub mod Cells

@@ -1,0 +1,5 @@
+use Rattle.mls_tables.specs.Triples.{contains-from_list-triple}
+use Rattle.mls_tables.proofs.access_set.AccessSet.contains.Goals as goal
+
+pub returns : goal.returns
+returns g c = rw (← c.self.view_is, contains-from_list-triple, ← c.deref.ensures.value) c.holds.ensures

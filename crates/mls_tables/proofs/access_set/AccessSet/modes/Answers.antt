@@ -1,0 +1,5 @@
+use Rattle.mls_tables.specs.Triples.{contains-from_list-triple}
+use Rattle.mls_tables.proofs.access_set.AccessSet.modes.Goals as goal
+
+pub returns : goal.returns
+returns g c = record { cell = λ x. rw (← c.self.view_is, contains-from_list-triple, ← c.deref.ensures.value) (c.modes_at.ensures x) }

@@ -1,0 +1,14 @@
+use Rattle.std.proofs.Common.{◌≡◌, ◌<◌, refl}
+use Rattle.mls_tables.specs.Cells.{cell}
+use Rattle.mls_tables.proofs.Cells.{read_cell, triples_of-insert}
+use Rattle.mls_tables.proofs.matrix.Matrix.give.Goals as goal
+
+pub returns : goal.returns
+returns g c =
+    let cells = c.self.inside.cells.items in
+    let n = c.self.inside.subjects in
+    let m = c.self.inside.columns in
+    let subject : c.args.s < n = rw (← c.self.view_is) at c.requires.subject in
+    let object : c.args.o < m = rw (← c.self.view_is) at c.requires.object in
+    let read : c.index.result.now ≡ cell cells n c.args.s c.args.o = read_cell cells n m c.args.s c.args.o c.place-at.result c.index.result.now subject object c.self.invariant.cells c.place-at.ensures c.index.ensures in
+    rw (c.with.ensures, read, c.place-at.ensures, ← c.self.view_is, triples_of-insert cells n m c.args.s c.args.o c.args.x subject object c.self.invariant.cells) refl

@@ -1,0 +1,192 @@
+//! The current accesses.
+ghost use Rattle.std.specs.Prelude.{◌≡◌, ◌<◌, ◌≤◌, ◌+◌, IfOk, OnOk, OnErr, not, ◌||◌, filter};
+ghost use Rattle.std.specs.FinSet as set;
+ghost use Rattle.std.specs.List.{list_any};
+ghost use Rattle.mls_tables.specs.declared.mode.Mode.{Mode as ModeName};
+ghost use Rattle.mls_tables.specs.Triples.{is_triple};
+ghost use Rattle.mls_tables.specs.Table.{IsWithin, empty_table, without_object};
+
+use crate::ids::{ObjectId, SubjectId};
+use crate::mode::Mode;
+use crate::modes::Modes;
+use std::alloc::{AllocError, Allocator, Global};
+use std::marker::Model;
+
+/// The current accesses: a set of triples of a subject, an object and a mode, with rows for 1 to 256 subjects and up to 4,096 object numbers.
+#[derive(Drop)]
+pub struct AccessSet<A: Allocator = Global> {
+    subjects: u16,
+    columns: u16,
+    triples: Vec<(SubjectId, ObjectId, Mode), A>,
+}
+
+impl<A: Allocator> Model for AccessSet<A> {
+    ghost use Rattle.std.specs.Prelude.{◌≤◌};
+    ghost use Rattle.std.specs.FinSet as set;
+    ghost use Rattle.mls_tables.specs.Table.{Table, table_code, IsWithin};
+
+    ghost Value = { Table };
+
+    ghost coded = { table_code };
+
+    ghost view = { λ b. record {
+      subjects = b.subjects;
+      columns = b.columns;
+      triples = set.from_list b.triples.items;
+    } };
+
+    ghost invariant = { λ b. record {
+      least : 1 ≤ b.subjects;
+      most : b.subjects ≤ 256;
+      columns : b.columns ≤ 4096;
+      within : IsWithin b.subjects b.columns (set.from_list b.triples.items);
+    } };
+}
+
+/// Whether a triple has these parts.
+fn is_triple(t: &(SubjectId, ObjectId, Mode), s: SubjectId, o: ObjectId, x: Mode) -> bool
+    ensures { result ≡ is_triple t.now (s, o, x) }
+{
+    t.0 == s && t.1 == o && t.2 == x
+}
+
+/// Whether one of the triples has these parts.
+fn holds(triples: &[(SubjectId, ObjectId, Mode)], s: SubjectId, o: ObjectId, x: Mode) -> bool
+    ensures { result ≡ list_any (λ t. is_triple t (s, o, x)) triples.now }
+{
+    triples.iter().any(|t| is_triple(t, s, o, x))
+}
+
+/// Takes out the triples with these parts, and tells whether there were any.
+fn discard<A: Allocator>(
+    triples: &mut Vec<(SubjectId, ObjectId, Mode), A>,
+    s: SubjectId,
+    o: ObjectId,
+    x: Mode,
+) -> bool
+    ensures there { result ≡ list_any (λ t. is_triple t (s, o, x)) triples.old.items }
+    ensures rest { triples.new.items ≡ filter (λ t. not (is_triple t (s, o, x))) triples.old.items }
+{
+    let before = triples.len();
+    triples.retain(|t| !is_triple(t, s, o, x));
+    triples.len() < before
+}
+
+/// The modes, with that of a triple if it is of the subject and the object.
+fn joined(modes: Modes, t: &(SubjectId, ObjectId, Mode), s: SubjectId, o: ObjectId) -> Modes
+    ensures { (x : ModeName) → set.contains result x ≡ (set.contains modes x || is_triple t.now (s, o, x)) }
+{
+    if t.0 == s && t.1 == o {
+        modes.with(t.2)
+    } else {
+        modes
+    }
+}
+
+/// The modes of the triples of a subject and an object.
+fn modes_at(triples: &[(SubjectId, ObjectId, Mode)], s: SubjectId, o: ObjectId) -> Modes
+    ensures { (x : ModeName) → set.contains result x ≡ list_any (λ t. is_triple t (s, o, x)) triples.now }
+{
+    let mut modes = Modes::empty();
+    for t in triples {
+        modes = joined(modes, t, s, o);
+    }
+    modes
+}
+
+impl<A: Allocator> AccessSet<A> {
+    /// A set with rows for 1 to 256 subjects, no column and no triple.
+    pub fn new(alloc: A, subjects: u16) -> Result<AccessSet<A>, AllocError>
+        requires least { 1 ≤ subjects }
+        requires most { subjects ≤ 256 }
+        ensures { IfOk result (λ b. b ≡ empty_table subjects) }
+    {
+        Ok(AccessSet {
+            subjects,
+            columns: 0,
+            triples: Vec::new(alloc),
+        })
+    }
+
+    /// For how many subjects there are rows.
+    pub fn subjects(&self) -> u16
+        ensures reply { result ≡ self.now.subjects }
+        ensures least { 1 ≤ result }
+        ensures most { result ≤ 256 }
+    {
+        self.subjects
+    }
+
+    /// For how many object numbers there are columns. No triple names a subject or an object beyond the two.
+    pub fn columns(&self) -> u16
+        ensures reply { result ≡ self.now.columns }
+        ensures most { result ≤ 4096 }
+        ensures within { IsWithin self.now.subjects self.now.columns self.now.triples }
+    {
+        self.columns
+    }
+
+    /// Adds an empty column for the next object number. Where memory is refused, nothing has changed.
+    pub fn add_object(&mut self) -> Result<(), AllocError>
+        requires { self.old.columns < 4096 }
+        ensures ok { OnOk result (self.new ≡ record self.old { columns = self.old.columns + 1 }) }
+        ensures err { OnErr result (self.new ≡ self.old) }
+    {
+        self.columns += 1;
+        Ok(())
+    }
+
+    /// The modes in which a subject accesses an object.
+    pub fn modes(&self, s: SubjectId, o: ObjectId) -> Modes
+        requires subject { s < self.now.subjects }
+        requires object { o < self.now.columns }
+        ensures cell { (x : ModeName) → set.contains result x ≡ set.contains self.now.triples (s, o, x) }
+    {
+        modes_at(&self.triples, s, o)
+    }
+
+    /// Whether the subject accesses the object in the mode.
+    pub fn contains(&self, s: SubjectId, o: ObjectId, x: Mode) -> bool
+        requires subject { s < self.now.subjects }
+        requires object { o < self.now.columns }
+        ensures { result ≡ set.contains self.now.triples (s, o, x) }
+    {
+        holds(&self.triples, s, o, x)
+    }
+
+    /// Adds a triple, and tells whether it is new. Where memory is refused, nothing has changed.
+    pub fn insert(&mut self, s: SubjectId, o: ObjectId, x: Mode) -> Result<bool, AllocError>
+        requires subject { s < self.old.subjects }
+        requires object { o < self.old.columns }
+        ensures new { IfOk result (λ new. new ≡ not (set.contains self.old.triples (s, o, x))) }
+        ensures ok { OnOk result (self.new ≡ record self.old { triples = set.insert self.old.triples (s, o, x) }) }
+        ensures err { OnErr result (self.new ≡ self.old) }
+    {
+        if self.contains(s, o, x) {
+            return Ok(false);
+        }
+        self.triples.push((s, o, x))?;
+        Ok(true)
+    }
+
+    /// Takes a triple out, and tells whether it was there.
+    pub fn remove(&mut self, s: SubjectId, o: ObjectId, x: Mode) -> bool
+        requires subject { s < self.old.subjects }
+        requires object { o < self.old.columns }
+        ensures there { result ≡ set.contains self.old.triples (s, o, x) }
+        ensures removed { self.new ≡ record self.old { triples = set.remove self.old.triples (s, o, x) } }
+    {
+        discard(&mut self.triples, s, o, x)
+    }
+
+    /// A set with the same rows, columns and triples.
+    pub fn duplicate(&self, alloc: A) -> Result<AccessSet<A>, AllocError>
+        ensures { IfOk result (λ b. b ≡ self.now) }
+    {
+        Ok(AccessSet {
+            subjects: self.subjects,
+            columns: self.columns,
+            triples: Vec::from_slice(alloc, &self.triples)?,
+        })
+    }
+}

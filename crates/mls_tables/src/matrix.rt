@@ -1,0 +1,136 @@
+//! The access matrix.
+ghost use Rattle.std.specs.Prelude.{◌≡◌, ◌<◌, ◌≤◌, ◌+◌, ◌*◌, ℕ, IfOk, OnOk, OnErr};
+ghost use Rattle.std.specs.FinSet as set;
+ghost use Rattle.mls_tables.specs.declared.mode.Mode.{Mode as ModeName};
+ghost use Rattle.mls_tables.specs.Table.{IsWithin, empty_table, without_object};
+
+use crate::ids::{ObjectId, SubjectId};
+use crate::mode::Mode;
+use crate::modes::Modes;
+use std::alloc::{AllocError, Allocator, Global};
+use std::marker::Model;
+
+/// The access matrix: a set of triples of a subject, an object and a mode, with a row for each subject and a column for each object number.
+/// There are 1 to 256 rows and up to 4,096 columns.
+#[derive(Drop)]
+pub struct Matrix<A: Allocator = Global> {
+    subjects: u16,
+    columns: u16,
+    /// Column by column; in each column a cell for each subject.
+    cells: Vec<Modes, A>,
+}
+
+impl<A: Allocator> Model for Matrix<A> {
+    ghost use Rattle.std.specs.Prelude.{◌≡◌, ◌≤◌, ◌*◌, length};
+    ghost use Rattle.mls_tables.specs.Table.{Table, table_code};
+    ghost use Rattle.mls_tables.specs.Cells.{triples_of};
+
+    ghost Value = { Table };
+
+    ghost coded = { table_code };
+
+    ghost view = { λ m. record {
+      subjects = m.subjects;
+      columns = m.columns;
+      triples = triples_of m.cells.items m.subjects m.columns;
+    } };
+
+    ghost invariant = { λ m. record {
+      least : 1 ≤ m.subjects;
+      most : m.subjects ≤ 256;
+      columns : m.columns ≤ 4096;
+      cells : length m.cells.items ≡ m.columns * m.subjects;
+    } };
+}
+
+/// Where the cell of a subject and an object stands.
+fn place(subjects: u16, s: SubjectId, o: ObjectId) -> usize
+    ensures { result ≡ o * subjects + s }
+{
+    usize::from(o.0) * usize::from(subjects) + usize::from(s.0)
+}
+
+impl<A: Allocator> Matrix<A> {
+    /// A matrix with rows for 1 to 256 subjects, no column and no triple.
+    pub fn new(alloc: A, subjects: u16) -> Matrix<A>
+        requires least { 1 ≤ subjects }
+        requires most { subjects ≤ 256 }
+        ensures { result ≡ empty_table subjects }
+    {
+        Matrix {
+            subjects,
+            columns: 0,
+            cells: Vec::new(alloc),
+        }
+    }
+
+    /// For how many subjects there are rows.
+    pub fn subjects(&self) -> u16
+        ensures reply { result ≡ self.now.subjects }
+        ensures least { 1 ≤ result }
+        ensures most { result ≤ 256 }
+    {
+        self.subjects
+    }
+
+    /// For how many object numbers there are columns. No triple names a subject or an object beyond the two.
+    pub fn columns(&self) -> u16
+        ensures reply { result ≡ self.now.columns }
+        ensures most { result ≤ 4096 }
+        ensures within { IsWithin self.now.subjects self.now.columns self.now.triples }
+    {
+        self.columns
+    }
+
+    /// Adds an empty column for the next object number. Where memory is refused, nothing has changed.
+    pub fn add_object(&mut self) -> Result<(), AllocError>
+        requires { self.old.columns < 4096 }
+        ensures ok { OnOk result (self.new ≡ record self.old { columns = self.old.columns + 1 }) }
+        ensures err { OnErr result (self.new ≡ self.old) }
+    {
+        let size = self.cells.len() + usize::from(self.subjects);
+        self.cells.resize(size, Modes::empty())?;
+        self.columns += 1;
+        Ok(())
+    }
+
+    /// The modes in the cell of a subject and an object.
+    pub fn modes(&self, s: SubjectId, o: ObjectId) -> Modes
+        requires subject { s < self.now.subjects }
+        requires object { o < self.now.columns }
+        ensures cell { (x : ModeName) → set.contains result x ≡ set.contains self.now.triples (s, o, x) }
+    {
+        self.cells[place(self.subjects, s, o)]
+    }
+
+    /// Puts a mode into the cell of a subject and an object.
+    pub fn give(&mut self, s: SubjectId, o: ObjectId, x: Mode)
+        requires subject { s < self.old.subjects }
+        requires object { o < self.old.columns }
+        ensures { self.new ≡ record self.old { triples = set.insert self.old.triples (s, o, x) } }
+    {
+        let at = place(self.subjects, s, o);
+        self.cells[at] = self.cells[at].with(x);
+    }
+
+    /// Takes a mode out of the cell of a subject and an object.
+    pub fn rescind(&mut self, s: SubjectId, o: ObjectId, x: Mode)
+        requires subject { s < self.old.subjects }
+        requires object { o < self.old.columns }
+        ensures { self.new ≡ record self.old { triples = set.remove self.old.triples (s, o, x) } }
+    {
+        let at = place(self.subjects, s, o);
+        self.cells[at] = self.cells[at].without(x);
+    }
+
+    /// A matrix with the same rows, columns and triples.
+    pub fn duplicate(&self, alloc: A) -> Result<Matrix<A>, AllocError>
+        ensures { IfOk result (λ m. m ≡ self.now) }
+    {
+        Ok(Matrix {
+            subjects: self.subjects,
+            columns: self.columns,
+            cells: Vec::from_slice(alloc, &self.cells)?,
+        })
+    }
+}

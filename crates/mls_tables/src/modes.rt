@@ -1,0 +1,71 @@
+//! Sets of modes.
+ghost use Rattle.std.specs.Prelude.{◌≡◌, ◌↔◌, IsTrue};
+ghost use Rattle.std.specs.FinSet as set;
+
+use crate::mode::Mode;
+use std::marker::Model;
+
+/// A set of modes.
+#[derive(Clone, Copy, Debug)]
+pub struct Modes {
+    bits: u8,
+}
+
+impl Model for Modes {
+    ghost use Rattle.std.specs.Prelude.{◌<◌};
+    ghost use Rattle.mls_tables.specs.Mode.{ModeSet, mode_set_code};
+    ghost use Rattle.mls_tables.specs.ModeBits.{modes_of, bits_of, bits_of-modes_of};
+
+    ghost Value = { ModeSet };
+
+    ghost coded = { mode_set_code };
+
+    ghost view = { λ a. modes_of a.bits };
+
+    ghost invariant = { λ a. a.bits < 16 };
+
+    ghost inverse = { λ s. record { bits = bits_of s } };
+
+    ghost inverse_ok = { λ a h i. record { bits = bits_of-modes_of a.bits h i } };
+}
+
+impl Modes {
+    /// No mode.
+    pub fn empty() -> Modes
+        ensures { result ≡ set.empty }
+    {
+        Modes { bits: 0 }
+    }
+
+    /// Whether the mode is in the set.
+    pub fn has(self, x: Mode) -> bool
+        ensures { result ≡ set.contains self x }
+    {
+        self.bits >> x.number() & 1 == 1
+    }
+
+    /// The set with one mode more.
+    pub fn with(self, x: Mode) -> Modes
+        ensures { result ≡ set.insert self x }
+    {
+        Modes {
+            bits: self.bits | 1 << x.number(),
+        }
+    }
+
+    /// The set with one mode less.
+    pub fn without(self, x: Mode) -> Modes
+        ensures { result ≡ set.remove self x }
+    {
+        Modes {
+            bits: self.bits & !(1 << x.number()),
+        }
+    }
+
+    /// Whether no mode is in the set.
+    pub fn is_empty(self) -> bool
+        ensures { IsTrue result ↔ (self ≡ set.empty) }
+    {
+        self.bits == 0
+    }
+}
