@@ -1,0 +1,10 @@
+use Rattle.std.proofs.Common.{sym, ap, ◌∙◌, string_bytes}
+use Rattle.std.specs.Str.{bytes_eq}
+use Rattle.mls_cli.specs.Names.{bound_to}
+use Rattle.mls_cli.proofs.NameLemmas.{lookup-map}
+use Rattle.mls_cli.proofs.vars.Vars.get.Goals as goal
+
+pub returns : goal.returns
+returns g c =
+    c.copied.ensures ∙ c.get.ensures.value
+    ∙ sym (lookup-map string_bytes (bytes_eq c.args.name.now) c.self.inside.bindings.entries) ∙ ap (bound_to c.args.name.now) c.self.view_is

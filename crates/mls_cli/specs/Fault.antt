@@ -1,0 +1,16 @@
+-- The faults of a line's parts.
+use Rattle.std.specs.Prelude.{Result, Ok, Err}
+use Rattle.mls_cli.specs.declared.fault.LineFault.{LineFault}
+use Rattle.mls_cli.specs.declared.fault.LineFault.TheVariants.{BadForm, UnknownName}
+
+-- The first of two faults in the order bad form, unknown name. (own)
+abbrev pub first_fault : LineFault → LineFault → LineFault
+first_fault BadForm f = BadForm
+first_fault UnknownName f = f
+
+-- Two parts of a line: both, or the first of their faults, wherever it stands in the line. (own)
+abbrev pub both : {X Y : Type 0} → Result X LineFault → Result Y LineFault → Result (X × Y) LineFault
+both (Ok x) (Ok y) = Ok (x, y)
+both (Ok x) (Err f) = Err f
+both (Err f) (Ok y) = Err f
+both (Err f) (Err g) = Err (first_fault f g)

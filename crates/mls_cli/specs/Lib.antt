@@ -1,0 +1,5 @@
+pub mod Fault
+pub mod Names
+pub mod ScriptLine
+pub mod Tokens
+pub mod Words

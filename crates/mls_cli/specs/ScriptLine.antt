@@ -1,0 +1,108 @@
+-- What a line of a script asks, by cases on its tokens.
+use Rattle.std.specs.Prelude.{ℕ, Bool, false, List, [], ◌∷◌, if◌then◌else◌, Option, Some, None, Result, Ok, Err, option_map, ◌==◌, nat_lt, length}
+use Rattle.mls_tables.specs.declared.mode.Mode.{Mode}
+use Rattle.mls_rules.specs.declared.request.Action.{Action}
+use Rattle.mls_rules.specs.declared.request.Action.TheVariants as action
+use Rattle.mls_cli.specs.declared.ask.Ask.{Ask}
+use Rattle.mls_cli.specs.declared.ask.Ask.TheVariants as ask
+use Rattle.mls_cli.specs.declared.ask.Line.{Line}
+use Rattle.mls_cli.specs.declared.ask.Line.TheVariants as line
+use Rattle.mls_cli.specs.declared.fault.LineFault.{LineFault}
+use Rattle.mls_cli.specs.declared.fault.LineFault.TheVariants.{BadForm, UnknownName}
+use Rattle.mls_cli.specs.declared.words.Word.{Word}
+use Rattle.mls_cli.specs.declared.words.Word.TheVariants as word
+use Rattle.mls_cli.specs.Fault.{both}
+use Rattle.mls_cli.specs.Names.{Names, place_of}
+use Rattle.mls_cli.specs.Tokens.{tokens_of, one_of, two_of, is_name}
+use Rattle.mls_cli.specs.Words.{mode_of, word_of}
+
+-- What a line says: nothing, or what it asks, and the name of the variable to bind where it has one. (own)
+pub data LineView : Type 0 where
+  Blank : LineView
+  Asks : Option (List ℕ) → Ask → LineView
+
+-- what a line of the program says
+abbrev pub said_by : Line → LineView
+said_by line.Blank = Blank
+said_by (line.Ask bind a) = Asks (option_map (λ name. name.now) bind) a
+
+-- what the program's reading of a line says
+abbrev pub line_view : Result Line LineFault → Result LineView LineFault
+line_view (Ok l) = Ok (said_by l)
+line_view (Err f) = Err f
+
+-- The number that was found for a name, or the fault that the name is unknown. (own)
+abbrev pub known : Option ℕ → Result ℕ LineFault
+known None = Err UnknownName
+known (Some n) = Ok n
+
+-- The subject that a token names. (own)
+abbrev pub subject_of : Names → List ℕ → Result ℕ LineFault
+subject_of names token = if is_name token then known (place_of token names.subjects) else Err BadForm
+
+-- The object that a token names. (own)
+abbrev pub object_of : Names → List (List ℕ × ℕ) → List ℕ → Result ℕ LineFault
+object_of names vars token = if is_name token then known (place_of token names.objects) else Err BadForm
+
+-- The operand of `get-execute` and the like: `OBJ`. (own)
+abbrev pub object_operand : Names → List (List ℕ × ℕ) → Option (List ℕ) → Result ℕ LineFault
+object_operand names vars None = Err BadForm
+object_operand names vars (Some token) = object_of names vars token
+
+-- A mode and an object, where the mode's token is a mode's word. (own)
+abbrev pub with_mode : Option Mode → Result ℕ LineFault → Result (Mode × ℕ) LineFault
+with_mode None object = Err BadForm
+with_mode (Some x) (Ok o) = Ok (x, o)
+with_mode (Some x) (Err f) = Err f
+
+-- The operands of `release` and `check`: `MODE OBJ`. (own)
+abbrev pub mode_and_object : Names → List (List ℕ × ℕ) → Option (List ℕ × List ℕ) → Result (Mode × ℕ) LineFault
+mode_and_object names vars None = Err BadForm
+mode_and_object names vars (Some p) = with_mode (mode_of p.0) (object_of names vars p.1)
+
+-- A request. (own)
+abbrev pub request_of : ℕ → Action → Ask
+request_of s act = ask.Submit (record { subject = s; action = act })
+
+-- What parts without a fault ask. (own)
+abbrev pub ask_of : {X : Type 0} → (X → Ask) → Result X LineFault → Result Ask LineFault
+ask_of f (Ok x) = Ok (f x)
+ask_of f (Err fault) = Err fault
+
+-- What a subject, an action's word and its operands ask. (own)
+abbrev pub acts_on : Names → List (List ℕ × ℕ) → List ℕ → List (List ℕ) → Word → Result Ask LineFault
+acts_on names vars subject operands (word.Get x) =
+    ask_of (λ p. request_of p.0 (action.Get x p.1)) (both (subject_of names subject) (object_operand names vars (one_of operands)))
+acts_on names vars subject operands word.Release =
+    ask_of (λ p. request_of p.0 (action.Release p.1.0 p.1.1)) (both (subject_of names subject) (mode_and_object names vars (two_of operands)))
+acts_on names vars subject operands word.Check =
+    ask_of (λ p. ask.Check p.0 p.1.1 p.1.0) (both (subject_of names subject) (mode_and_object names vars (two_of operands)))
+
+-- The same, where the word is an action's. (own)
+abbrev pub command_of : Names → List (List ℕ × ℕ) → List ℕ → List (List ℕ) → Option Word → Result Ask LineFault
+command_of names vars subject operands None = Err BadForm
+command_of names vars subject operands (Some w) = acts_on names vars subject operands w
+
+-- What a line asks that asks without binding a variable. (own)
+abbrev pub unbound : Result Ask LineFault → Result LineView LineFault
+unbound (Ok a) = Ok (Asks None a)
+unbound (Err f) = Err f
+
+-- A line whose first token begins with `;` is a note. (own)
+abbrev pub is_note : List ℕ → Bool
+is_note [] = false
+is_note (byte ∷ _) = byte == 59
+
+-- A subject, an action's word and its operands, whatever the first token begins with. (own)
+abbrev pub command_line : Names → List (List ℕ × ℕ) → List ℕ → List (List ℕ) → Result LineView LineFault
+command_line names vars subject [] = Err BadForm
+command_line names vars subject (w ∷ operands) = unbound (command_of names vars subject operands (word_of w))
+
+-- What tokens say. (own)
+abbrev pub said_of : Names → List (List ℕ × ℕ) → List (List ℕ) → Result LineView LineFault
+said_of names vars [] = Ok Blank
+said_of names vars (token ∷ rest) = if is_note token then Ok Blank else command_line names vars token rest
+
+-- What a line says: at most 20,000 bytes, and then what its tokens say. (own)
+abbrev pub line_of : Names → List (List ℕ × ℕ) → List ℕ → Result LineView LineFault
+line_of names vars line = if nat_lt 20000 (length line) then Err BadForm else said_of names vars (tokens_of line)

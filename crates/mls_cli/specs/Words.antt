@@ -1,0 +1,27 @@
+-- The words of a line, each with what it names.
+use Rattle.std.specs.Prelude.{ℕ, List, codes, if◌then◌else◌, Option, Some, None}
+use Rattle.std.specs.Str.{bytes_eq}
+use Rattle.mls_tables.specs.declared.mode.Mode.{Mode}
+use Rattle.mls_tables.specs.declared.mode.Mode.TheVariants.{Execute, Read, Append, Write}
+use Rattle.mls_cli.specs.declared.words.Word.{Word}
+use Rattle.mls_cli.specs.declared.words.Word.TheVariants.{Get, Release, Check}
+
+-- The mode that a word names. (own)
+abbrev pub mode_of : List ℕ → Option Mode
+mode_of token =
+    if bytes_eq token (codes "execute") then Some Execute
+    else if bytes_eq token (codes "read") then Some Read
+    else if bytes_eq token (codes "append") then Some Append
+    else if bytes_eq token (codes "write") then Some Write
+    else None
+
+-- The action that a word names. (own)
+abbrev pub word_of : List ℕ → Option Word
+word_of token =
+    if bytes_eq token (codes "get-execute") then Some (Get Execute)
+    else if bytes_eq token (codes "get-read") then Some (Get Read)
+    else if bytes_eq token (codes "get-append") then Some (Get Append)
+    else if bytes_eq token (codes "get-write") then Some (Get Write)
+    else if bytes_eq token (codes "release") then Some Release
+    else if bytes_eq token (codes "check") then Some Check
+    else None

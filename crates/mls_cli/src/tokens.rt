@@ -1,0 +1,103 @@
+//! The tokens of a line, as slices of it.
+ghost use Rattle.std.specs.Prelude.{◌≡◌, ◌≢◌, ◌<◌, ◌≤◌, ℕ, List, length, slice_index, [], ◌∷◌, MatchOption, option_map};
+ghost use Rattle.std.specs.List.{list_all};
+ghost use Rattle.mls_cli.specs.Tokens.{tokens_of, one_of, two_of, name_of, Spells};
+ghost use Rattle.mls_cli.specs.Tokens.{is_name_byte as name_byte, is_name as name_test};
+
+use std::str;
+
+/// The line without the spaces at its front.
+fn skip_spaces(line: &[u8]) -> &[u8]
+    ensures same { tokens_of result.now ≡ tokens_of line.now }
+    ensures begins { 0 < length result.now → slice_index result.now 0 ≢ 32 }
+{
+    let mut rest = line;
+    while let [b' ', others @ ..] = rest {
+        rest = others;
+    }
+    rest
+}
+
+/// How many bytes stand before the first space.
+fn word_len(line: &[u8]) -> usize
+    ensures within { result ≤ length line.now }
+    ensures word { (k : ℕ) → k < result → slice_index line.now k ≢ 32 }
+    ensures ends { result < length line.now → slice_index line.now result ≡ 32 }
+{
+    for (i, byte) in line.iter().enumerate() {
+        if *byte == b' ' {
+            return i;
+        }
+    }
+    line.len()
+}
+
+/// The first token of a line, and what stands after it. `None` where the line has no token.
+pub fn next_token(line: &[u8]) -> Option<(&[u8], &[u8])>
+    ensures { MatchOption result (tokens_of line.now ≡ []) (λ p. tokens_of line.now ≡ p.0.now ∷ tokens_of p.1.now) }
+{
+    let from = skip_spaces(line);
+    if from.is_empty() {
+        return None;
+    }
+    Some(from.split_at(word_len(from)))
+}
+
+/// The token of a line that has just one.
+pub fn one_token(line: &[u8]) -> Option<&[u8]>
+    ensures { option_map (λ t. t.now) result ≡ one_of (tokens_of line.now) }
+{
+    let (token, rest) = next_token(line)?;
+    if next_token(rest).is_some() {
+        None
+    } else {
+        Some(token)
+    }
+}
+
+/// The tokens of a line that has just two.
+pub fn two_tokens(line: &[u8]) -> Option<(&[u8], &[u8])>
+    ensures { option_map (λ p. (p.0.now, p.1.now)) result ≡ two_of (tokens_of line.now) }
+{
+    let (first, rest) = next_token(line)?;
+    let second = one_token(rest)?;
+    Some((first, second))
+}
+
+/// Whether a byte may stand in a name.
+fn is_name_byte(byte: u8) -> bool
+    ensures { result ≡ name_byte byte }
+{
+    matches!(byte, b'0'..=b'9' | b'A'..=b'Z' | b'a'..=b'z' | b'-' | b'_')
+}
+
+/// Whether each byte of a token may stand in a name.
+fn has_name_bytes(token: &[u8]) -> bool
+    ensures { result ≡ list_all name_byte token.now }
+{
+    token.iter().all(|byte| is_name_byte(*byte))
+}
+
+/// Whether a token is a name.
+fn is_name(token: &[u8]) -> bool
+    ensures { result ≡ name_test token.now }
+{
+    !token.is_empty() && token.len() <= 32 && has_name_bytes(token)
+}
+
+/// The token as a name, where it is one.
+pub fn read_name(token: &[u8]) -> Option<&str>
+    ensures { option_map (λ name. name.now) result ≡ name_of token.now }
+{
+    if is_name(token) {
+        str::from_utf8(token).ok()
+    } else {
+        None
+    }
+}
+
+/// The tokens of a line are what it spells, and it spells nothing else.
+pub fn tokens_law(_line: &[u8])
+    ensures spelled { Spells _line.now (tokens_of _line.now) }
+    ensures alone { (tokens : List (List ℕ)) → Spells _line.now tokens → tokens ≡ tokens_of _line.now }
+{}
