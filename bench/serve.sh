@@ -72,5 +72,6 @@ with open(sys.argv[2] + ".answers", "wb") as answers:
 }
 : >"$folder/empty"
 held=$(most "$script" "$(wc -c <"$folder/answers")")
-journal=$(((lines - checks) * 64 / 1024))
-echo "memory: $held KiB at the most, $(most "$folder/empty" 0) KiB for an empty script; the journal's entries are $journal KiB, so $((held - journal)) KiB beside it"
+empty=$(most "$folder/empty" 0)
+entries=$((lines - checks))
+echo "memory: $held KiB at the most, $empty KiB for an empty script; $entries entries take the rest, $(((held - empty) * 1024 / entries)) bytes each"
