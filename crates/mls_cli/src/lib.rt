@@ -16,3 +16,6 @@ pub use line::{MAX_LINE, read_line};
 pub use names::Names;
 pub use tokens::tokens_law;
 pub use vars::Vars;
+
+#[cfg(test)]
+mod tests;

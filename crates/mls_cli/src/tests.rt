@@ -1,0 +1,141 @@
+//! Lines whose reading the format fixes, over the names of the standard start.
+use crate::{Ask, Line, LineFault, MAX_LINE, Names, Vars, read_line};
+use mls_rules::{Action, Request};
+use mls_tables::{Mode, ObjectId, SubjectId};
+use std::alloc::{AllocError, Global};
+use std::test::Fail;
+
+fn standard_names(alloc: Global) -> Result<Names, AllocError> {
+    Names::new(
+        alloc,
+        &["ann", "bob", "sec", "aud"],
+        &["root", "plans", "memo", "tool"],
+    )
+}
+
+fn submits(subject: u16, action: Action) -> Ask {
+    Ask::Submit(Request {
+        subject: SubjectId(subject),
+        action,
+    })
+}
+
+fn checks(subject: u16, mode: Mode, object: u16) -> Ask {
+    Ask::Check(SubjectId(subject), ObjectId(object), mode)
+}
+
+#[test]
+fn names_have_their_numbers(rt: HostRuntime) -> Result<(), Fail> {
+    let names = standard_names(rt.alloc())?;
+    assert_eq!(rt; names.subject("ann"), Some(SubjectId(0)));
+    assert_eq!(rt; names.subject("aud"), Some(SubjectId(3)));
+    assert_eq!(rt; names.subject("plans"), None);
+    assert_eq!(rt; names.object("tool"), Some(ObjectId(3)));
+    assert_eq!(rt; names.object("ann"), None);
+    let vars = Vars::new(rt.alloc());
+    assert_eq!(rt; vars.get("x"), None);
+    Ok(())
+}
+
+#[test]
+fn reads_what_lines_ask(rt: HostRuntime) -> Result<(), Fail> {
+    let names = standard_names(rt.alloc())?;
+    let vars = Vars::new(rt.alloc());
+    let cases = [
+        (
+            b"ann get-read plans".as_slice(),
+            submits(0, Action::Get(Mode::Read, ObjectId(1))),
+        ),
+        (
+            b"bob get-append plans".as_slice(),
+            submits(1, Action::Get(Mode::Append, ObjectId(1))),
+        ),
+        (
+            b"bob get-execute tool".as_slice(),
+            submits(1, Action::Get(Mode::Execute, ObjectId(3))),
+        ),
+        (
+            b"sec get-write root".as_slice(),
+            submits(2, Action::Get(Mode::Write, ObjectId(0))),
+        ),
+        (
+            b"bob release read memo".as_slice(),
+            submits(1, Action::Release(Mode::Read, ObjectId(2))),
+        ),
+        (
+            b"ann check write plans".as_slice(),
+            checks(0, Mode::Write, 1),
+        ),
+        (
+            b"  aud   check  append tool ".as_slice(),
+            checks(3, Mode::Append, 3),
+        ),
+    ];
+    for (line, ask) in cases {
+        assert_eq!(rt;
+            read_line(&names, &vars, line),
+            Ok(Line::Ask { bind: None, ask })
+        );
+    }
+    for line in [
+        b"".as_slice(),
+        b"   ".as_slice(),
+        b"; note".as_slice(),
+        b"  ;ann get-read \xff\x00".as_slice(),
+    ] {
+        assert_eq!(rt; read_line(&names, &vars, line), Ok(Line::Blank));
+    }
+    Ok(())
+}
+
+#[test]
+fn names_the_first_fault(rt: HostRuntime) -> Result<(), Fail> {
+    let names = standard_names(rt.alloc())?;
+    let vars = Vars::new(rt.alloc());
+    let cases = [
+        (b"ann frob plans".as_slice(), LineFault::BadForm),
+        (b"ann".as_slice(), LineFault::BadForm),
+        (b"ann get-read".as_slice(), LineFault::BadForm),
+        (b"ann get-read plans memo".as_slice(), LineFault::BadForm),
+        (b"ann release plans".as_slice(), LineFault::BadForm),
+        (b"zoe release all plans".as_slice(), LineFault::BadForm),
+        (b"zoe frob nil".as_slice(), LineFault::BadForm),
+        (b"zoe get-read a.b".as_slice(), LineFault::BadForm),
+        (b"ann get-read plans;".as_slice(), LineFault::BadForm),
+        (b"ann get-read plans\r".as_slice(), LineFault::BadForm),
+        (b"ann\tget-read plans".as_slice(), LineFault::BadForm),
+        (b"\x00".as_slice(), LineFault::BadForm),
+        (b"ann get-read pl\xc3\xa4ne".as_slice(), LineFault::BadForm),
+        (
+            b"ann get-read a12345678901234567890123456789012".as_slice(),
+            LineFault::BadForm,
+        ),
+        (
+            b"ann get-read a1234567890123456789012345678901".as_slice(),
+            LineFault::UnknownName,
+        ),
+        (b"zoe get-read plans".as_slice(), LineFault::UnknownName),
+        (b"plans get-read plans".as_slice(), LineFault::UnknownName),
+        (b"ann get-read ann".as_slice(), LineFault::UnknownName),
+        (b"zoe check read nil".as_slice(), LineFault::UnknownName),
+    ];
+    for (line, wanted) in cases {
+        assert_eq!(rt; read_line(&names, &vars, line), Err(wanted));
+    }
+    Ok(())
+}
+
+#[test]
+fn a_line_has_at_most_twenty_thousand_bytes(rt: HostRuntime) -> Result<(), Fail> {
+    let names = standard_names(rt.alloc())?;
+    let vars = Vars::new(rt.alloc());
+    let mut line = vec![in rt.alloc(); b' '; MAX_LINE]?;
+    assert_eq!(rt; read_line(&names, &vars, &line), Ok(Line::Blank));
+    line.push(b' ')?;
+    assert_eq!(rt; read_line(&names, &vars, &line), Err(LineFault::BadForm));
+    line[0] = b';';
+    assert_eq!(rt; read_line(&names, &vars, &line), Err(LineFault::BadForm));
+    line.truncate(20_000);
+    assert_eq!(rt; read_line(&names, &vars, &line), Ok(Line::Blank));
+    Ok(())
+}
