@@ -1,9 +1,9 @@
 -- What a change of the cells does to the set of triples.
-use Rattle.std.proofs.Common.{◌≡◌, ℕ, ◌+◌, ◌*◌, ◌<◌, ◌≤◌, Bool, true, false, cond, nat_eq, nat_lt, List, length, get_or, set as put, refl, sym, ap, ◌∙◌, ◌⊎◌, inl, inr, arith}
-use Rattle.std.specs.Prelude.{not, ◌&&◌, ◌||◌}
+use Rattle.std.proofs.Common.{◌≡◌, ℕ, ◌+◌, ◌-◌, ◌*◌, ◌<◌, ◌≤◌, Bool, true, false, cond, nat_eq, nat_lt, List, ◌++◌, length, take, drop, get_or, set as put, refl, sym, ap, ◌∙◌, ◌⊎◌, inl, inr, arith}
+use Rattle.std.specs.Prelude.{not, replicate, ◌&&◌, ◌||◌}
 use Rattle.std.proofs.Math.Nat.{mul_comm}
-use Rattle.std.proofs.lemmas.Nat.{mul-add-lt, same_from_place}
-use Rattle.std.proofs.lemmas.List.{get_or-set_same, get_or-set_other, get_or_default}
+use Rattle.std.proofs.lemmas.Nat.{mul-add-lt, same_from_place, row_fits}
+use Rattle.std.proofs.lemmas.List.{get_or-set_same, get_or-set_other, get_or_default, get_or_append_left, get_or-append_right, get_or-take, get_or-drop, get_or-replicate, length-replicate, length-take, length-drop, length-append}
 use Rattle.std.proofs.lemmas.Bool.{cases_eq, cases_lt}
 use Rattle.std.proofs.lemmas.Bool.Decides.{nat_tests}
 use Rattle.std.specs.FinSet as set
@@ -11,7 +11,8 @@ use Rattle.mls_tables.specs.declared.mode.Mode.{Mode}
 use Rattle.mls_tables.specs.Mode.{mode_cmp, ModeSet}
 use Rattle.mls_tables.specs.ModeBits.{is_mode, contains-insert-mode, contains-remove-mode}
 use Rattle.mls_tables.specs.Triples.{Triple, same_triples, contains-insert-triple, contains-remove-triple}
-use Rattle.mls_tables.specs.Table.{IsWithin}
+use Rattle.mls_tables.specs.Table.{IsWithin, without_object}
+use Rattle.mls_tables.proofs.Within.{contains-without_object}
 use Rattle.mls_tables.specs.Cells.{cell, with_columns, triples_of, contains-triples_of}
 
 -- no column, no triple
@@ -56,6 +57,10 @@ in_bounds n m t c (inr _) (inr past) h = let no : nat_lt t.1 m ≡ false = not_l
 -- the triples of the cells are within the bounds
 pub IsWithin-triples_of : (cells : List ModeSet) (n m : ℕ) → IsWithin n m (triples_of cells n m)
 IsWithin-triples_of cells n m t there = in_bounds n m t (set.contains (cell cells n t.0 t.1) t.2) (cases_lt t.0 n) (cases_lt t.1 m) (sym (contains-triples_of cells n m t) ∙ there)
+
+no_change : (a : Bool) → (a && true) ≡ a
+no_change true = refl
+no_change false = refl
 
 no_second : (a : Bool) → (a && false) ≡ false
 no_second true = refl
@@ -128,3 +133,77 @@ module _ (old new : List ModeSet) (n m : ℕ) (whole : length old ≡ m * n) (be
   -- an empty column more changes nothing
   pub triples_of-more : triples_of new n (m + 1) ≡ triples_of old n m
   triples_of-more = same_triples _ _ (λ t. contains-triples_of new n (m + 1) t ∙ in_more t.0 t.1 t.2 (cases_lt t.0 n) (cases_lt t.1 m) (cases_eq t.1 m) ∙ sym (contains-triples_of old n m t))
+
+-- a list with a part emptied that begins somewhere and is n long
+abbrev emptied : List ModeSet → ℕ → ℕ → List ModeSet
+emptied cells from n = take from cells ++ (replicate n set.empty ++ drop n (drop from cells))
+
+module _ (cells : List ModeSet) (from n : ℕ) (fits : from + n ≤ length cells) where
+  front : length (take from cells) ≡ from
+  front = omega (arith, length-take from cells)
+
+  length-empties : length (replicate n (set.empty {R = mode_cmp})) ≡ n
+  length-empties = length-replicate n (set.empty {R = mode_cmp})
+
+  emptied_before : (k : ℕ) (d : ModeSet) → k < from → get_or (emptied cells from n) k d ≡ get_or cells k d
+  emptied_before k d before =
+      get_or_append_left (take from cells) (replicate n set.empty ++ drop n (drop from cells)) d k (rw front before) ∙ get_or-take from cells k d before
+
+  emptied_within : (k : ℕ) (d : ModeSet) → k < n → get_or (emptied cells from n) (from + k) d ≡ set.empty
+  emptied_within k d within =
+      let at_front : from + k - from ≡ k = omega arith in
+      let past : from ≤ from + k = omega arith in
+      rw (get_or-append_right (take from cells) (replicate n set.empty ++ drop n (drop from cells)) from (from + k) d front past, at_front, get_or_append_left (replicate n set.empty) (drop n (drop from cells)) d k (rw length-empties within)) (get_or-replicate n k set.empty d within)
+
+  emptied_after : (k : ℕ) (d : ModeSet) → get_or (emptied cells from n) (from + n + k) d ≡ get_or cells (from + n + k) d
+  emptied_after k d =
+      let past_front : from + n + k - from ≡ n + k = omega arith in
+      let past_both : n + k - n ≡ k = omega arith in
+      let past : from ≤ from + n + k = omega arith in
+      let beyond : n ≤ n + k = omega arith in
+      let same : from + (n + k) ≡ from + n + k = omega arith in
+      rw (get_or-append_right (take from cells) (replicate n set.empty ++ drop n (drop from cells)) from (from + n + k) d front past, past_front, get_or-append_right (replicate n set.empty) (drop n (drop from cells)) n (n + k) d length-empties beyond, past_both, get_or-drop n (drop from cells) k d, get_or-drop from cells (n + k) d, same) refl
+
+module _ (cells : List ModeSet) (n m o : ℕ) (object : o < m) (whole : length cells ≡ m * n) where
+  column_fits : o * n + n ≤ length cells
+  column_fits = rw whole (row_fits o n m n object (omega arith))
+
+  abbrev cleared : List ModeSet
+  cleared = emptied cells (o * n) n
+
+  kept_before : (a b : ℕ) → a < n → b < o → cell cleared n a b ≡ cell cells n a b
+  kept_before a b row before = emptied_before cells (o * n) n column_fits (b * n + a) set.empty (place_lt n o a b row before)
+
+  kept_after : (a b : ℕ) → a < n → o < b → cell cleared n a b ≡ cell cells n a b
+  kept_after a b row after =
+      let from : o * n + n ≤ b * n = row_fits o n b n after (omega arith) in
+      let split : o * n + n + (b * n + a - (o * n + n)) ≡ b * n + a = omega arith in
+      rw split at (emptied_after cells (o * n) n column_fits (b * n + a - (o * n + n)) set.empty)
+
+  in_cleared : (a b : ℕ) (y : Mode) → (a < n) ⊎ (n ≤ a) → (b < o) ⊎ (o ≤ b) → (b ≡ o) ⊎ (b ≡ o → ⊥) → (nat_lt b m && (nat_lt a n && set.contains (cell cleared n a b) y)) ≡ ((nat_lt b m && (nat_lt a n && set.contains (cell cells n a b) y)) && not (nat_eq b o))
+  in_cleared a b y (inr past) _ _ = rw (not_less a n past, no_second (nat_lt b m)) refl
+  in_cleared a b y (inl row) (inl before) _ = let other : b ≡ o → ⊥ = λ same. omega arith in rw (kept_before a b row before, differs b o other) (sym (no_change _))
+  in_cleared a b y (inl row) (inr from) (inl same) =
+      rw (same, emptied_within cells (o * n) n column_fits a set.empty row, set.contains-empty mode_cmp y, itself o, no_second (nat_lt a n), no_second (nat_lt o m)) (sym (no_second _))
+  in_cleared a b y (inl row) (inr from) (inr other) = let after : o < b = omega arith in rw (kept_after a b row after, differs b o other) (sym (no_change _))
+
+  -- to empty the cells of a column is to take out the triples of its object
+  pub triples_of-without_object : triples_of cleared n m ≡ without_object (triples_of cells n m) o
+  triples_of-without_object = same_triples _ _ (λ t.
+      contains-triples_of cleared n m t
+      ∙ in_cleared t.0 t.1 t.2 (cases_lt t.0 n) (cases_lt t.1 o) (cases_eq t.1 o)
+      ∙ ap (λ e. e && not (nat_eq t.1 o)) (sym (contains-triples_of cells n m t))
+      ∙ sym (contains-without_object (triples_of cells n m) o t))
+
+  -- as the code has it
+  pub triples_of-written : (now part : List ModeSet) (from k : ℕ) → now ≡ cells → from ≡ o * n → k ≡ n → part ≡ replicate (length (take k (drop from now))) set.empty → triples_of (take from now ++ (part ++ drop k (drop from now))) n m ≡ without_object (triples_of cells n m) o
+  triples_of-written now part from k is_cells is_from is_n is_part =
+      let fits : o * n + n ≤ length cells = column_fits in
+      let long : length (take n (drop (o * n) cells)) ≡ n = omega (arith, length-take n (drop (o * n) cells), length-drop (o * n) cells) in
+      rw (is_part, is_cells, is_from, is_n, long) triples_of-without_object
+
+  pub length-written : (now part : List ModeSet) (from k : ℕ) → now ≡ cells → from ≡ o * n → k ≡ n → part ≡ replicate (length (take k (drop from now))) set.empty → length (take from now ++ (part ++ drop k (drop from now))) ≡ length cells
+  length-written now part from k is_cells is_from is_n is_part =
+      let fits : o * n + n ≤ length cells = column_fits in
+      let long : length (take n (drop (o * n) cells)) ≡ n = omega (arith, length-take n (drop (o * n) cells), length-drop (o * n) cells) in
+      rw (is_part, is_cells, is_from, is_n, long, length-append, length-append, length-replicate, length-take, length-drop, length-drop) (omega arith)

@@ -1,6 +1,6 @@
 -- Lists of triples, of which the set of accesses is made.
-use Rattle.std.proofs.Common.{◌≡◌, ℕ, suc, ◌+◌, ◌≤◌, Bool, true, false, cond, nat_eq, nat_lt, List, [], ◌∷◌, length, refl, ap, ◌∙◌, arith}
-use Rattle.std.specs.Prelude.{not, ◌||◌, filter}
+use Rattle.std.proofs.Common.{sym, ◌≡◌, ℕ, suc, ◌+◌, ◌≤◌, Bool, true, false, cond, nat_eq, nat_lt, List, [], ◌∷◌, length, refl, ap, ◌∙◌, arith}
+use Rattle.std.specs.Prelude.{not, ◌&&◌, ◌||◌, filter}
 use Rattle.std.specs.List.{list_any}
 use Rattle.std.specs.Cmp.{nat_eq_equiv}
 use Rattle.std.proofs.lemmas.Bool.Decides.{nat_tests}
@@ -8,7 +8,9 @@ use Rattle.std.specs.FinSet as set
 use Rattle.mls_tables.specs.declared.mode.Mode.{Mode}
 use Rattle.mls_tables.specs.Mode.{mode_number, ModeSet}
 use Rattle.mls_tables.specs.ModeBits.{contains-insert-mode}
-use Rattle.mls_tables.specs.Triples.{Triple, is_triple}
+use Rattle.mls_tables.specs.Triples.{Triple, triple_cmp, is_triple, same_triples, contains-from_list-filter}
+use Rattle.mls_tables.specs.Table.{without_object}
+use Rattle.mls_tables.proofs.Within.{contains-without_object}
 
 or_swap : (a b : Bool) → (a || b) ≡ (b || a)
 or_swap true true = refl
@@ -40,3 +42,16 @@ fewer_more false t kept n rest h is = grind (arith, nat_tests, is)
 pub fewer : (p : Triple → Bool) (ts : List Triple) → nat_lt (length (filter (λ t. not (p t)) ts)) (length ts) ≡ list_any p ts
 fewer p [] = refl
 fewer p (t ∷ ts) = fewer_more (p t) t (filter (λ u. not (p u)) ts) (length ts) (list_any p ts) (length-filter-le (λ u. not (p u)) ts) (fewer p ts)
+
+and_swap : (a b : Bool) → (a && b) ≡ (b && a)
+and_swap true true = refl
+and_swap true false = refl
+and_swap false true = refl
+and_swap false false = refl
+
+-- to keep the triples of a list that are of no object is to take out the object's
+pub from_list-without_object : (ts : List Triple) (o : ℕ) → set.from_list {R = triple_cmp} (filter (λ t. not (nat_eq t.1 o)) ts) ≡ without_object (set.from_list ts) o
+from_list-without_object ts o = same_triples _ _ (λ t.
+    contains-from_list-filter (λ u. not (nat_eq u.1 o)) ts t
+    ∙ and_swap (not (nat_eq t.1 o)) (set.contains (set.from_list ts) t)
+    ∙ sym (contains-without_object (set.from_list ts) o t))

@@ -1,5 +1,5 @@
 //! The current accesses.
-ghost use Rattle.std.specs.Prelude.{◌≡◌, ◌<◌, ◌≤◌, ◌+◌, IfOk, OnOk, OnErr, not, ◌||◌, filter};
+ghost use Rattle.std.specs.Prelude.{◌≡◌, ◌<◌, ◌≤◌, ◌+◌, IfOk, OnOk, OnErr, not, ◌||◌, ◌==◌, filter};
 ghost use Rattle.std.specs.FinSet as set;
 ghost use Rattle.std.specs.List.{list_any};
 ghost use Rattle.mls_tables.specs.declared.mode.Mode.{Mode as ModeName};
@@ -70,6 +70,20 @@ fn discard<A: Allocator>(
     let before = triples.len();
     triples.retain(|t| !is_triple(t, s, o, x));
     triples.len() < before
+}
+
+/// Whether a triple is of the object.
+fn is_of(t: &(SubjectId, ObjectId, Mode), o: ObjectId) -> bool
+    ensures { result ≡ (t.now.1 == o) }
+{
+    t.1 == o
+}
+
+/// Takes out the triples of an object.
+fn discard_object<A: Allocator>(triples: &mut Vec<(SubjectId, ObjectId, Mode), A>, o: ObjectId)
+    ensures { triples.new.items ≡ filter (λ t. not (t.1 == o)) triples.old.items }
+{
+    triples.retain(|t| !is_of(t, o));
 }
 
 /// The modes, with that of a triple if it is of the subject and the object.
@@ -177,6 +191,14 @@ impl<A: Allocator> AccessSet<A> {
         ensures removed { self.new ≡ record self.old { triples = set.remove self.old.triples (s, o, x) } }
     {
         discard(&mut self.triples, s, o, x)
+    }
+
+    /// Takes out the triples of an object.
+    pub fn drop_object(&mut self, o: ObjectId)
+        requires { o < self.old.columns }
+        ensures { self.new ≡ record self.old { triples = without_object self.old.triples o } }
+    {
+        discard_object(&mut self.triples, o);
     }
 
     /// A set with the same rows, columns and triples.

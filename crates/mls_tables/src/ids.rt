@@ -59,6 +59,7 @@ impl ObjectId {
     pub fn number(self) -> u16
         ensures { result ≡ self }
     {
-        self.0
+        let ObjectId(number) = self;
+        number
     }
 }

@@ -6,6 +6,8 @@ mod ids;
 mod matrix;
 mod mode;
 mod modes;
+#[cfg(test)]
+mod tests;
 
 pub use access_set::AccessSet;
 pub use ids::{ObjectId, SubjectId};

@@ -1,5 +1,5 @@
 //! The access matrix.
-ghost use Rattle.std.specs.Prelude.{◌≡◌, ◌<◌, ◌≤◌, ◌+◌, ◌*◌, ℕ, IfOk, OnOk, OnErr};
+ghost use Rattle.std.specs.Prelude.{◌≡◌, ◌<◌, ◌≤◌, ◌+◌, ◌*◌, ℕ, IfOk, OnOk, OnErr, length, replicate};
 ghost use Rattle.std.specs.FinSet as set;
 ghost use Rattle.mls_tables.specs.declared.mode.Mode.{Mode as ModeName};
 ghost use Rattle.mls_tables.specs.Table.{IsWithin, empty_table, without_object};
@@ -48,6 +48,13 @@ fn place(subjects: u16, s: SubjectId, o: ObjectId) -> usize
     ensures { result ≡ o * subjects + s }
 {
     usize::from(o.0) * usize::from(subjects) + usize::from(s.0)
+}
+
+/// Empties each of the cells.
+fn clear(cells: &mut [Modes])
+    ensures { cells.new ≡ replicate (length cells.old) set.empty }
+{
+    cells.fill(Modes::empty());
 }
 
 impl<A: Allocator> Matrix<A> {
@@ -121,6 +128,16 @@ impl<A: Allocator> Matrix<A> {
     {
         let at = place(self.subjects, s, o);
         self.cells[at] = self.cells[at].without(x);
+    }
+
+    /// Empties the column of an object.
+    pub fn clear_object(&mut self, o: ObjectId)
+        requires { o < self.old.columns }
+        ensures { self.new ≡ record self.old { triples = without_object self.old.triples o } }
+    {
+        let from = place(self.subjects, SubjectId(0), o);
+        let to = from + usize::from(self.subjects);
+        clear(&mut self.cells[from..to]);
     }
 
     /// A matrix with the same rows, columns and triples.
