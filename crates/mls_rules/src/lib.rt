@@ -1,6 +1,17 @@
 //! The rules of the monitor: requests, the secure start, the state, and what each request is answered and changes.
 #![tactic(auto)]
 
+mod applying;
+mod conditions;
+mod deciding;
 mod request;
+mod standard;
+mod start;
+mod state;
+mod subject;
 
+pub use applying::apply;
+pub use deciding::decide;
 pub use request::{Action, Reason, Reply, Request};
+pub use start::Start;
+pub use state::State;

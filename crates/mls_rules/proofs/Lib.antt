@@ -1,0 +1,9 @@
+pub mod EachTriple
+pub mod Growing
+pub mod Kept
+pub mod Security
+pub mod StandardSecure
+pub mod Tables
+pub mod Changes
+pub mod Copies
+pub mod StandardState

@@ -1,0 +1,83 @@
+-- The rules: the reply to a request, and the state after it.
+use Rattle.std.specs.Prelude.{ℕ, Bool, true, false, ◌&&◌, Option, Some, None, List, [], ◌∷◌, if◌then◌else◌}
+use Rattle.std.specs.FinSet as set
+use Rattle.mls_rules.specs.declared.request.Action.{Action}
+use Rattle.mls_rules.specs.declared.request.Action.TheVariants.{Get, Release}
+use Rattle.mls_rules.specs.declared.request.Request.{Request}
+use Rattle.mls_rules.specs.declared.request.Reason.{Reason}
+use Rattle.mls_rules.specs.declared.request.Reason.TheVariants.{Discretionary, Simple, Star, Integrity}
+use Rattle.mls_rules.specs.declared.request.Reply.{Reply}
+use Rattle.mls_rules.specs.declared.request.Reply.TheVariants.{Yes, Created, No, Undefined}
+use Rattle.mls_rules.specs.State.{State, is_subject, is_active}
+use Rattle.mls_rules.specs.Properties.{simple_holds, star_holds, discretionary_holds, integrity_holds}
+
+-- Whether all that an action names is there. (own)
+abbrev pub names_known : State → Action → Bool
+names_known v (Get x o) = is_active v o
+names_known v (Release x o) = is_active v o
+
+-- Domain: the caller is known, and all that the action names is there. (MTR-2997, domain of a rule)
+abbrev pub is_defined : State → Request → Bool
+is_defined v r = is_subject v r.subject && names_known v r.action
+
+-- Conditions of an action, in the order in which they are tried, each with the reason of the denial where it fails. (get and release: MTR-2997, rules
+-- to get and to release access; the integrity condition MTR-3153; the order and the reasons own)
+abbrev pub conditions : State → ℕ → Action → List (Reason × Bool)
+conditions v s (Get x o) =
+    (Discretionary, discretionary_holds v (s, o, x))
+    ∷ (Simple, simple_holds v (s, o, x))
+    ∷ (Star, star_holds v (s, o, x))
+    ∷ (Integrity, integrity_holds v (s, o, x))
+    ∷ []
+conditions v s (Release x o) = []
+
+-- The reason of the first condition that fails. (own)
+abbrev pub first_failing : List (Reason × Bool) → Option Reason
+first_failing [] = None
+first_failing ((reason, holds) ∷ rest) = if holds then first_failing rest else Some reason
+
+-- The reply to an action that is granted. (MTR-2997, decision yes)
+abbrev pub granted : State → Action → Reply
+granted v (Get x o) = Yes
+granted v (Release x o) = Yes
+
+-- A denial where there is a reason for one, else the grant. (own)
+abbrev pub reply_unless : Option Reason → Reply → Reply
+reply_unless None grant = grant
+reply_unless (Some reason) grant = No reason
+
+-- The reply to a request in the domain. (MTR-2997, decisions yes and no)
+abbrev pub verdict : State → ℕ → Action → Reply
+verdict v s action = reply_unless (first_failing (conditions v s action)) (granted v action)
+
+-- The reply: undefined outside the domain, else a denial with the first condition that fails, else the grant. (MTR-2997, decisions yes, no and ?)
+abbrev pub reply : State → Request → Reply
+reply v r = if is_defined v r then verdict v r.subject r.action else Undefined
+
+-- Change: what a granted action makes of the state. All that isn't named stays the same. (get and release: MTR-2997, rules to get and to release access)
+abbrev pub change : State → ℕ → Action → State
+change v s (Get x o) = record v { accesses = set.insert v.accesses (s, o, x) }
+change v s (Release x o) = record v { accesses = set.remove v.accesses (s, o, x) }
+
+-- The new state where the reply is a grant, else the old one. (own)
+abbrev pub after_reply : Reply → State → State → State
+after_reply Yes old new = new
+after_reply (Created o) old new = new
+after_reply (No reason) old new = old
+after_reply Undefined old new = old
+
+-- After: changed where the request is granted, else the same. (MTR-2997, rule)
+abbrev pub after : State → Request → State
+after v r = after_reply (reply v r) v (change v r.subject r.action)
+
+-- Whether an action that is granted needs no memory. (own)
+abbrev pub takes_no_room : Action → Bool
+takes_no_room (Get x o) = false
+takes_no_room (Release x o) = true
+
+-- Whether a request needs no memory but for its entry: nothing is granted, or what is granted makes nothing new. (own)
+abbrev pub needs_no_room : Reply → Action → Bool
+needs_no_room Yes a = takes_no_room a
+needs_no_room (Created o) a = takes_no_room a
+needs_no_room (No reason) a = true
+needs_no_room Undefined a = true

@@ -1,0 +1,54 @@
+//! The change that a request makes.
+ghost use Rattle.std.specs.Prelude.{◌≡◌, IsTrue, IfOk, IsOk, OnOk, OnErr};
+ghost use Rattle.mls_rules.specs.State.{is_subject};
+ghost use Rattle.mls_rules.specs.Properties.{IsSecure};
+ghost use Rattle.mls_rules.specs.Rules.{names_known, reply, after, change, takes_no_room, needs_no_room};
+
+use crate::deciding::decide;
+use crate::request::{Action, Reply, Request};
+use crate::state::State;
+use mls_tables::SubjectId;
+use std::alloc::{AllocError, Allocator};
+
+/// Makes the change of a granted action.
+fn make_change<A: Allocator>(
+    state: &mut State<A>,
+    s: SubjectId,
+    action: Action,
+) -> Result<(), AllocError>
+    requires subject { IsTrue (is_subject state.old s) }
+    requires names { IsTrue (names_known state.old action) }
+    ensures memory { IsTrue (takes_no_room action) → IsOk result }
+    ensures ok { OnOk result (state.new ≡ change state.old s action) }
+    ensures err { OnErr result (state.new ≡ state.old) }
+{
+    match action {
+        Action::Get(x, o) => {
+            state.insert_access(s, o, x)?;
+        }
+        Action::Release(x, o) => {
+            state.remove_access(s, o, x);
+        }
+    }
+    Ok(())
+}
+
+/// Answers a request, and changes the state where it is granted. From a secure state it leaves a secure state.
+///
+/// # Errors
+/// `AllocError` where a growth was refused; the state is then as before. It isn't refused where nothing is granted, nor
+/// for a release.
+pub fn apply<A: Allocator>(state: &mut State<A>, request: &Request) -> Result<Reply, AllocError>
+    ensures reply { IfOk result (λ r. r ≡ reply state.old request.now) }
+    ensures ok { OnOk result (state.new ≡ after state.old request.now) }
+    ensures err { OnErr result (state.new ≡ state.old) }
+    ensures memory { IsTrue (needs_no_room (reply state.old request.now) request.now.action) → IsOk result }
+    ensures secure { IsSecure state.old → IsSecure state.new }
+{
+    let reply = decide(state, request);
+    match reply {
+        Reply::Yes | Reply::Created(_) => make_change(state, request.subject, request.action)?,
+        Reply::No(_) | Reply::Undefined => {}
+    }
+    Ok(reply)
+}

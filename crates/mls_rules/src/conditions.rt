@@ -1,0 +1,61 @@
+//! The conditions of one triple, each looked at alone.
+ghost use Rattle.std.specs.Prelude.{◌≡◌, IsTrue};
+ghost use Rattle.mls_rules.specs.State.{is_subject, is_active};
+ghost use Rattle.mls_rules.specs.Properties.{simple_holds, star_holds, integrity_holds, discretionary_holds};
+
+use crate::state::State;
+use mls_tables::{Mode, ObjectId, SubjectId};
+use std::alloc::Allocator;
+
+/// Whether the matrix permits the access.
+pub fn discretionary_holds<A: Allocator>(
+    state: &State<A>,
+    s: SubjectId,
+    o: ObjectId,
+    x: Mode,
+) -> bool
+    requires subject { IsTrue (is_subject state.now s) }
+    requires object { IsTrue (is_active state.now o) }
+    ensures { result ≡ discretionary_holds state.now (s, o, x) }
+{
+    state.allowed(s, o).has(x)
+}
+
+/// Whether the access meets simple security.
+pub fn simple_holds<A: Allocator>(state: &State<A>, s: SubjectId, o: ObjectId, x: Mode) -> bool
+    requires subject { IsTrue (is_subject state.now s) }
+    requires object { IsTrue (is_active state.now o) }
+    ensures { result ≡ simple_holds state.now (s, o, x) }
+{
+    !x.observes() || state.maximum(s).dominates(&state.object_label(o))
+}
+
+/// Whether the access meets the star property, which doesn't bind a trusted subject.
+pub fn star_holds<A: Allocator>(state: &State<A>, s: SubjectId, o: ObjectId, x: Mode) -> bool
+    requires subject { IsTrue (is_subject state.now s) }
+    requires object { IsTrue (is_active state.now o) }
+    ensures { result ≡ star_holds state.now (s, o, x) }
+{
+    if state.is_trusted(s) {
+        return true;
+    }
+    let own = state.current(s);
+    let label = state.object_label(o);
+    match x {
+        Mode::Append => label.dominates(&own),
+        Mode::Write => label.dominates(&own) && own.dominates(&label),
+        Mode::Read => own.dominates(&label),
+        Mode::Execute => true,
+    }
+}
+
+/// Whether the access meets strict integrity, which binds every subject.
+pub fn integrity_holds<A: Allocator>(state: &State<A>, s: SubjectId, o: ObjectId, x: Mode) -> bool
+    requires subject { IsTrue (is_subject state.now s) }
+    requires object { IsTrue (is_active state.now o) }
+    ensures { result ≡ integrity_holds state.now (s, o, x) }
+{
+    let own = state.subject_integrity(s);
+    let label = state.object_integrity(o);
+    (!x.uses() || label.dominates(&own)) && (!x.alters() || own.dominates(&label))
+}

@@ -1,0 +1,55 @@
+//! The reply to a request.
+ghost use Rattle.std.specs.Prelude.{◌≡◌, IsTrue};
+ghost use Rattle.mls_rules.specs.State.{is_subject, is_active};
+ghost use Rattle.mls_rules.specs.Rules.{is_defined, verdict, reply};
+
+use crate::conditions::{discretionary_holds, integrity_holds, simple_holds, star_holds};
+use crate::request::{Action, Reason, Reply, Request};
+use crate::state::State;
+use mls_tables::{Mode, ObjectId, SubjectId};
+use std::alloc::Allocator;
+
+/// Whether the caller is known and all that the action names is there.
+fn is_defined<A: Allocator>(state: &State<A>, request: &Request) -> bool
+    ensures { result ≡ is_defined state.now request.now }
+{
+    state.is_subject(request.subject)
+        && match request.action {
+            Action::Get(_, o) | Action::Release(_, o) => state.is_active(o),
+        }
+}
+
+/// The reply to a get in the domain.
+fn decide_get<A: Allocator>(state: &State<A>, s: SubjectId, o: ObjectId, x: Mode) -> Reply
+    requires subject { IsTrue (is_subject state.now s) }
+    requires object { IsTrue (is_active state.now o) }
+    ensures { result ≡ verdict state.now s (Action.Get x o) }
+{
+    if !discretionary_holds(state, s, o, x) {
+        return Reply::No(Reason::Discretionary);
+    }
+    if !simple_holds(state, s, o, x) {
+        return Reply::No(Reason::Simple);
+    }
+    if !star_holds(state, s, o, x) {
+        return Reply::No(Reason::Star);
+    }
+    if !integrity_holds(state, s, o, x) {
+        return Reply::No(Reason::Integrity);
+    }
+    Reply::Yes
+}
+
+/// The reply to a request: `Undefined` outside the domain, else `No` with the first condition of its rule that fails,
+/// else the grant. It changes nothing and takes no memory.
+pub fn decide<A: Allocator>(state: &State<A>, request: &Request) -> Reply
+    ensures reply { result ≡ reply state.now request.now }
+{
+    if !is_defined(state, request) {
+        return Reply::Undefined;
+    }
+    match request.action {
+        Action::Get(x, o) => decide_get(state, request.subject, o, x),
+        Action::Release(_, _) => Reply::Yes,
+    }
+}

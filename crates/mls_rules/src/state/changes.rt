@@ -1,0 +1,37 @@
+//! The changes of a state, each of one part.
+ghost use Rattle.std.specs.Prelude.{◌≡◌, ◌<◌, ◌+◌, IsTrue, IfOk, OnOk, OnErr, not};
+ghost use Rattle.std.specs.FinSet as set;
+ghost use Rattle.mls_rules.specs.State.{is_subject, is_active};
+
+use crate::state::State;
+use mls_tables::{Mode, ObjectId, SubjectId};
+use std::alloc::{AllocError, Allocator};
+
+impl<A: Allocator> State<A> {
+    /// Adds a current access, and says whether it is new. A refusal changes nothing.
+    pub(crate) fn insert_access(
+        &mut self,
+        s: SubjectId,
+        o: ObjectId,
+        x: Mode,
+    ) -> Result<bool, AllocError>
+        requires subject { IsTrue (is_subject self.old s) }
+        requires object { IsTrue (is_active self.old o) }
+        ensures new { IfOk result (λ new. new ≡ not (set.contains self.old.accesses (s, o, x))) }
+        ensures ok { OnOk result (self.new ≡ record self.old { accesses = set.insert self.old.accesses (s, o, x) }) }
+        ensures err { OnErr result (self.new ≡ self.old) }
+    {
+        let new = self.accesses.insert(s, o, x)?;
+        Ok(new)
+    }
+
+    /// Takes out a current access, and says whether it was there.
+    pub(crate) fn remove_access(&mut self, s: SubjectId, o: ObjectId, x: Mode) -> bool
+        requires subject { IsTrue (is_subject self.old s) }
+        requires object { IsTrue (is_active self.old o) }
+        ensures there { result ≡ set.contains self.old.accesses (s, o, x) }
+        ensures removed { self.new ≡ record self.old { accesses = set.remove self.old.accesses (s, o, x) } }
+    {
+        self.accesses.remove(s, o, x)
+    }
+}
