@@ -46,3 +46,16 @@ module _ {A : Type 0} (a : Inside A) (h : Agrees a) where
   pub agrees-permit : (s o : ℕ) (x : Mode) → is_subject (state_of a) s ≡ true → is_active (state_of a) o ≡ true
       → Agrees (record a { matrix = record a.matrix { triples = set.insert a.matrix.triples (s, o, x) } })
   agrees-permit s o x subject object = agrees-matrix _ (Each-insert a.matrix.triples (s, o, x) (is_known (state_of a)) h.matrix_known (and_true _ _ subject object))
+
+  pub agrees-forbid : (s o : ℕ) (x : Mode)
+      → Agrees (record a { matrix = record a.matrix { triples = set.remove a.matrix.triples (s, o, x) }; accesses = record a.accesses { triples = set.remove a.accesses.triples (s, o, x) } })
+  agrees-forbid s o x = record {
+    matrix_rows = h.matrix_rows;
+    access_rows = h.access_rows;
+    labels = h.labels;
+    matrix_columns = h.matrix_columns;
+    access_columns = h.access_columns;
+    tree = h.tree;
+    accesses_known = Each-remove a.accesses.triples (s, o, x) (is_known (state_of a)) h.accesses_known;
+    matrix_known = Each-remove a.matrix.triples (s, o, x) (is_known (state_of a)) h.matrix_known;
+  }

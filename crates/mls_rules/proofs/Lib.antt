@@ -1,9 +1,13 @@
+pub mod AfterKeeps
+pub mod Changes
+pub mod Copies
 pub mod EachTriple
 pub mod Growing
 pub mod Kept
 pub mod Security
+pub mod SecurityGive
 pub mod StandardSecure
-pub mod Tables
-pub mod Changes
-pub mod Copies
 pub mod StandardState
+pub mod Tables
+pub mod TreeKept
+pub mod WholeTables

@@ -1,27 +1,42 @@
 -- The rules: the reply to a request, and the state after it.
-use Rattle.std.specs.Prelude.{ℕ, Bool, true, false, ◌&&◌, Option, Some, None, List, [], ◌∷◌, if◌then◌else◌}
+use Rattle.std.specs.Prelude.{ℕ, Bool, true, false, ◌&&◌, ◌==◌, Option, Some, None, List, [], ◌∷◌, if◌then◌else◌}
 use Rattle.std.specs.FinSet as set
+use Rattle.std.specs.FinMap as map
+use Rattle.mls_tables.specs.declared.mode.Mode.TheVariants.{Write}
 use Rattle.mls_rules.specs.declared.request.Action.{Action}
-use Rattle.mls_rules.specs.declared.request.Action.TheVariants.{Get, Release}
+use Rattle.mls_rules.specs.declared.request.Action.TheVariants.{Get, Release, Give, Rescind}
 use Rattle.mls_rules.specs.declared.request.Request.{Request}
 use Rattle.mls_rules.specs.declared.request.Reason.{Reason}
-use Rattle.mls_rules.specs.declared.request.Reason.TheVariants.{Discretionary, Simple, Star, Integrity}
+use Rattle.mls_rules.specs.declared.request.Reason.TheVariants.{Discretionary, Simple, Star, Integrity, Authority}
 use Rattle.mls_rules.specs.declared.request.Reply.{Reply}
 use Rattle.mls_rules.specs.declared.request.Reply.TheVariants.{Yes, Created, No, Undefined}
 use Rattle.mls_rules.specs.State.{State, is_subject, is_active}
 use Rattle.mls_rules.specs.Properties.{simple_holds, star_holds, discretionary_holds, integrity_holds}
 
--- Whether all that an action names is there. (own)
+-- Whether the subject writes the parent, where there is one. (own)
+abbrev pub writes_parent : State → ℕ → Option ℕ → Bool
+writes_parent v s None = false
+writes_parent v s (Some p) = set.contains v.accesses (s, p, Write)
+
+-- Whether the subject controls who may access an object: it writes the object's parent; at the root it is trusted. (own, after MTR-2997's control by
+-- write access to the parent)
+abbrev pub controls : State → ℕ → ℕ → Bool
+controls v s o = if o == 0 then set.contains v.trusted s else writes_parent v s (map.get v.parent o)
+
+-- Whether all that an action names is there: subjects are known, and objects active. (own)
 abbrev pub names_known : State → Action → Bool
 names_known v (Get x o) = is_active v o
 names_known v (Release x o) = is_active v o
+names_known v (Give x t o) = is_subject v t && is_active v o
+names_known v (Rescind x t o) = is_subject v t && is_active v o
 
 -- Domain: the caller is known, and all that the action names is there. (MTR-2997, domain of a rule)
 abbrev pub is_defined : State → Request → Bool
 is_defined v r = is_subject v r.subject && names_known v r.action
 
 -- Conditions of an action, in the order in which they are tried, each with the reason of the denial where it fails. (get and release: MTR-2997, rules
--- to get and to release access; the integrity condition MTR-3153; the order and the reasons own)
+-- to get and to release access, with MTR-3153's strict integrity; give and rescind: own, after MTR-2997's rules of these names; the order and the
+-- reasons own)
 abbrev pub conditions : State → ℕ → Action → List (Reason × Bool)
 conditions v s (Get x o) =
     (Discretionary, discretionary_holds v (s, o, x))
@@ -30,6 +45,8 @@ conditions v s (Get x o) =
     ∷ (Integrity, integrity_holds v (s, o, x))
     ∷ []
 conditions v s (Release x o) = []
+conditions v s (Give x t o) = (Authority, controls v s o) ∷ []
+conditions v s (Rescind x t o) = (Authority, controls v s o) ∷ []
 
 -- The reason of the first condition that fails. (own)
 abbrev pub first_failing : List (Reason × Bool) → Option Reason
@@ -40,6 +57,8 @@ first_failing ((reason, holds) ∷ rest) = if holds then first_failing rest else
 abbrev pub granted : State → Action → Reply
 granted v (Get x o) = Yes
 granted v (Release x o) = Yes
+granted v (Give x t o) = Yes
+granted v (Rescind x t o) = Yes
 
 -- A denial where there is a reason for one, else the grant. (own)
 abbrev pub reply_unless : Option Reason → Reply → Reply
@@ -54,10 +73,13 @@ verdict v s action = reply_unless (first_failing (conditions v s action)) (grant
 abbrev pub reply : State → Request → Reply
 reply v r = if is_defined v r then verdict v r.subject r.action else Undefined
 
--- Change: what a granted action makes of the state. All that isn't named stays the same. (get and release: MTR-2997, rules to get and to release access)
+-- Change: what a granted action makes of the state. All that isn't named stays the same. (get and release: MTR-2997, rules to get and to release
+-- access; the others own, after its rules of these names)
 abbrev pub change : State → ℕ → Action → State
 change v s (Get x o) = record v { accesses = set.insert v.accesses (s, o, x) }
 change v s (Release x o) = record v { accesses = set.remove v.accesses (s, o, x) }
+change v s (Give x t o) = record v { matrix = set.insert v.matrix (t, o, x) }
+change v s (Rescind x t o) = record v { matrix = set.remove v.matrix (t, o, x); accesses = set.remove v.accesses (t, o, x) }
 
 -- The new state where the reply is a grant, else the old one. (own)
 abbrev pub after_reply : Reply → State → State → State
@@ -74,6 +96,8 @@ after v r = after_reply (reply v r) v (change v r.subject r.action)
 abbrev pub takes_no_room : Action → Bool
 takes_no_room (Get x o) = false
 takes_no_room (Release x o) = true
+takes_no_room (Give x t o) = true
+takes_no_room (Rescind x t o) = true
 
 -- Whether a request needs no memory but for its entry: nothing is granted, or what is granted makes nothing new. (own)
 abbrev pub needs_no_room : Reply → Action → Bool

@@ -29,6 +29,8 @@ fn make_change<A: Allocator>(
         Action::Release(x, o) => {
             state.remove_access(s, o, x);
         }
+        Action::Give(x, t, o) => state.permit(t, o, x),
+        Action::Rescind(x, t, o) => state.forbid(t, o, x),
     }
     Ok(())
 }
@@ -37,7 +39,7 @@ fn make_change<A: Allocator>(
 ///
 /// # Errors
 /// `AllocError` where a growth was refused; the state is then as before. It isn't refused where nothing is granted, nor
-/// for a release.
+/// for a release, a give or a rescind.
 pub fn apply<A: Allocator>(state: &mut State<A>, request: &Request) -> Result<Reply, AllocError>
     ensures reply { IfOk result (λ r. r ≡ reply state.old request.now) }
     ensures ok { OnOk result (state.new ≡ after state.old request.now) }

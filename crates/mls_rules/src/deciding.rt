@@ -1,7 +1,10 @@
 //! The reply to a request.
-ghost use Rattle.std.specs.Prelude.{◌≡◌, IsTrue};
+ghost use Rattle.std.specs.Prelude.{◌≡◌, IsTrue, if◌then◌else◌};
+ghost use Rattle.mls_rules.specs.declared.request.Reply.TheVariants.{Yes, No};
+ghost use Rattle.mls_rules.specs.declared.request.Reason.TheVariants.{Authority};
 ghost use Rattle.mls_rules.specs.State.{is_subject, is_active};
-ghost use Rattle.mls_rules.specs.Rules.{is_defined, verdict, reply};
+ghost use Rattle.std.specs.FinMap as map;
+ghost use Rattle.mls_rules.specs.Rules.{is_defined, verdict, reply, writes_parent, controls};
 
 use crate::conditions::{discretionary_holds, integrity_holds, simple_holds, star_holds};
 use crate::request::{Action, Reason, Reply, Request};
@@ -16,6 +19,9 @@ fn is_defined<A: Allocator>(state: &State<A>, request: &Request) -> bool
     state.is_subject(request.subject)
         && match request.action {
             Action::Get(_, o) | Action::Release(_, o) => state.is_active(o),
+            Action::Give(_, t, o) | Action::Rescind(_, t, o) => {
+                state.is_subject(t) && state.is_active(o)
+            }
         }
 }
 
@@ -40,6 +46,44 @@ fn decide_get<A: Allocator>(state: &State<A>, s: SubjectId, o: ObjectId, x: Mode
     Reply::Yes
 }
 
+/// Whether the subject writes the parent of an object that has one.
+fn writes_parent<A: Allocator>(state: &State<A>, s: SubjectId, o: ObjectId) -> bool
+    requires subject { IsTrue (is_subject state.now s) }
+    requires object { IsTrue (is_active state.now o) }
+    ensures { result ≡ writes_parent state.now s (map.get state.now.parent o) }
+{
+    match state.parent(o) {
+        Some(p) => state.has_access(s, p, Mode::Write),
+        None => false,
+    }
+}
+
+/// Whether the subject controls who may access the object.
+fn controls<A: Allocator>(state: &State<A>, s: SubjectId, o: ObjectId) -> bool
+    requires subject { IsTrue (is_subject state.now s) }
+    requires object { IsTrue (is_active state.now o) }
+    ensures { result ≡ controls state.now s o }
+{
+    if o.number() == 0 {
+        state.is_trusted(s)
+    } else {
+        writes_parent(state, s, o)
+    }
+}
+
+/// The reply to an action in the domain that takes control of the object.
+fn decide_control<A: Allocator>(state: &State<A>, s: SubjectId, o: ObjectId) -> Reply
+    requires subject { IsTrue (is_subject state.now s) }
+    requires object { IsTrue (is_active state.now o) }
+    ensures { result ≡ if controls state.now s o then Yes else No Authority }
+{
+    if controls(state, s, o) {
+        Reply::Yes
+    } else {
+        Reply::No(Reason::Authority)
+    }
+}
+
 /// The reply to a request: `Undefined` outside the domain, else `No` with the first condition of its rule that fails,
 /// else the grant. It changes nothing and takes no memory.
 pub fn decide<A: Allocator>(state: &State<A>, request: &Request) -> Reply
@@ -51,5 +95,8 @@ pub fn decide<A: Allocator>(state: &State<A>, request: &Request) -> Reply
     match request.action {
         Action::Get(x, o) => decide_get(state, request.subject, o, x),
         Action::Release(_, _) => Reply::Yes,
+        Action::Give(_, _, o) | Action::Rescind(_, _, o) => {
+            decide_control(state, request.subject, o)
+        }
     }
 }

@@ -9,6 +9,10 @@ pub enum Action {
     Get(Mode, ObjectId),
     /// To end an access, whether or not it is there.
     Release(Mode, ObjectId),
+    /// To permit a subject an object in a mode.
+    Give(Mode, SubjectId, ObjectId),
+    /// To permit it no longer, and to end the subject's access with it.
+    Rescind(Mode, SubjectId, ObjectId),
 }
 
 /// An action and the subject that asks for it.

@@ -34,4 +34,17 @@ impl<A: Allocator> State<A> {
     {
         self.accesses.remove(s, o, x)
     }
+
+    /// Takes a triple out of the matrix and out of the current accesses.
+    pub(crate) fn forbid(&mut self, s: SubjectId, o: ObjectId, x: Mode)
+        requires subject { IsTrue (is_subject self.old s) }
+        requires object { IsTrue (is_active self.old o) }
+        ensures { self.new ≡ record self.old {
+          matrix = set.remove self.old.matrix (s, o, x);
+          accesses = set.remove self.old.accesses (s, o, x);
+        } }
+    {
+        self.matrix.rescind(s, o, x);
+        self.accesses.remove(s, o, x);
+    }
 }

@@ -1,0 +1,28 @@
+-- Each request leaves the tables of labels whole.
+use Rattle.std.proofs.Common.{◌≡◌, ℕ, true, ◌&&◌}
+use Rattle.std.specs.FinSet as set
+use Rattle.mls_tables.specs.Triples.{TripleSet}
+use Rattle.mls_rules.specs.declared.request.Action.{Action}
+use Rattle.mls_rules.specs.declared.request.Action.TheVariants.{Get, Release, Give, Rescind}
+use Rattle.mls_rules.specs.declared.request.Request.{Request}
+use Rattle.mls_rules.specs.State.{State, is_subject}
+use Rattle.mls_rules.specs.Properties.{HasWholeTables}
+use Rattle.mls_rules.specs.Rules.{change, after, names_known}
+use Rattle.mls_rules.proofs.AfterKeeps.{after_keeps}
+
+-- other triples leave the tables of labels as they are
+triples_whole : (v : State) (accesses matrix : TripleSet) → HasWholeTables v → HasWholeTables (record v { accesses = accesses; matrix = matrix })
+triples_whole v accesses matrix h =
+    record { current = h.current; subject_integrity = h.subject_integrity; trusted = h.trusted; object_integrity = h.object_integrity }
+
+-- a granted change keeps the tables of labels whole
+pub change_whole : (v : State) (s : ℕ) (a : Action) → HasWholeTables v → (is_subject v s && names_known v a) ≡ true
+    → HasWholeTables (change v s a)
+change_whole v s (Get x o) h known = triples_whole v (set.insert v.accesses (s, o, x)) v.matrix h
+change_whole v s (Release x o) h known = triples_whole v (set.remove v.accesses (s, o, x)) v.matrix h
+change_whole v s (Give x t o) h known = triples_whole v v.accesses (set.insert v.matrix (t, o, x)) h
+change_whole v s (Rescind x t o) h known = triples_whole v (set.remove v.accesses (t, o, x)) (set.remove v.matrix (t, o, x)) h
+
+-- Each request leaves the tables of labels whole.
+pub after_whole : (v : State) (r : Request) → HasWholeTables v → HasWholeTables (after v r)
+after_whole v r h = after_keeps HasWholeTables v r h (λ granted. change_whole v r.subject r.action h granted.0)
