@@ -1,2 +1,9 @@
 pub mod Numbers
 pub mod Grown
+pub mod Ways
+pub mod Laid
+pub mod Ranges
+pub mod Inferiors
+pub mod Listed
+pub mod Found
+pub mod Kept

@@ -1,2 +1,4 @@
 pub mod Tree
 pub mod Numbered
+pub mod Lists
+pub mod Kept

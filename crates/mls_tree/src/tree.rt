@@ -1,9 +1,12 @@
 //! The tree, kept as the parent of each object number that was given out.
-ghost use Rattle.std.specs.Prelude.{◌≡◌, ◌+◌, ◌↔◌, IsTrue, IfOk, OnOk, OnErr, IsErrOf};
+ghost use Rattle.std.specs.Prelude.{◌≡◌, ℕ, ◌+◌, ◌<◌, ◌≤◌, ◌↔◌, ◌≢◌, ◌==◌, ◌&&◌, [], not, IfSome, if◌then◌else◌, All, length, filter, slice_index_or, IsTrue, IfOk, OnOk, OnErr, IsErrOf};
 ghost use Rattle.std.specs.FinMap as map;
-ghost use Rattle.mls_tree.specs.Tree.{is_active, IsTree};
+ghost use Rattle.mls_tree.specs.Tree.{is_active, IsTree, passes, is_inferior, children, inferiors};
+ghost use Rattle.mls_tree.specs.Kept.{stays_listed};
+ghost use Rattle.std.specs.List.{list_any};
 ghost use Rattle.mls_tree.specs.declared.tree.TreeFault.TheVariants.{Full, Memory};
 
+use crate::lists::Lists;
 use mls_tables::ObjectId;
 use std::alloc::{AllocError, Allocator, Global};
 use std::marker::Model;
@@ -33,20 +36,86 @@ impl From<AllocError> for TreeFault {
 #[derive(Drop)]
 pub struct Tree<A: Allocator = Global> {
     parents: Vec<Option<ObjectId>, A>,
+    children: Lists<A>,
 }
 
 impl<A: Allocator> Model for Tree<A> {
-    ghost use Rattle.std.specs.Prelude.{length};
-    ghost use Rattle.mls_tree.specs.Tree.{Hierarchy, hierarchy_code, IsTree, is_active};
-    ghost use Rattle.mls_tree.specs.Numbered.{numbered};
+    ghost use Rattle.mls_tree.specs.Tree.{Hierarchy, hierarchy_code};
+    ghost use Rattle.mls_tree.specs.Kept.{hierarchy_of, IsKept};
 
     ghost Value = { Hierarchy };
 
     ghost coded = { hierarchy_code };
 
-    ghost view = { λ a. record { parent = numbered a.parents.items; next = length a.parents.items } };
+    ghost view = { λ a. hierarchy_of a.parents.items };
 
-    ghost invariant = { λ a. IsTree (numbered a.parents.items) (is_active (numbered a.parents.items)) (length a.parents.items) };
+    ghost invariant = { λ a. IsKept a.parents.items a.children };
+}
+
+/// Sees that there is a list for the next object.
+fn spare_list<A: Allocator>(lists: &mut Lists<A>, next: usize) -> Result<(), AllocError>
+    requires { next ≤ length lists.old }
+    ensures room { OnOk result (next < length lists.new) }
+    ensures longer { length lists.old ≤ length lists.new }
+    ensures same { (o : ℕ) → slice_index_or lists.new o [] ≡ slice_index_or lists.old o [] }
+{
+    if lists.len() == next {
+        lists.add_list()?;
+    }
+    Ok(())
+}
+
+/// Empties the lists of the objects.
+fn clear_each<A: Allocator>(lists: &mut Lists<A>, group: &[ObjectId])
+    requires { All (λ x. x < length lists.old) group.now }
+    ensures many { length lists.new ≡ length lists.old }
+    ensures cleared { (q : ℕ) → slice_index_or lists.new q [] ≡
+        (if list_any (λ x. q == x) group.now then [] else slice_index_or lists.old q []) }
+{
+    for o in group {
+        lists.clear(o.number() as usize);
+    }
+}
+
+/// Takes an object out of the list of its parent, if it has one.
+fn discard_one<A: Allocator>(lists: &mut Lists<A>, parent: Option<ObjectId>, o: ObjectId)
+    requires { IfSome parent (λ p. p < length lists.old) }
+    ensures many { length lists.new ≡ length lists.old }
+    ensures left { (q : ℕ) → slice_index_or lists.new q [] ≡
+        filter (λ c. not (c == o && passes (λ p. p == q) parent)) (slice_index_or lists.old q []) }
+{
+    match parent {
+        Some(p) => lists.discard(p.number() as usize, o),
+        None => {}
+    }
+}
+
+/// Takes each of the objects out of its parent's list.
+fn discard_each<A: Allocator>(
+    lists: &mut Lists<A>,
+    parents: &[Option<ObjectId>],
+    group: &[ObjectId],
+)
+    requires numbers { All (λ x. x < length parents.now) group.now }
+    requires listed { (x p : ℕ) → slice_index_or parents.now x None ≡ Some p → p < length lists.old }
+    ensures many { length lists.new ≡ length lists.old }
+    ensures left { (q : ℕ) → slice_index_or lists.new q [] ≡ filter (stays_listed parents.now group.now q) (slice_index_or lists.old q []) }
+{
+    for o in group {
+        let parent = parents[o.number() as usize];
+        discard_one(lists, parent, *o);
+    }
+}
+
+/// Takes the parents of the objects away.
+fn forget_each(parents: &mut [Option<ObjectId>], group: &[ObjectId])
+    requires { All (λ x. x < length parents.old) group.now }
+    ensures { (q : ℕ) → slice_index_or parents.new q None ≡
+        (if list_any (λ x. q == x) group.now then None else slice_index_or parents.old q None) }
+{
+    for o in group {
+        parents[o.number() as usize] = None;
+    }
 }
 
 impl<A: Allocator> Tree<A> {
@@ -75,6 +144,14 @@ impl<A: Allocator> Tree<A> {
         }
     }
 
+    /// The children of an active object, ascending.
+    pub fn children(&self, o: ObjectId) -> &[ObjectId]
+        requires { IsTrue (is_active self.now.parent o) }
+        ensures { result.now ≡ children self.now o }
+    {
+        self.children.list(o.number() as usize)
+    }
+
     /// Adds an object below an active one, and answers its number, which is the next. Where all numbers were given out it is `Full`. On a refusal the tree is unchanged.
     pub fn add(&mut self, parent: ObjectId) -> Result<ObjectId, TreeFault>
         requires { IsTrue (is_active self.old.parent parent) }
@@ -91,8 +168,54 @@ impl<A: Allocator> Tree<A> {
             return Err(TreeFault::Full);
         }
         self.parents.reserve(1)?;
+        spare_list(&mut self.children, next as usize)?;
+        self.children
+            .push(parent.number() as usize, ObjectId::new(next))?;
         self.parents.push_reserved(Some(parent));
         Ok(ObjectId::new(next))
+    }
+
+    /// The inferiors of an active object, ascending: itself and all below it. Only memory can be wanting.
+    pub fn inferiors(&self, alloc: A, o: ObjectId) -> Result<Vec<ObjectId, A>, AllocError>
+        requires { IsTrue (is_active self.now.parent o) }
+        ensures { IfOk result (λ group. group.items ≡ inferiors self.now o) }
+    {
+        let mut group = Vec::new(alloc);
+        self.list_inferiors(o, &mut group)?;
+        Ok(group)
+    }
+
+    /// Lists the inferiors of an active object in place of what the list had. Only memory can be wanting, and then the list has some of them.
+    pub fn list_inferiors<B: Allocator>(
+        &self,
+        o: ObjectId,
+        group: &mut Vec<ObjectId, B>,
+    ) -> Result<(), AllocError>
+        requires { IsTrue (is_active self.now.parent o) }
+        ensures { OnOk result (group.new.items ≡ inferiors self.now o) }
+    {
+        group.clear();
+        group.push(o)?;
+        let mut at = 0;
+        while at < group.len() {
+            let below = self.children.list(group[at].number() as usize);
+            group.extend_from_slice(below)?;
+            at += 1;
+        }
+        group.sort_unstable_by_key(|x| x.number());
+        Ok(())
+    }
+
+    /// Takes out the inferiors of an active object that isn't the root. Their numbers aren't given out again.
+    pub fn remove_group(&mut self, group: &[ObjectId])
+        requires { (o : ℕ) × IsTrue (is_active self.old.parent o) × (o ≢ 0) × (group.now ≡ inferiors self.old o) }
+        ensures { (o : ℕ) → group.now ≡ inferiors self.old o → self.new ≡ record self.old {
+          parent = map.retain_keys self.old.parent (λ x. not (is_inferior self.old.parent x o));
+        } }
+    {
+        clear_each(&mut self.children, group);
+        discard_each(&mut self.children, &self.parents, group);
+        forget_each(&mut self.parents, group);
     }
 }
 
@@ -101,17 +224,19 @@ impl<A: Allocator + Clone> Tree<A> {
     pub fn new(alloc: A) -> Result<Tree<A>, AllocError>
         ensures { IfOk result (λ t. t ≡ record { parent = map.empty; next = 1 }) }
     {
-        let mut parents = Vec::new(alloc);
+        let mut parents = Vec::new(alloc.clone()?);
         parents.push(None)?;
-        Ok(Tree { parents })
+        let mut children = Lists::new(alloc)?;
+        children.add_list()?;
+        Ok(Tree { parents, children })
     }
 
     /// The same tree once more. Only memory can be wanting.
     pub fn duplicate(&self, alloc: A) -> Result<Tree<A>, AllocError>
         ensures { IfOk result (λ t. t ≡ self.now) }
     {
-        Ok(Tree {
-            parents: Vec::from_slice(alloc, &self.parents)?,
-        })
+        let parents = Vec::from_slice(alloc.clone()?, &self.parents)?;
+        let children = self.children.duplicate(alloc)?;
+        Ok(Tree { parents, children })
     }
 }

@@ -1,19 +1,41 @@
-use Rattle.std.proofs.Common.{◌≡◌, ◌<◌, ◌≤◌, IsTrue, refl, sym, ap, subst, arith, length, length-append}
-use Rattle.mls_tree.specs.Tree.{is_active}
+use Rattle.std.proofs.Common.{◌≡◌, ◌<◌, ◌≤◌, ◌++◌, ◌∷◌, [], IsTrue, cond, eqb, get_or, refl, sym, ap, subst, ◌∙◌, arith, length, length-append, length-set}
+use Rattle.mls_tree.specs.Tree.{is_active, children}
 use Rattle.mls_tree.specs.Numbered.{numbered}
+use Rattle.mls_tree.specs.Kept.{hierarchy_of}
 use Rattle.mls_tree.proofs.Numbers.{numbered-push}
-use Rattle.mls_tree.proofs.Grown.{IsTree-insert, is_active-insert}
+use Rattle.mls_tree.proofs.Listed.{length-children}
+use Rattle.mls_tree.proofs.Kept.{IsKept-push, get_or-pushed}
 use Rattle.mls_tree.proofs.tree.Tree.add.Goals as goal
+
+pub push-requires-clause-few : goal.push-requires-clause-few
+push-requires-clause-few g c =
+    let parents = c.self.inside.parents.items in
+    let list = c.spare_list.ensures.same c.number.result ∙ c.self.invariant.listed c.number.result in
+    let few : length (children (hierarchy_of parents) c.number.result) ≤ length parents = length-children (hierarchy_of parents) c.number.result in
+    let numbers : length parents ≤ 4096 = c.self.invariant.tree.few in
+    rw list (omega arith)
 
 pub invariant_of-self-2 : goal.invariant_of-self-2
 invariant_of-self-2 g c =
-    let items = c.self.inside.parents.items in
-    let few : length items ≤ 4096 = c.self.invariant.few in
-    let next : length items ≡ c.args.self.now.next = ap (λ h. h.next) c.self.view_is in
-    let room : length items < 4096 = omega (arith, c.next-next.ensures.number) in
-    let below : IsTrue (is_active (numbered items) c.args.parent) = subst (λ h. IsTrue (is_active h.parent c.args.parent)) (sym c.self.view_is) c.requires in
-    rw (c.push_reserved.ensures.items, c.in_ok-reserve.ensures.items, numbered-push, length-append)
-    (IsTree-insert (numbered items) (is_active (numbered items)) (length items) c.args.parent c.self.invariant _ (is_active-insert (numbered items) (length items) c.args.parent) below room)
+    let parents = c.self.inside.parents.items in
+    let lists = c.self.inside.children in
+    let spare = c.spare_list.new.lists in
+    let few : length parents ≤ 4096 = c.self.invariant.tree.few in
+    let next : length parents ≡ c.args.self.now.next = ap (λ h. h.next) c.self.view_is in
+    let room : length parents < 4096 = omega (arith, c.next-next.ensures.number) in
+    let below : IsTrue (is_active (numbered parents) c.args.parent) = subst (λ h. IsTrue (is_active h.parent c.args.parent)) (sym c.self.view_is) c.requires in
+    let low : c.args.parent < length parents = c.self.invariant.tree.below_next c.args.parent below in
+    let many : length parents ≤ length lists = c.self.invariant.as_many in
+    let longer : length lists ≤ length spare = c.spare_list.ensures.longer in
+    let within : c.number.result < length spare = omega (arith, c.number.ensures) in
+    let free : c.next-next.result < length spare = c.in_ok-spare_list.ensures.room in
+    let number : c.new.result ≡ length parents = c.new.ensures ∙ c.next-next.ensures.number ∙ sym next in
+    let long : length c.push.new.self ≡ length spare = ap length c.in_ok-push.ensures.ok ∙ length-set spare c.number.result (get_or spare c.number.result [] ++ c.new.result ∷ []) in
+    let enough : length parents < length c.push.new.self = omega (arith, c.next-next.ensures.number) in
+    rw (c.push_reserved.ensures.items, c.in_ok-reserve.ensures.items)
+    (IsKept-push parents lists c.push.new.self c.args.parent c.self.invariant below room enough (λ o.
+    ap (λ l. get_or l o []) c.in_ok-push.ensures.ok ∙ get_or-pushed spare c.number.result c.new.result o within
+    ∙ (λ i. c.spare_list.ensures.same o i ++ cond (eqb o (c.number.ensures i)) (number i ∷ []) [])))
 
 pub returns-clause-ok : goal.returns-clause-ok
 returns-clause-ok g c = rw (c.push_reserved.ensures.items, c.in_ok-reserve.ensures.items, numbered-push, length-append, ← c.self.view_is) refl
