@@ -1,3 +1,9 @@
+pub mod Kept
+pub mod LineLemmas
 pub mod NameLemmas
+pub mod Pieces
+pub mod Progress
+pub mod Runs
+pub mod Texts
 pub mod TokenLemmas
 pub mod TokensLaw

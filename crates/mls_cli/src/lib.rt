@@ -1,11 +1,16 @@
-//! The room where bytes become requests: the names of a start, and the lines of scripts.
+//! The room where bytes become requests and replies become bytes: names, the lines of scripts, and serving a script.
 #![tactic(auto)]
 
+mod answer;
 mod ask;
 mod fault;
 mod line;
+mod lines;
 mod names;
 mod operands;
+mod output;
+mod piece;
+mod serving;
 mod tokens;
 mod vars;
 mod words;
@@ -14,6 +19,7 @@ pub use ask::{Ask, Line};
 pub use fault::LineFault;
 pub use line::{MAX_LINE, read_line};
 pub use names::Names;
+pub use serving::{SCRIPT_LIMIT, ServeFault, serve};
 pub use tokens::tokens_law;
 pub use vars::Vars;
 

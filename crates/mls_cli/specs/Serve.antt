@@ -1,0 +1,91 @@
+-- What serving a script leaves: the bytes written and the monitor, by the result.
+use Rattle.std.specs.Prelude.{◌≡◌, ℕ, ◌+◌, ◌<◌, ◌≤◌, ◌⊎◌, false, List, [], ◌∷◌, ◌++◌, length, take, Option, Some, IfSome, Result, Ok, Err, MatchResult}
+use Rattle.std.specs.Io.KnownBytes.{Appends}
+use Rattle.mls_monitor.specs.Journal.{Monitor}
+use Rattle.mls_cli.specs.Lines.{lines_of, closed_lines, open_part, has_newline, kept_of}
+use Rattle.mls_cli.specs.Names.{Names}
+use Rattle.mls_cli.specs.Script.{Standing, standing_of, answers, after_lines}
+use Rattle.mls_cli.specs.declared.serving.TheConstants.{SCRIPT_LIMIT}
+use Rattle.mls_cli.specs.declared.serving.ServeFault.{ServeFault}
+use Rattle.mls_cli.specs.declared.serving.ServeFault.TheVariants.{Read, Write, Memory, TooLong}
+
+-- Bytes were handed to a writer: all were taken, or it failed and took a front of them. (own)
+abbrev pub Writes : {X : Type 0} → Option (List ℕ) → Option (List ℕ) → List ℕ → Result X ServeFault → Type 0
+Writes held holds text (Ok _) = Appends held holds text
+Writes held holds text (Err Read) = ⊥
+Writes held holds text (Err Write) = (taken lost : List ℕ) × (text ≡ taken ++ lost) × Appends held holds taken
+Writes held holds text (Err Memory) = ⊥
+Writes held holds text (Err TooLong) = ⊥
+
+-- Lines were answered: what a writer held and holds, and where the script stood and stands. (own)
+pub record Answers (names : Names) (session : ℕ) (held holds : Option (List ℕ)) (before after : Standing) (lines : List (List ℕ)) : Type 0 where
+  pub written : Appends held holds (answers names session before lines)
+  pub stands : after ≡ after_lines names session before lines
+
+-- The first of the lines were answered, and no other was asked. (own)
+pub record AnswersFront (names : Names) (session : ℕ) (held holds : Option (List ℕ)) (before after : Standing) (lines : List (List ℕ)) : Type 0 where
+  pub front : List (List ℕ)
+  pub rest : List (List ℕ)
+  pub whole : lines ≡ front ++ rest
+  pub answered : Answers names session held holds before after front
+
+-- The first of the lines were answered, one more was asked, and a front of its answer was written. No other was asked. (own)
+pub record BreaksOff (names : Names) (session : ℕ) (held holds : Option (List ℕ)) (before after : Standing) (lines : List (List ℕ)) : Type 0 where
+  pub front : List (List ℕ)
+  pub line : List ℕ
+  pub rest : List (List ℕ)
+  pub text : List ℕ
+  pub lost : List ℕ
+  pub whole : lines ≡ front ++ line ∷ rest
+  pub asked : after ≡ after_lines names session before (front ++ line ∷ [])
+  pub part : answers names session before (front ++ line ∷ []) ≡ answers names session before front ++ text ++ lost
+  pub written : Appends held holds (answers names session before front ++ text)
+
+-- What stands where answering lines stopped by a fault of the writer or of memory. A writer fails within an answer, or where what was
+-- answered is to be flushed. (own)
+abbrev pub Stops : Names → ℕ → Option (List ℕ) → Option (List ℕ) → Standing → Standing → List (List ℕ) → ServeFault → Type 0
+Stops names session held holds before after lines Read = ⊥
+Stops names session held holds before after lines Write =
+    BreaksOff names session held holds before after lines ⊎ AnswersFront names session held holds before after lines
+Stops names session held holds before after lines Memory = AnswersFront names session held holds before after lines
+Stops names session held holds before after lines TooLong = ⊥
+
+-- What answering lines leaves, by the result. (own)
+abbrev pub AnswersOrStops : {X : Type 0} → Names → ℕ → Option (List ℕ) → Option (List ℕ) → Standing → Standing → List (List ℕ) → Result X ServeFault → Type 0
+AnswersOrStops names session held holds before after lines result =
+    MatchResult result (λ _. Answers names session held holds before after lines) (Stops names session held holds before after lines)
+
+-- What answering one line leaves, by the bytes of its answer, by where the script then stands, and by the result. (own)
+abbrev pub Replies : {X : Type 0} → Option (List ℕ) → Option (List ℕ) → Standing → Standing → List ℕ → Standing → Result X ServeFault → Type 0
+Replies held holds before after text next (Ok _) = Appends held holds text × (after ≡ next)
+Replies held holds before after text next (Err Read) = ⊥
+Replies held holds before after text next (Err Write) = (taken lost : List ℕ) × (text ≡ taken ++ lost) × Appends held holds taken × (after ≡ next)
+Replies held holds before after text next (Err Memory) = (holds ≡ held) × (after ≡ before)
+Replies held holds before after text next (Err TooLong) = ⊥
+
+-- What one more piece of a script leaves, whatever stands before it of a line that isn't complete, of which `kept` was kept. (own)
+abbrev pub Feeds : {X : Type 0} → Names → ℕ → Option (List ℕ) → Option (List ℕ) → Standing → Standing → List ℕ → List ℕ → List ℕ → Result X ServeFault → Type 0
+Feeds names session held holds before after kept keeps piece result =
+    (line : List ℕ) → has_newline line ≡ false → kept ≡ kept_of line →
+    MatchResult result
+    (λ _. Answers names session held holds before after (closed_lines (line ++ piece)) × (keeps ≡ kept_of (open_part (line ++ piece))))
+    (Stops names session held holds before after (closed_lines (line ++ piece)))
+
+-- What a script leaves: what the reader had to give, and has left, what the writer held, and holds, and where the script stood before
+-- and stands after, by the result. (own)
+abbrev pub Ends : Names → ℕ → Option (List ℕ) → Option (List ℕ) → Option (List ℕ) → Option (List ℕ) → Standing → Standing → Result ℕ ServeFault → Type 0
+Ends names session given left held holds before after (Ok n) = IfSome given (λ script.
+    (length script ≤ SCRIPT_LIMIT) × Answers names session held holds before after (lines_of script) × (length after.entries ≡ length before.entries + n))
+Ends names session given left held holds before after (Err Read) = IfSome given (λ script.
+    (taken rest : List ℕ) × (script ≡ taken ++ rest) × (left ≡ Some rest) × Answers names session held holds before after (closed_lines taken))
+Ends names session given left held holds before after (Err Write) = IfSome given (λ script.
+    Stops names session held holds before after (lines_of script) Write)
+Ends names session given left held holds before after (Err Memory) = IfSome given (λ script.
+    Stops names session held holds before after (lines_of script) Memory)
+Ends names session given left held holds before after (Err TooLong) = IfSome given (λ script.
+    (SCRIPT_LIMIT < length script) × Answers names session held holds before after (closed_lines (take SCRIPT_LIMIT script)))
+
+-- What serving a script over a monitor leaves. It begins with no variable bound, and those that it bound are gone with it. (own)
+abbrev pub Serves : Names → ℕ → Option (List ℕ) → Option (List ℕ) → Option (List ℕ) → Option (List ℕ) → Monitor → Monitor → Result ℕ ServeFault → Type 0
+Serves names session given left held holds old new result =
+    (vars : List (List ℕ × ℕ)) × Ends names session given left held holds (standing_of [] old) (standing_of vars new) result
