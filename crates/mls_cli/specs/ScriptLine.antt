@@ -9,11 +9,13 @@ use Rattle.mls_cli.specs.declared.ask.Line.{Line}
 use Rattle.mls_cli.specs.declared.ask.Line.TheVariants as line
 use Rattle.mls_cli.specs.declared.fault.LineFault.{LineFault}
 use Rattle.mls_cli.specs.declared.fault.LineFault.TheVariants.{BadForm, UnknownName}
+use Rattle.mls_cli.specs.declared.words.Act.{Act}
+use Rattle.mls_cli.specs.declared.words.Act.TheVariants as act
 use Rattle.mls_cli.specs.declared.words.Word.{Word}
 use Rattle.mls_cli.specs.declared.words.Word.TheVariants as word
 use Rattle.mls_cli.specs.Fault.{both}
 use Rattle.mls_cli.specs.Names.{Names, place_of}
-use Rattle.mls_cli.specs.Tokens.{tokens_of, one_of, two_of, is_name}
+use Rattle.mls_cli.specs.Tokens.{tokens_of, one_of, two_of, three_of, is_name}
 use Rattle.mls_cli.specs.Words.{mode_of, word_of}
 
 -- What a line says: nothing, or what it asks, and the name of the variable to bind where it has one. (own)
@@ -49,10 +51,10 @@ abbrev pub object_operand : Names → List (List ℕ × ℕ) → Option (List �
 object_operand names vars None = Err BadForm
 object_operand names vars (Some token) = object_of names vars token
 
--- A mode and an object, where the mode's token is a mode's word. (own)
-abbrev pub with_mode : Option Mode → Result ℕ LineFault → Result (Mode × ℕ) LineFault
-with_mode None object = Err BadForm
-with_mode (Some x) (Ok o) = Ok (x, o)
+-- A mode and what stands after it, where the mode's token is a mode's word. (own)
+abbrev pub with_mode : {X : Type 0} → Option Mode → Result X LineFault → Result (Mode × X) LineFault
+with_mode None part = Err BadForm
+with_mode (Some x) (Ok part) = Ok (x, part)
 with_mode (Some x) (Err f) = Err f
 
 -- The operands of `release` and `check`: `MODE OBJ`. (own)
@@ -60,28 +62,34 @@ abbrev pub mode_and_object : Names → List (List ℕ × ℕ) → Option (List �
 mode_and_object names vars None = Err BadForm
 mode_and_object names vars (Some p) = with_mode (mode_of p.0) (object_of names vars p.1)
 
--- A request. (own)
-abbrev pub request_of : ℕ → Action → Ask
-request_of s act = ask.Submit (record { subject = s; action = act })
+-- The operands of `give` and `rescind`: `MODE SUBJ OBJ`. (own)
+abbrev pub cell_operands : Names → List (List ℕ × ℕ) → Option (List ℕ × List ℕ × List ℕ) → Result (Mode × (ℕ × ℕ)) LineFault
+cell_operands names vars None = Err BadForm
+cell_operands names vars (Some p) = with_mode (mode_of p.0) (both (subject_of names p.1) (object_of names vars p.2))
 
--- What parts without a fault ask. (own)
-abbrev pub ask_of : {X : Type 0} → (X → Ask) → Result X LineFault → Result Ask LineFault
-ask_of f (Ok x) = Ok (f x)
-ask_of f (Err fault) = Err fault
+-- What a part without a fault makes. (own)
+abbrev pub made_of : {X Y : Type 0} → (X → Y) → Result X LineFault → Result Y LineFault
+made_of f (Ok x) = Ok (f x)
+made_of f (Err fault) = Err fault
 
--- What a subject, an action's word and its operands ask. (own)
-abbrev pub acts_on : Names → List (List ℕ × ℕ) → List ℕ → List (List ℕ) → Word → Result Ask LineFault
-acts_on names vars subject operands (word.Get x) =
-    ask_of (λ p. request_of p.0 (action.Get x p.1)) (both (subject_of names subject) (object_operand names vars (one_of operands)))
-acts_on names vars subject operands word.Release =
-    ask_of (λ p. request_of p.0 (action.Release p.1.0 p.1.1)) (both (subject_of names subject) (mode_and_object names vars (two_of operands)))
-acts_on names vars subject operands word.Check =
-    ask_of (λ p. ask.Check p.0 p.1.1 p.1.0) (both (subject_of names subject) (mode_and_object names vars (two_of operands)))
+-- The action that an action's word and its operands name. (own)
+abbrev pub action_of : Names → List (List ℕ × ℕ) → List (List ℕ) → Act → Result Action LineFault
+action_of names vars operands (act.Get x) = made_of (λ o. action.Get x o) (object_operand names vars (one_of operands))
+action_of names vars operands act.Release = made_of (λ p. action.Release p.0 p.1) (mode_and_object names vars (two_of operands))
+action_of names vars operands act.Give = made_of (λ p. action.Give p.0 p.1.0 p.1.1) (cell_operands names vars (three_of operands))
+action_of names vars operands act.Rescind = made_of (λ p. action.Rescind p.0 p.1.0 p.1.1) (cell_operands names vars (three_of operands))
 
--- The same, where the word is an action's. (own)
+-- What a subject, a word and its operands ask. (own)
+abbrev pub ask_of : Names → List (List ℕ × ℕ) → List ℕ → List (List ℕ) → Word → Result Ask LineFault
+ask_of names vars subject operands word.Check =
+    made_of (λ p. ask.Check p.0 p.1.1 p.1.0) (both (subject_of names subject) (mode_and_object names vars (two_of operands)))
+ask_of names vars subject operands (word.Act a) =
+    made_of (λ p. ask.Submit (record { subject = p.0; action = p.1 })) (both (subject_of names subject) (action_of names vars operands a))
+
+-- The same, where the word is one. (own)
 abbrev pub command_of : Names → List (List ℕ × ℕ) → List ℕ → List (List ℕ) → Option Word → Result Ask LineFault
 command_of names vars subject operands None = Err BadForm
-command_of names vars subject operands (Some w) = acts_on names vars subject operands w
+command_of names vars subject operands (Some w) = ask_of names vars subject operands w
 
 -- What a line asks that asks without binding a variable. (own)
 abbrev pub unbound : Result Ask LineFault → Result LineView LineFault

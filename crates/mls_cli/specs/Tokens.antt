@@ -44,6 +44,14 @@ two_of (a ∷ []) = None
 two_of (a ∷ b ∷ []) = Some (a, b)
 two_of (a ∷ b ∷ c ∷ more) = None
 
+-- The tokens of a list that has just three. (own)
+abbrev pub three_of : List (List ℕ) → Option (List ℕ × List ℕ × List ℕ)
+three_of [] = None
+three_of (a ∷ []) = None
+three_of (a ∷ b ∷ []) = None
+three_of (a ∷ b ∷ c ∷ []) = Some (a, b, c)
+three_of (a ∷ b ∷ c ∷ d ∷ more) = None
+
 -- A byte of a name: an ASCII digit or letter, `-` or `_`. (own)
 abbrev pub is_name_byte : ℕ → Bool
 is_name_byte b = (nat_le 48 b && nat_le b 57) || (nat_le 65 b && nat_le b 90) || (nat_le 97 b && nat_le b 122) || (b == 45) || (b == 95)

@@ -1,10 +1,12 @@
 -- The words of a line, each with what it names.
-use Rattle.std.specs.Prelude.{ℕ, List, codes, if◌then◌else◌, Option, Some, None}
+use Rattle.std.specs.Prelude.{ℕ, List, codes, if◌then◌else◌, Option, Some, None, option_map}
 use Rattle.std.specs.Str.{bytes_eq}
 use Rattle.mls_tables.specs.declared.mode.Mode.{Mode}
 use Rattle.mls_tables.specs.declared.mode.Mode.TheVariants.{Execute, Read, Append, Write}
+use Rattle.mls_cli.specs.declared.words.Act.{Act}
+use Rattle.mls_cli.specs.declared.words.Act.TheVariants.{Get, Release, Give, Rescind}
 use Rattle.mls_cli.specs.declared.words.Word.{Word}
-use Rattle.mls_cli.specs.declared.words.Word.TheVariants.{Get, Release, Check}
+use Rattle.mls_cli.specs.declared.words.Word.TheVariants as word
 
 -- The mode that a word names. (own)
 abbrev pub mode_of : List ℕ → Option Mode
@@ -16,12 +18,17 @@ mode_of token =
     else None
 
 -- The action that a word names. (own)
-abbrev pub word_of : List ℕ → Option Word
-word_of token =
+abbrev pub act_of : List ℕ → Option Act
+act_of token =
     if bytes_eq token (codes "get-execute") then Some (Get Execute)
     else if bytes_eq token (codes "get-read") then Some (Get Read)
     else if bytes_eq token (codes "get-append") then Some (Get Append)
     else if bytes_eq token (codes "get-write") then Some (Get Write)
     else if bytes_eq token (codes "release") then Some Release
-    else if bytes_eq token (codes "check") then Some Check
+    else if bytes_eq token (codes "give") then Some Give
+    else if bytes_eq token (codes "rescind") then Some Rescind
     else None
+
+-- What a word asks for: a check, or an action. (own)
+abbrev pub word_of : List ℕ → Option Word
+word_of token = if bytes_eq token (codes "check") then Some word.Check else option_map word.Act (act_of token)

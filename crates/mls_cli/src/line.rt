@@ -1,17 +1,17 @@
 //! Reading one line of a script.
 ghost use Rattle.std.specs.Prelude.{◌≡◌};
-ghost use Rattle.mls_cli.specs.Tokens.{tokens_of, one_of, two_of};
-ghost use Rattle.mls_cli.specs.ScriptLine.{line_of, line_view, ask_of, request_of, object_operand, mode_and_object, acts_on};
+ghost use Rattle.mls_cli.specs.Tokens.{tokens_of, one_of, two_of, three_of};
+ghost use Rattle.mls_cli.specs.ScriptLine.{line_of, line_view, object_operand, mode_and_object, cell_operands, action_of, ask_of};
 
 use crate::ask::{Ask, Line};
 use crate::fault::{LineFault, both};
 use crate::names::Names;
 use crate::operands::{read_object, read_subject};
-use crate::tokens::{next_token, one_token, two_tokens};
+use crate::tokens::{next_token, one_token, three_tokens, two_tokens};
 use crate::vars::Vars;
-use crate::words::{Word, read_mode, read_word};
+use crate::words::{Act, Word, read_mode, read_word};
 use mls_rules::{Action, Request};
-use mls_tables::{Mode, ObjectId};
+use mls_tables::{Mode, ObjectId, SubjectId};
 use std::alloc::Allocator;
 
 /// The most bytes that a line may have, without its newline.
@@ -43,7 +43,53 @@ fn read_mode_and_object<A: Allocator, B: Allocator>(
     Ok((mode, object))
 }
 
-/// What a line asks, of its tokens after the subject.
+/// The operands of an action on a cell of the matrix: a mode, a subject and an object.
+fn read_cell<A: Allocator, B: Allocator>(
+    names: &Names<A>,
+    vars: &Vars<B>,
+    operands: &[u8],
+) -> Result<(Mode, (SubjectId, ObjectId)), LineFault>
+    ensures { result ≡ cell_operands names.now vars.now (three_of (tokens_of operands.now)) }
+{
+    let (mode, subject, object) = three_tokens(operands).ok_or(LineFault::BadForm)?;
+    let mode = read_mode(mode).ok_or(LineFault::BadForm)?;
+    let cell = both(
+        read_subject(names, subject),
+        read_object(names, vars, object),
+    )?;
+    Ok((mode, cell))
+}
+
+/// The action that a word and its operands name.
+fn read_action<A: Allocator, B: Allocator>(
+    names: &Names<A>,
+    vars: &Vars<B>,
+    act: Act,
+    operands: &[u8],
+) -> Result<Action, LineFault>
+    ensures { result ≡ action_of names.now vars.now (tokens_of operands.now) act }
+{
+    match act {
+        Act::Get(mode) => {
+            let object = read_one(names, vars, operands)?;
+            Ok(Action::Get(mode, object))
+        }
+        Act::Release => {
+            let (mode, object) = read_mode_and_object(names, vars, operands)?;
+            Ok(Action::Release(mode, object))
+        }
+        Act::Give => {
+            let (mode, (subject, object)) = read_cell(names, vars, operands)?;
+            Ok(Action::Give(mode, subject, object))
+        }
+        Act::Rescind => {
+            let (mode, (subject, object)) = read_cell(names, vars, operands)?;
+            Ok(Action::Rescind(mode, subject, object))
+        }
+    }
+}
+
+/// What a subject, a word and its operands ask.
 fn read_ask<A: Allocator, B: Allocator>(
     names: &Names<A>,
     vars: &Vars<B>,
@@ -51,29 +97,18 @@ fn read_ask<A: Allocator, B: Allocator>(
     word: Word,
     operands: &[u8],
 ) -> Result<Ask, LineFault>
-    ensures { result ≡ acts_on names.now vars.now subject.now (tokens_of operands.now) word }
+    ensures { result ≡ ask_of names.now vars.now subject.now (tokens_of operands.now) word }
 {
     let subject = read_subject(names, subject);
     match word {
-        Word::Get(mode) => {
-            let (subject, object) = both(subject, read_one(names, vars, operands))?;
-            let action = Action::Get(mode, object);
-            Ok(Ask::Submit(Request { subject, action }))
-        }
-        Word::Release => {
-            let (subject, (mode, object)) = both(
-                subject,
-                read_mode_and_object(names, vars, operands),
-            )?;
-            let action = Action::Release(mode, object);
-            Ok(Ask::Submit(Request { subject, action }))
-        }
         Word::Check => {
-            let (subject, (mode, object)) = both(
-                subject,
-                read_mode_and_object(names, vars, operands),
-            )?;
+            let access = read_mode_and_object(names, vars, operands);
+            let (subject, (mode, object)) = both(subject, access)?;
             Ok(Ask::Check(subject, object, mode))
+        }
+        Word::Act(act) => {
+            let (subject, action) = both(subject, read_action(names, vars, act, operands))?;
+            Ok(Ask::Submit(Request { subject, action }))
         }
     }
 }

@@ -67,6 +67,14 @@ fn reads_what_lines_ask(rt: HostRuntime) -> Result<(), Fail> {
             checks(0, Mode::Write, 1),
         ),
         (
+            b"sec give read bob root".as_slice(),
+            submits(2, Action::Give(Mode::Read, SubjectId(1), ObjectId(0))),
+        ),
+        (
+            b"sec rescind read ann plans".as_slice(),
+            submits(2, Action::Rescind(Mode::Read, SubjectId(0), ObjectId(1))),
+        ),
+        (
             b"  aud   check  append tool ".as_slice(),
             checks(3, Mode::Append, 3),
         ),
@@ -114,7 +122,17 @@ fn names_the_first_fault(rt: HostRuntime) -> Result<(), Fail> {
             b"ann get-read a1234567890123456789012345678901".as_slice(),
             LineFault::UnknownName,
         ),
+        (b"zoe give read bob".as_slice(), LineFault::BadForm),
+        (b"zoe give bob read root".as_slice(), LineFault::BadForm),
+        (
+            b"sec give read bob root root".as_slice(),
+            LineFault::BadForm,
+        ),
         (b"zoe get-read plans".as_slice(), LineFault::UnknownName),
+        (
+            b"sec rescind read root root".as_slice(),
+            LineFault::UnknownName,
+        ),
         (b"plans get-read plans".as_slice(), LineFault::UnknownName),
         (b"ann get-read ann".as_slice(), LineFault::UnknownName),
         (b"zoe check read nil".as_slice(), LineFault::UnknownName),

@@ -1,7 +1,7 @@
 //! The tokens of a line, as slices of it.
 ghost use Rattle.std.specs.Prelude.{◌≡◌, ◌≢◌, ◌<◌, ◌≤◌, ℕ, List, length, slice_index, [], ◌∷◌, MatchOption, option_map};
 ghost use Rattle.std.specs.List.{list_all};
-ghost use Rattle.mls_cli.specs.Tokens.{tokens_of, one_of, two_of, name_of, Spells};
+ghost use Rattle.mls_cli.specs.Tokens.{tokens_of, one_of, two_of, three_of, name_of, Spells};
 ghost use Rattle.mls_cli.specs.Tokens.{is_name_byte as name_byte, is_name as name_test};
 
 use std::str;
@@ -62,6 +62,15 @@ pub fn two_tokens(line: &[u8]) -> Option<(&[u8], &[u8])>
     let (first, rest) = next_token(line)?;
     let second = one_token(rest)?;
     Some((first, second))
+}
+
+/// The tokens of a line that has just three.
+pub fn three_tokens(line: &[u8]) -> Option<(&[u8], &[u8], &[u8])>
+    ensures { option_map (λ p. (p.0.now, p.1.now, p.2.now)) result ≡ three_of (tokens_of line.now) }
+{
+    let (first, rest) = next_token(line)?;
+    let (second, third) = two_tokens(rest)?;
+    Some((first, second, third))
 }
 
 /// Whether a byte may stand in a name.

@@ -1,14 +1,22 @@
 //! The words of a line: modes and actions.
 ghost use Rattle.std.specs.Prelude.{◌≡◌};
-ghost use Rattle.mls_cli.specs.Words.{mode_of, word_of};
+ghost use Rattle.mls_cli.specs.Words.{mode_of, act_of, word_of};
 
 use mls_tables::Mode;
+
+/// An action, without what it is about.
+#[derive(Clone, Copy, Debug, PartialEq, Eq)]
+pub enum Act {
+    Get(Mode),
+    Release,
+    Give,
+    Rescind,
+}
 
 /// What the word after the subject asks for.
 #[derive(Clone, Copy, Debug, PartialEq, Eq)]
 pub enum Word {
-    Get(Mode),
-    Release,
+    Act(Act),
     Check,
 }
 
@@ -30,22 +38,35 @@ pub fn read_mode(token: &[u8]) -> Option<Mode>
 }
 
 /// The action that a token names.
-pub fn read_word(token: &[u8]) -> Option<Word>
-    ensures { result ≡ word_of token.now }
+fn read_act(token: &[u8]) -> Option<Act>
+    ensures { result ≡ act_of token.now }
 {
     if token == b"get-execute".as_slice() {
-        Some(Word::Get(Mode::Execute))
+        Some(Act::Get(Mode::Execute))
     } else if token == b"get-read".as_slice() {
-        Some(Word::Get(Mode::Read))
+        Some(Act::Get(Mode::Read))
     } else if token == b"get-append".as_slice() {
-        Some(Word::Get(Mode::Append))
+        Some(Act::Get(Mode::Append))
     } else if token == b"get-write".as_slice() {
-        Some(Word::Get(Mode::Write))
+        Some(Act::Get(Mode::Write))
     } else if token == b"release".as_slice() {
-        Some(Word::Release)
-    } else if token == b"check".as_slice() {
-        Some(Word::Check)
+        Some(Act::Release)
+    } else if token == b"give".as_slice() {
+        Some(Act::Give)
+    } else if token == b"rescind".as_slice() {
+        Some(Act::Rescind)
     } else {
         None
     }
+}
+
+/// What a token asks for.
+pub fn read_word(token: &[u8]) -> Option<Word>
+    ensures { result ≡ word_of token.now }
+{
+    if token == b"check".as_slice() {
+        return Some(Word::Check);
+    }
+    let act = read_act(token)?;
+    Some(Word::Act(act))
 }
