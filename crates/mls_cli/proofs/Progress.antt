@@ -1,7 +1,7 @@
 -- How far a script has come.
-use Rattle.std.proofs.Common.{◌≡◌, ℕ, ◌+◌, ◌-◌, ◌<◌, ◌≤◌, arith, List, [], ◌∷◌, ◌++◌, Option, Some, None, Result, Ok, Err, false, length, take, drop, sym, refl, ap, ◌∙◌, subst, append_assoc, append-nil, length-append, length-drop, take-append-drop}
+use Rattle.std.proofs.Common.{◌≡◌, ℕ, ◌+◌, ◌-◌, ◌<◌, ◌≤◌, arith, List, [], ◌∷◌, ◌++◌, Option, Some, None, Result, Ok, Err, false, length, take, drop, sym, refl, ap, ◌∙◌, subst, append_assoc, append-nil, length-append, length-drop, take-append-drop, IfSome, inl, inr}
 use Rattle.std.proofs.lemmas.List.{take_at, length-take-le, take-take}
-use Rattle.std.proofs.KnownBytes.{Consumes-trans, Consumes-nil}
+use Rattle.std.proofs.KnownBytes.{Consumes-trans, Consumes-nil, Consumes-kept}
 use Rattle.std.specs.Io.KnownBytes.{Consumes, Keeps, IsAtEnd}
 use Rattle.mls_cli.specs.Lines.{lines_of, has_newline, open_part, closed_lines, kept_of}
 use Rattle.mls_cli.specs.Names.{Names}
@@ -18,11 +18,11 @@ use Rattle.mls_cli.proofs.Runs.{answered_none, stopped_before, answered_more, st
 
 -- the script, by what was taken, what was taken last, and what is left
 whole : (given left next : Option (List ℕ)) (taken more : List ℕ) (P : Type 0) → Consumes given left taken → Consumes left next more
-    → ((script rest : List ℕ) → given ≡ Some script → script ≡ (taken ++ more) ++ rest → next ≡ Some rest → P) → (given ≡ None → P) → P
-whole None left next taken more P c d k n = n refl
-whole (Some script) None next taken more P c d k n = absurd c
-whole (Some script) (Some left) None taken more P c d k n = absurd d
-whole (Some script) (Some left) (Some rest) taken more P c d k n = k script rest refl (c ∙ ap (λ r. taken ++ r) d ∙ sym (append_assoc taken more rest)) refl
+    → ((script rest : List ℕ) → IfSome given (λ known. script ≡ known) → script ≡ (taken ++ more) ++ rest → (IsAtEnd next → rest ≡ []) → P) → P
+whole None left next taken more P c d k = k ((taken ++ more) ++ []) [] tt refl (λ _. refl)
+whole (Some script) None next taken more P c d k = absurd c
+whole (Some script) (Some left) None taken more P c d k = absurd d
+whole (Some script) (Some left) (Some rest) taken more P c d k = k script rest refl (c ∙ ap (λ r. taken ++ r) d ∙ sym (append_assoc taken more rest)) (λ end. end)
 
 -- what was taken is all, where nothing is left
 all_of : (script taken rest : List ℕ) → script ≡ (taken ++ []) ++ rest → rest ≡ [] → taken ≡ script
@@ -59,29 +59,19 @@ module _ (names : Names) (session : ℕ) where
 
   pub serves_read : (given left next held holds : Option (List ℕ)) (before after : Standing) (kept : List ℕ) (room : ℕ)
       → SoFar given left held holds before after kept room → Keeps left next → Ends names session given next held holds before after (Err Read)
-  serves_read None left next held holds before after kept room s k = tt
-  serves_read (Some script) None next held holds before after kept room s k = absurd s.consumed
-  serves_read (Some script) (Some rest) None held holds before after kept room s k = absurd k
-  serves_read (Some script) (Some rest) (Some same) held holds before after kept room s k = (s.taken, rest, s.consumed, ap (λ r. Some r) k, s.answered)
+  serves_read given left next held holds before after kept room s k = (s.taken, Consumes-kept given left next s.taken s.consumed k, s.answered)
 
-  stops_script : (given next held holds : Option (List ℕ)) (before after : Standing) (fault : ServeFault) (script : List ℕ) → given ≡ Some script → Stops names session held holds before after (lines_of script) fault
-      → Ends names session given next held holds before after (Err fault)
+  stops_script : (given next held holds : Option (List ℕ)) (before after : Standing) (fault : ServeFault) (script : List ℕ) → IfSome given (λ known. script ≡ known)
+      → Stops names session held holds before after (lines_of script) fault → Ends names session given next held holds before after (Err fault)
   stops_script given next held holds before after Read script is s = absurd s
-  stops_script given next held holds before after Write script is s = rw is s
-  stops_script given next held holds before after Memory script is s = rw is s
+  stops_script given next held holds before after Write script is s = (script, is, s)
+  stops_script given next held holds before after Memory script is s = (script, is, s)
   stops_script given next held holds before after TooLong script is s = absurd s
-
-  unknown : (given next held holds : Option (List ℕ)) (before after : Standing) (fault : ServeFault) (lines : List (List ℕ)) → given ≡ None → Stops names session held holds before after lines fault
-      → Ends names session given next held holds before after (Err fault)
-  unknown given next held holds before after Read lines is s = absurd s
-  unknown given next held holds before after Write lines is s = rw is tt
-  unknown given next held holds before after Memory lines is s = rw is tt
-  unknown given next held holds before after TooLong lines is s = absurd s
 
   -- no room for what a script needs: nothing was read
   pub serves_nothing : (given held : Option (List ℕ)) (before : Standing) → Ends names session given given held held before before (Err Memory)
-  serves_nothing None held before = tt
-  serves_nothing (Some script) held before = stopped_before names session held before (lines_of script)
+  serves_nothing None held before = ([], tt, stopped_before names session held before [])
+  serves_nothing (Some script) held before = (script, refl, stopped_before names session held before (lines_of script))
 
   -- a fault while the lines of the last bytes are answered
   pub serves_stop : (given left next held holds later_holds : Option (List ℕ)) (before after later : Standing) (kept keeps more extra : List ℕ) (room : ℕ) (fault : ServeFault)
@@ -95,7 +85,6 @@ module _ (names : Names) (session : ℕ) where
       (let again : (s.taken ++ more) ++ (extra ++ rest) ≡ script =
       append_assoc s.taken more (extra ++ rest) ∙ ap (λ t. s.taken ++ t) (sym (append_assoc more extra rest)) ∙ sym (append_assoc s.taken (more ++ extra) rest) ∙ sym split in
       subst (λ t. Stops names session held later_holds before later (lines_of t) fault) again (stopped_in_script names session held later_holds before later (s.taken ++ more) (extra ++ rest) fault early)))
-      (λ none. unknown given next held later_holds before later fault _ none early)
 
   -- a fault at the last line, which no newline ends
   pub serves_stop_last : (given left next held holds later_holds : Option (List ℕ)) (before after later : Standing) (kept : List ℕ) (room : ℕ) (fault : ServeFault)
@@ -108,8 +97,7 @@ module _ (names : Names) (session : ℕ) where
       (Stops-after names session held holds later_holds before after later _ _ fault s.answered (stop (open_part s.taken) (open_part_is_open s.taken) s.kept_is)) in
       whole given left next s.taken [] (Ends names session given next held later_holds before later (Err fault)) s.consumed c
       (λ script rest is split ends. stops_script given next held later_holds before later fault script is
-      (subst (λ t. Stops names session held later_holds before later (lines_of t) fault) (all_of script s.taken rest split (subst IsAtEnd ends end)) all))
-      (λ none. unknown given next held later_holds before later fault _ none all)
+      (subst (λ t. Stops names session held later_holds before later (lines_of t) fault) (all_of script s.taken rest split (ends end)) all))
 
   -- all of a script was answered
   pub serves_all : (given left next held holds later_holds : Option (List ℕ)) (before after later : Standing) (kept : List ℕ) (room n : ℕ)
@@ -122,10 +110,9 @@ module _ (names : Names) (session : ℕ) where
       (Answers-trans names session held holds later_holds before after later _ _ s.answered (answered (open_part s.taken) (open_part_is_open s.taken) s.kept_is)) in
       whole given left next s.taken [] (Ends names session given next held later_holds before later (Ok n)) s.consumed c
       (λ script rest is split ends.
-      let is_all : s.taken ≡ script = all_of script s.taken rest split (subst IsAtEnd ends end) in
+      let is_all : s.taken ≡ script = all_of script s.taken rest split (ends end) in
       let fits : length script ≤ 1048576 = subst (λ t. length t ≤ 1048576) is_all (omega (arith, s.counted)) in
-      rw is (fits, subst (λ t. Answers names session held later_holds before later (lines_of t)) is_all all, added))
-      (λ none. rw none tt)
+      (script, is, (fits, subst (λ t. Answers names session held later_holds before later (lines_of t)) is_all all, added)))
 
   -- the script goes on past its limit
   pub serves_too_long : (given left next held holds later_holds : Option (List ℕ)) (before after later : Standing) (kept keeps more extra : List ℕ) (room : ℕ)
@@ -142,8 +129,7 @@ module _ (names : Names) (session : ℕ) where
       let long : length front ≡ 1048576 = simp length-append (omega (arith, s.counted)) in
       let is_front : take 1048576 script ≡ front = ap (take 1048576) again ∙ take_at front (extra ++ rest) 1048576 long in
       let over : 1048576 < length script = rw again (simp length-append (omega (arith, s.counted))) in
-      rw is (over, subst (λ t. Answers names session held later_holds before later (closed_lines t)) (sym is_front) all))
-      (λ none. rw none tt)
+      (script, is, (over, subst (λ t. Answers names session held later_holds before later (closed_lines t)) (sym is_front) all)))
 
   left_grows : (s : Standing) (said : Result LineView LineFault) → length s.entries ≤ length (left_by session s said).entries
   left_grows s (Err fault) = omega arith
@@ -172,6 +158,36 @@ module _ (names : Names) (session : ℕ) where
       → length after.entries ≤ length later.entries
   end_grows given left held holds later_holds before after later kept room s answered =
       answered_grows holds later_holds after later _ (answered (open_part s.taken) (open_part_is_open s.taken) s.kept_is)
+
+  left_start : (s : Standing) (said : Result LineView LineFault) → (left_by session s said).start ≡ s.start
+  left_start s (Err fault) = refl
+  left_start s (Ok Blank) = refl
+  left_start s (Ok (Asks bind (Check t o x))) = refl
+  left_start s (Ok (Asks bind (Submit r))) = refl
+
+  line_start : (s : Standing) (line : List ℕ) → (after_line names session s line).start ≡ s.start
+  unfolding after_line
+  line_start s line = left_start s (line_of names s.vars line)
+
+  lines_start : (s : Standing) (lines : List (List ℕ)) → (after_lines names session s lines).start ≡ s.start
+  unfolding after_lines
+  lines_start s [] = refl
+  lines_start s (line ∷ lines) = lines_start (after_line names session s line) lines ∙ line_start s line
+
+  stops_start : (held holds : Option (List ℕ)) (before after : Standing) (lines : List (List ℕ)) (fault : ServeFault) → Stops names session held holds before after lines fault → after.start ≡ before.start
+  stops_start held holds before after lines Read s = absurd s
+  stops_start held holds before after lines Write (inl s) = ap (λ (t : Standing). t.start) s.asked ∙ lines_start before (s.front ++ s.line ∷ [])
+  stops_start held holds before after lines Write (inr s) = ap (λ (t : Standing). t.start) s.answered.stands ∙ lines_start before s.front
+  stops_start held holds before after lines Memory s = ap (λ (t : Standing). t.start) s.answered.stands ∙ lines_start before s.front
+  stops_start held holds before after lines TooLong s = absurd s
+
+  -- whatever the result, the start stays
+  pub ends_start : (given left held holds : Option (List ℕ)) (before after : Standing) (result : Result ℕ ServeFault) → Ends names session given left held holds before after result → after.start ≡ before.start
+  ends_start given left held holds before after (Ok n) (script, is, (fits, s, added)) = ap (λ (t : Standing). t.start) s.stands ∙ lines_start before (lines_of script)
+  ends_start given left held holds before after (Err Read) (taken, consumed, s) = ap (λ (t : Standing). t.start) s.stands ∙ lines_start before (closed_lines taken)
+  ends_start given left held holds before after (Err Write) (script, is, s) = stops_start held holds before after (lines_of script) Write s
+  ends_start given left held holds before after (Err Memory) (script, is, s) = stops_start held holds before after (lines_of script) Memory s
+  ends_start given left held holds before after (Err TooLong) (script, is, (over, s)) = ap (λ (t : Standing). t.start) s.stands ∙ lines_start before (closed_lines (take 1048576 script))
 
 -- a piece, cut in two
 pub cut_at : (i n : ℕ) (bytes : List ℕ) → i ≤ n → take n bytes ≡ take i bytes ++ drop i (take n bytes)

@@ -1,6 +1,6 @@
 -- What serving a script leaves: the bytes written and the monitor, by the result.
 use Rattle.std.specs.Prelude.{◌≡◌, ℕ, ◌+◌, ◌<◌, ◌≤◌, ◌⊎◌, false, List, [], ◌∷◌, ◌++◌, length, take, Option, Some, IfSome, Result, Ok, Err, MatchResult}
-use Rattle.std.specs.Io.KnownBytes.{Appends}
+use Rattle.std.specs.Io.KnownBytes.{Appends, Consumes}
 use Rattle.mls_monitor.specs.Journal.{Monitor}
 use Rattle.mls_cli.specs.Lines.{lines_of, closed_lines, open_part, has_newline, kept_of}
 use Rattle.mls_cli.specs.Names.{Names}
@@ -71,18 +71,22 @@ Feeds names session held holds before after kept keeps piece result =
     (λ _. Answers names session held holds before after (closed_lines (line ++ piece)) × (keeps ≡ kept_of (open_part (line ++ piece))))
     (Stops names session held holds before after (closed_lines (line ++ piece)))
 
+-- What holds of the script: of all that the reader has to give where that is known, and of some bytes anyhow. (own)
+abbrev pub OfScript : Option (List ℕ) → (List ℕ → Type 0) → Type 0
+OfScript given P = (script : List ℕ) × IfSome given (λ known. script ≡ known) × P script
+
 -- What a script leaves: what the reader had to give, and has left, what the writer held, and holds, and where the script stood before
 -- and stands after, by the result. (own)
 abbrev pub Ends : Names → ℕ → Option (List ℕ) → Option (List ℕ) → Option (List ℕ) → Option (List ℕ) → Standing → Standing → Result ℕ ServeFault → Type 0
-Ends names session given left held holds before after (Ok n) = IfSome given (λ script.
+Ends names session given left held holds before after (Ok n) = OfScript given (λ script.
     (length script ≤ SCRIPT_LIMIT) × Answers names session held holds before after (lines_of script) × (length after.entries ≡ length before.entries + n))
-Ends names session given left held holds before after (Err Read) = IfSome given (λ script.
-    (taken rest : List ℕ) × (script ≡ taken ++ rest) × (left ≡ Some rest) × Answers names session held holds before after (closed_lines taken))
-Ends names session given left held holds before after (Err Write) = IfSome given (λ script.
+Ends names session given left held holds before after (Err Read) =
+    (taken : List ℕ) × Consumes given left taken × Answers names session held holds before after (closed_lines taken)
+Ends names session given left held holds before after (Err Write) = OfScript given (λ script.
     Stops names session held holds before after (lines_of script) Write)
-Ends names session given left held holds before after (Err Memory) = IfSome given (λ script.
+Ends names session given left held holds before after (Err Memory) = OfScript given (λ script.
     Stops names session held holds before after (lines_of script) Memory)
-Ends names session given left held holds before after (Err TooLong) = IfSome given (λ script.
+Ends names session given left held holds before after (Err TooLong) = OfScript given (λ script.
     (SCRIPT_LIMIT < length script) × Answers names session held holds before after (closed_lines (take SCRIPT_LIMIT script)))
 
 -- What serving a script over a monitor leaves. It begins with no variable bound, and those that it bound are gone with it. (own)

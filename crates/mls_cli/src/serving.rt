@@ -79,8 +79,9 @@ pub fn serve<R: Read, W: Write, A: Allocator, B: Allocator, N: Allocator>(
     reader: &mut R,
     writer: &mut W,
 ) -> Result<u64, ServeFault>
-    ensures { Serves names.now session (R.remaining reader.old) (R.remaining reader.new)
+    ensures served { Serves names.now session (R.remaining reader.old) (R.remaining reader.new)
         (W.contents writer.old) (W.contents writer.new) monitor.old monitor.new result }
+    ensures start { monitor.new.start ≡ monitor.old.start }
 {
     let Ok(mut buffer) = Vec::from_elem(&alloc, 0u8, PIECE) else {
         return Err(ServeFault::Memory);

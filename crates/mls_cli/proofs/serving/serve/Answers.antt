@@ -1,6 +1,9 @@
 use Rattle.std.proofs.Common.{[]}
-use Rattle.mls_cli.proofs.Progress.{serves_nothing}
+use Rattle.mls_cli.proofs.Progress.{serves_nothing, ends_start}
 use Rattle.mls_cli.proofs.serving.serve.Goals as goal
 
-pub returns-in_default : goal.returns-in_default
-returns-in_default g c = ([], serves_nothing _ _ _ _ _)
+pub returns-in_default-clause-served : goal.returns-in_default-clause-served
+returns-in_default-clause-served g c = ([], serves_nothing _ _ _ _ _)
+
+pub returns-clause-start : goal.returns-clause-start
+returns-clause-start g c = ends_start _ _ _ _ _ _ _ _ _ c.serve_pieces.ensures
