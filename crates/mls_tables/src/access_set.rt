@@ -1,14 +1,13 @@
 //! The current accesses.
-ghost use Rattle.std.specs.Prelude.{◌≡◌, ◌<◌, ◌≤◌, ◌+◌, IfOk, OnOk, OnErr, not, ◌||◌, ◌==◌, filter};
+ghost use Rattle.std.specs.Prelude.{◌≡◌, ◌<◌, ◌≤◌, ◌+◌, IfOk, OnOk, OnErr, not};
 ghost use Rattle.std.specs.FinSet as set;
-ghost use Rattle.std.specs.List.{list_any};
 ghost use Rattle.mls_tables.specs.declared.mode.Mode.{Mode as ModeName};
-ghost use Rattle.mls_tables.specs.Triples.{is_triple};
 ghost use Rattle.mls_tables.specs.Table.{IsWithin, empty_table, without_object};
 
 use crate::ids::{ObjectId, SubjectId};
 use crate::mode::Mode;
 use crate::modes::Modes;
+use crate::triple_list::{Triple, discard, discard_object, holds, modes_at};
 use std::alloc::{AllocError, Allocator, Global};
 use std::marker::Model;
 
@@ -17,7 +16,7 @@ use std::marker::Model;
 pub struct AccessSet<A: Allocator = Global> {
     subjects: u16,
     columns: u16,
-    triples: Vec<(SubjectId, ObjectId, Mode), A>,
+    triples: Vec<Triple, A>,
 }
 
 impl<A: Allocator> Model for AccessSet<A> {
@@ -41,71 +40,6 @@ impl<A: Allocator> Model for AccessSet<A> {
       columns : b.columns ≤ 4096;
       within : IsWithin b.subjects b.columns (set.from_list b.triples.items);
     } };
-}
-
-/// Whether a triple has these parts.
-fn is_triple(t: &(SubjectId, ObjectId, Mode), s: SubjectId, o: ObjectId, x: Mode) -> bool
-    ensures { result ≡ is_triple t.now (s, o, x) }
-{
-    t.0 == s && t.1 == o && t.2 == x
-}
-
-/// Whether one of the triples has these parts.
-fn holds(triples: &[(SubjectId, ObjectId, Mode)], s: SubjectId, o: ObjectId, x: Mode) -> bool
-    ensures { result ≡ list_any (λ t. is_triple t (s, o, x)) triples.now }
-{
-    triples.iter().any(|t| is_triple(t, s, o, x))
-}
-
-/// Takes out the triples with these parts, and tells whether there were any.
-fn discard<A: Allocator>(
-    triples: &mut Vec<(SubjectId, ObjectId, Mode), A>,
-    s: SubjectId,
-    o: ObjectId,
-    x: Mode,
-) -> bool
-    ensures there { result ≡ list_any (λ t. is_triple t (s, o, x)) triples.old.items }
-    ensures rest { triples.new.items ≡ filter (λ t. not (is_triple t (s, o, x))) triples.old.items }
-{
-    let before = triples.len();
-    triples.retain(|t| !is_triple(t, s, o, x));
-    triples.len() < before
-}
-
-/// Whether a triple is of the object.
-fn is_of(t: &(SubjectId, ObjectId, Mode), o: ObjectId) -> bool
-    ensures { result ≡ (t.now.1 == o) }
-{
-    t.1 == o
-}
-
-/// Takes out the triples of an object.
-fn discard_object<A: Allocator>(triples: &mut Vec<(SubjectId, ObjectId, Mode), A>, o: ObjectId)
-    ensures { triples.new.items ≡ filter (λ t. not (t.1 == o)) triples.old.items }
-{
-    triples.retain(|t| !is_of(t, o));
-}
-
-/// The modes, with that of a triple if it is of the subject and the object.
-fn joined(modes: Modes, t: &(SubjectId, ObjectId, Mode), s: SubjectId, o: ObjectId) -> Modes
-    ensures { (x : ModeName) → set.contains result x ≡ (set.contains modes x || is_triple t.now (s, o, x)) }
-{
-    if t.0 == s && t.1 == o {
-        modes.with(t.2)
-    } else {
-        modes
-    }
-}
-
-/// The modes of the triples of a subject and an object.
-fn modes_at(triples: &[(SubjectId, ObjectId, Mode)], s: SubjectId, o: ObjectId) -> Modes
-    ensures { (x : ModeName) → set.contains result x ≡ list_any (λ t. is_triple t (s, o, x)) triples.now }
-{
-    let mut modes = Modes::empty();
-    for t in triples {
-        modes = joined(modes, t, s, o);
-    }
-    modes
 }
 
 impl<A: Allocator> AccessSet<A> {

@@ -8,6 +8,7 @@ mod mode;
 mod modes;
 #[cfg(test)]
 mod tests;
+mod triple_list;
 
 pub use access_set::AccessSet;
 pub use ids::{ObjectId, SubjectId};

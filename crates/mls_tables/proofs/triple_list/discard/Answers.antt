@@ -3,7 +3,7 @@ use Rattle.std.specs.Prelude.{not, filter}
 use Rattle.std.proofs.lemmas.Fn.{filter_same}
 use Rattle.mls_tables.specs.Triples.{Triple, is_triple}
 use Rattle.mls_tables.proofs.TripleLists.{fewer}
-use Rattle.mls_tables.proofs.access_set.discard.Goals as goal
+use Rattle.mls_tables.proofs.triple_list.discard.Goals as goal
 
 pub returns-clause-there : goal.returns-clause-there
 returns-clause-there g c =

@@ -3,7 +3,7 @@ use Rattle.std.specs.List.{list_any}
 use Rattle.std.specs.FinSet as set
 use Rattle.mls_tables.specs.declared.mode.Mode.{Mode}
 use Rattle.mls_tables.specs.Triples.{is_triple}
-use Rattle.mls_tables.proofs.access_set.modes_at.Given as goal
+use Rattle.mls_tables.proofs.triple_list.modes_at.Given as goal
 
 -- the modes of the triples that were read
 abbrev pub invariant-loop-t : goal.invariant-loop-t
