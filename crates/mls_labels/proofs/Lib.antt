@@ -1,3 +1,11 @@
 pub mod CategoryWords
 pub mod Dominance
 pub mod Equality
+pub mod LabelForms
+pub mod LabelReads
+pub mod LabelWrites
+pub mod NameLists
+pub mod NamePlaces
+pub mod Numbers
+pub mod SchemeFacts
+pub mod TextParts

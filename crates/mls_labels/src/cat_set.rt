@@ -1,5 +1,6 @@
 //! Sets of categories.
-ghost use Rattle.std.specs.Prelude.{◌≡◌, ◌<◌, ◌≤◌, nat_lt};
+ghost use Rattle.std.specs.Prelude.{◌≡◌, ◌<◌, ◌≤◌, ◌∷◌, nat_lt, IfNone, IfSome};
+ghost use Rattle.mls_labels.specs.Ascending.{ascending};
 ghost use Rattle.mls_labels.specs.Each.{each};
 ghost use Rattle.std.specs.FinSet as set;
 
@@ -63,6 +64,22 @@ impl CatSet {
         ensures { result ≡ set.is_subset self other.now }
     {
         self.bits & !other.bits == 0
+    }
+
+    /// Takes the least category out of the set; `None` where the set is empty.
+    pub fn pop_first(&mut self) -> Option<u8>
+        ensures none { IfNone result (self.old ≡ set.empty) }
+        ensures empty { IfNone result (self.new ≡ set.empty) }
+        ensures first { IfSome result (λ first. ascending self.old ≡ first ∷ ascending self.new) }
+        ensures limit { IfSome result (λ first. first < 64) }
+    {
+        let bits = self.bits;
+        if bits == 0 {
+            return None;
+        }
+        let first = bits.trailing_zeros();
+        self.bits = bits & !(1 << first);
+        Some(first as u8)
     }
 
     /// Whether each category of the set is less than `n`.

@@ -1,9 +1,12 @@
 //! What holds of all labels. The functions do nothing: each is a law, which its contract states.
-ghost use Rattle.std.specs.Prelude.{◌≡◌, ◌↔◌, IsTrue};
+ghost use Rattle.std.specs.Prelude.{◌≡◌, ◌↔◌, IsTrue, List, ℕ};
 ghost use Rattle.std.specs.Ordering.{nat_cmp};
 ghost use Rattle.std.specs.FinSet as set;
-ghost use Rattle.mls_labels.specs.Label.{Label, Bounds, dominates};
+ghost use Rattle.mls_labels.specs.Label.{Label, Bounds, dominates, has_label};
+ghost use Rattle.mls_labels.specs.LabelText.{Spells, IsRefused, written};
 ghost use Rattle.mls_labels.specs.Same.{same_categories, same_label, same_bounds};
+ghost use Rattle.mls_labels.specs.Scheme.{Scheme, IsScheme, bounds_of};
+ghost use Rattle.mls_labels.specs.declared.label_fault.LabelFault.{LabelFault};
 
 /// What `==` answers on sets of categories, labels and bounds is true exactly where the two values
 /// are one.
@@ -23,4 +26,16 @@ pub fn dominance_is_a_partial_order()
     ensures reflexive { (a : Label) → IsTrue (dominates a a) }
     ensures antisymmetric { (a b : Label) → IsTrue (dominates a b) → IsTrue (dominates b a) → a ≡ b }
     ensures transitive { (a b c : Label) → IsTrue (dominates a b) → IsTrue (dominates b c) → IsTrue (dominates a c) }
+{}
+
+/// A text spells one label at most in a scheme, is refused for one fault at most, and not both.
+pub fn a_text_has_one_meaning()
+    ensures label { (s : Scheme) (text : List ℕ) (a b : Label) → IsScheme s → Spells s text a → Spells s text b → a ≡ b }
+    ensures fault { (s : Scheme) (text : List ℕ) (f g : LabelFault) → IsScheme s → IsRefused s text f → IsRefused s text g → f ≡ g }
+    ensures either { (s : Scheme) (text : List ℕ) (a : Label) (f : LabelFault) → IsScheme s → Spells s text a → IsRefused s text f → ⊥ }
+{}
+
+/// What is written of a label that a scheme has spells that label.
+pub fn a_written_label_is_spelled()
+    ensures { (s : Scheme) (l : Label) → IsScheme s → IsTrue (has_label (bounds_of s) l) → Spells s (written s l) l }
 {}

@@ -5,16 +5,28 @@ mod bounds;
 mod cat_set;
 mod int_label;
 mod label;
+mod label_fault;
 mod laws;
+mod name_set;
+mod names;
+mod reading;
+mod scheme;
+mod scheme_fault;
 mod sec_label;
+mod writing;
 
 pub use bounds::Bounds;
 pub use cat_set::CatSet;
 pub use int_label::IntLabel;
 pub use label::Label;
+pub use label_fault::LabelFault;
 pub use laws::{
-    dominance_is_a_partial_order, equal_labels_dominate_each_other, equality_is_of_values,
+    a_text_has_one_meaning, a_written_label_is_spelled, dominance_is_a_partial_order,
+    equal_labels_dominate_each_other, equality_is_of_values,
 };
+pub use names::is_name;
+pub use scheme::Scheme;
+pub use scheme_fault::SchemeFault;
 pub use sec_label::SecLabel;
 
 #[cfg(test)]

@@ -18,6 +18,9 @@ fn a_set_has_what_was_added(rt: HostRuntime) {
     assert!(rt; !some.contains(1) && !none.contains(0));
     assert!(rt; none.is_subset(&some) && !some.is_subset(&none));
     assert!(rt; some == none.with(63).with(0) && some != none);
+    let mut rest = some;
+    assert!(rt; rest.pop_first() == Some(0) && rest.pop_first() == Some(63));
+    assert!(rt; rest.pop_first().is_none() && rest == none);
 }
 
 #[test]

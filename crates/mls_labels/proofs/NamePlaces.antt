@@ -1,0 +1,144 @@
+-- The places of names in a list.
+use Rattle.std.specs.Prelude.{◌≡◌, ℕ, zero, suc, ◌+◌, ◌<◌, Bool, true, false, cond, not, ◌||◌, nat_lt, List, [], ◌∷◌, ◌++◌, length, map, take, Option, None, Some, option_map, position, slice_get, refl}
+use Rattle.std.specs.List.{list_any, prefix_len}
+use Rattle.std.specs.Str.{bytes_eq}
+use Rattle.std.proofs.Common.{◌⊎◌, inl, inr, arith, sym, ap, ◌∙◌, Bor, String, get_or, string_bytes}
+use Rattle.std.proofs.lemmas.Bool.Decides.{nat_tests}
+use Rattle.std.proofs.lemmas.Bool.{both_ways}
+use Rattle.std.proofs.lemmas.List.{length-map, map-append, take-map, take_more}
+use Rattle.std.proofs.lemmas.Option.{slice_get-map, slice_get-get_or}
+use Rattle.std.specs.String.{string_eq}
+use Rattle.std.proofs.lemmas.Slice.Eq.{bytes_eq-Decides}
+use Rattle.mls_labels.specs.Names.{has_twice}
+use Rattle.mls_labels.specs.LabelText.{IsIn}
+use Rattle.mls_labels.specs.Reading.{place_of}
+
+-- a word that stands among some stands there with one more at the end
+pub at_front : (words : List (List ℕ)) (w v : List ℕ) (i : ℕ) → slice_get words i ≡ Some v → slice_get (words ++ w ∷ []) i ≡ Some v
+at_front [] w v i h = cc
+at_front (x ∷ words) w v zero h = h
+at_front (x ∷ words) w v (suc i) h = at_front words w v i h
+
+-- the one at the end stands there
+pub at_end : (words : List (List ℕ)) (w : List ℕ) → slice_get (words ++ w ∷ []) (length words) ≡ Some w
+at_end [] w = refl
+at_end (x ∷ words) w = at_end words w
+
+-- what stands among them with one more stands among them, or is the one at the end
+pub at_either : (words : List (List ℕ)) (w v : List ℕ) (i : ℕ) → slice_get (words ++ w ∷ []) i ≡ Some v → (slice_get words i ≡ Some v) ⊎ ((i ≡ length words) × (w ≡ v))
+at_either [] w v zero h = inr (refl, cc)
+at_either [] w v (suc i) h = cc
+at_either (x ∷ words) w v zero h = inl h
+at_either (x ∷ words) w v (suc i) h = elim (at_either words w v i h) [ inl e ↦ inl e | inr e ↦ inr (ap suc e.0, e.1) ]
+
+-- where none passes, the one in this place doesn't
+pub none_passes : (p : List ℕ → Bool) (words : List (List ℕ)) (i : ℕ) (v : List ℕ) → list_any p words ≡ false → slice_get words i ≡ Some v → p v ≡ false
+none_passes p [] i v none h = cc
+none_passes p (x ∷ words) zero v none h =
+    let same : x ≡ v = cc in
+    elim (p x) as (λ b. p x ≡ b → (b || list_any p words) ≡ false → p v ≡ false) [ true ↦ λ _ n. cc | false ↦ λ e _. rw same at e ] refl none
+none_passes p (x ∷ words) (suc i) v none h =
+    elim (p x) as (λ b. (b || list_any p words) ≡ false → p v ≡ false) [ true ↦ λ n. cc | false ↦ λ n. none_passes p words i v n h ] none
+
+next_place : (b : Bool) (k n : ℕ) (r : Option ℕ) → cond (nat_lt k n) (Some k) None ≡ r → cond (nat_lt (cond (not b) (1 + k) 0) (suc n)) (Some (cond (not b) (1 + k) 0)) None ≡ cond b (Some 0) (option_map (λ m. suc m) r)
+next_place true k n r h = let t : nat_lt 0 (suc n) ≡ true = grind (arith, nat_tests) in rw t refl
+next_place false k n r h =
+    let t : nat_lt (1 + k) (suc n) ≡ nat_lt k n = grind (arith, nat_tests) in
+    let e : 1 + k ≡ suc k = omega arith in
+    rw (t, e) (raised (nat_lt k n) ∙ ap (option_map (λ m. suc m)) h) where
+      raised : (c : Bool) → cond c (Some (suc k)) None ≡ option_map (λ m. suc m) (cond c (Some k) None)
+      raised true = refl
+      raised false = refl
+
+-- the place that a scan finds
+pub position-place_of : (name : List ℕ) (names : List (List ℕ)) → position (bytes_eq name) names ≡ place_of names name
+unfolding place_of
+position-place_of name [] = refl
+position-place_of name (x ∷ names) = next_place (bytes_eq name x) (prefix_len (λ y. not (bytes_eq name y)) names) (length names) (place_of names name) (position-place_of name names)
+
+front_mapped : {X Y : Type 0} (f : X → Y) (p : Y → Bool) (xs : List X) → prefix_len p (map f xs) ≡ prefix_len (λ x. p (f x)) xs
+front_mapped f p [] = refl
+front_mapped f p (x ∷ xs) = ap (λ n. cond (p (f x)) (1 + n) 0) (front_mapped f p xs)
+
+-- the place in a list that is mapped
+pub position-map : {X Y : Type 0} (f : X → Y) (p : Y → Bool) (xs : List X) → position p (map f xs) ≡ position (λ x. p (f x)) xs
+position-map f p xs =
+    ap (λ n. cond (nat_lt n (length (map f xs))) (Some n) None) (front_mapped f (λ y. not (p y)) xs)
+    ∙ ap (λ k. cond (nat_lt (prefix_len (λ x. not (p (f x))) xs) k) (Some (prefix_len (λ x. not (p (f x))) xs)) None) (length-map xs f)
+
+any_mapped : {X Y : Type 0} (f : X → Y) (p : Y → Bool) (xs : List X) → list_any p (map f xs) ≡ list_any (λ x. p (f x)) xs
+any_mapped f p [] = refl
+any_mapped f p (x ∷ xs) = ap (λ t. p (f x) || t) (any_mapped f p xs)
+
+-- in the place of a name it stands
+pub named_there : (names : List (List ℕ)) (name : List ℕ) (n : ℕ) → place_of names name ≡ Some n → slice_get names n ≡ Some name
+unfolding place_of
+named_there [] name n h = cc
+named_there (x ∷ names) name n h =
+    elim (bytes_eq name x) as (λ b. bytes_eq name x ≡ b → cond b (Some 0) (option_map (λ m. suc m) (place_of names name)) ≡ Some n → slice_get (x ∷ names) n ≡ Some name) [
+      | true ↦ λ e h. let same : name ≡ x = (bytes_eq-Decides name x).0 e in let first : 0 ≡ n = cc in rw (← first) (ap Some (sym same))
+      | false ↦ λ _ h. elim (place_of names name) as (λ r. place_of names name ≡ r → option_map (λ m. suc m) r ≡ Some n → slice_get (x ∷ names) n ≡ Some name) [
+        | None ↦ λ _ h. cc
+        | Some m ↦ λ e h. let later : suc m ≡ n = cc in rw (← later) (named_there names name m e)
+      ] refl h
+    ] refl h
+
+not_after : (x : List ℕ) (names : List (List ℕ)) (name : List ℕ) → ((m : ℕ) → slice_get names m ≡ Some name → ⊥) → bytes_eq name x ≡ false → (n : ℕ) → slice_get (x ∷ names) n ≡ Some name → ⊥
+not_after x names name later e zero there = let same : name ≡ x = cc in both_ways (bytes_eq name x) e ((bytes_eq-Decides name x).1 same)
+not_after x names name later e (suc m) there = later m there
+
+-- a name without a place stands nowhere
+pub named_nowhere : (names : List (List ℕ)) (name : List ℕ) (n : ℕ) → place_of names name ≡ None → slice_get names n ≡ Some name → ⊥
+unfolding place_of
+named_nowhere [] name n h there = cc
+named_nowhere (x ∷ names) name n h there =
+    elim (bytes_eq name x) as (λ b. bytes_eq name x ≡ b → cond b (Some 0) (option_map (λ m. suc m) (place_of names name)) ≡ None → ⊥) [
+      | true ↦ λ _ h. cc
+      | false ↦ λ e h. elim (place_of names name) as (λ r. place_of names name ≡ r → option_map (λ m. suc m) r ≡ None → ⊥) [
+        | None ↦ λ none _. not_after x names name (λ m there. named_nowhere names name m none there) e n there
+        | Some m ↦ λ _ h. cc
+      ] refl h
+    ] refl h
+
+-- where no name stands twice, a name's place is where it stands
+pub place_of-named : (names : List (List ℕ)) (name : List ℕ) (n : ℕ) → has_twice names ≡ false → slice_get names n ≡ Some name → place_of names name ≡ Some n
+unfolding place_of
+place_of-named [] name n once h = cc
+place_of-named (x ∷ names) name zero once h = let same : name ≡ x = cc in rw ((bytes_eq-Decides name x).1 same) refl
+place_of-named (x ∷ names) name (suc n) once h =
+    elim (list_any (λ other. bytes_eq other x) names) as (λ b. list_any (λ other. bytes_eq other x) names ≡ b → (b || has_twice names) ≡ false → cond (bytes_eq name x) (Some 0) (option_map (λ m. suc m) (place_of names name)) ≡ Some (suc n)) [
+      | true ↦ λ _ once. cc
+      | false ↦ λ none once. rw (none_passes (λ other. bytes_eq other x) names n name none h, place_of-named names name n once h) refl
+    ] refl once
+
+-- where no name stands twice, a name stands in one place
+pub one_place : (names : List (List ℕ)) (name : List ℕ) (m n : ℕ) → has_twice names ≡ false → slice_get names m ≡ Some name → slice_get names n ≡ Some name → m ≡ n
+one_place names name m n once h k = let e : Some m ≡ Some n = sym (place_of-named names name m once h) ∙ place_of-named names name n once k in cc
+
+-- a name that stands somewhere has a place
+pub has_place : (names : List (List ℕ)) (name : List ℕ) → IsIn names name → (n : ℕ) × (place_of names name ≡ Some n)
+has_place names name there = elim (place_of names name) as (λ r. place_of names name ≡ r → (n : ℕ) × (place_of names name ≡ Some n)) [
+  | None ↦ λ e. absurd (named_nowhere names name there.0 e there.1)
+  | Some n ↦ λ e. (n, e)
+] refl
+
+-- a name isn't among those before it
+pub fresh_name : (names : List (List ℕ)) (n : ℕ) (name : List ℕ) → has_twice names ≡ false → slice_get names n ≡ Some name → list_any (bytes_eq name) (take n names) ≡ false
+fresh_name [] n name once h = cc
+fresh_name (x ∷ names) zero name once h = refl
+fresh_name (x ∷ names) (suc n) name once h =
+    elim (list_any (λ other. bytes_eq other x) names) as (λ b. list_any (λ other. bytes_eq other x) names ≡ b → (b || has_twice names) ≡ false → (bytes_eq name x || list_any (bytes_eq name) (take n names)) ≡ false) [
+      | true ↦ λ _ once. cc
+      | false ↦ λ none once. rw (none_passes (λ other. bytes_eq other x) names n name none h, fresh_name names n name once h) refl
+    ] refl once
+
+-- the names so far with one more, which isn't among them
+pub kept_more : {Z : Type 0} (keys : List (String Z)) (text : String Z) (names : List (Bor (List ℕ))) (n : ℕ) (d : Bor (List ℕ))
+    → has_twice (map (λ name. name.now) names) ≡ false → n < length names → string_bytes text ≡ (get_or names n d).now
+    → map string_bytes keys ≡ map (λ name. name.now) (take n names)
+    → map string_bytes (cond (list_any (string_eq text) keys) keys (keys ++ text ∷ [])) ≡ map (λ name. name.now) (take (n + 1) names)
+kept_more keys text names n d once within is kept =
+    let texts = map (λ name. name.now) names in
+    let there : slice_get texts n ≡ Some (string_bytes text) = slice_get-map (λ name. name.now) names n ∙ ap (option_map (λ name. name.now)) (slice_get-get_or names n d within) ∙ ap Some (sym is) in
+    let absent : list_any (string_eq text) keys ≡ false = sym (any_mapped string_bytes (bytes_eq (string_bytes text)) keys) ∙ ap (list_any (bytes_eq (string_bytes text))) (kept ∙ sym (take-map (λ name. name.now) n names)) ∙ fresh_name texts n (string_bytes text) once there in
+    rw (absent, map-append) (ap (λ front. front ++ string_bytes text ∷ []) kept ∙ ap (λ last. map (λ name. name.now) (take n names) ++ last ∷ []) is ∙ sym (map-append (λ name. name.now) (take n names) (get_or names n d ∷ [])) ∙ ap (map (λ name. name.now)) (sym (take_more names n d within)))

@@ -1,0 +1,121 @@
+//! Schemes and label text: the worked examples, the limits of names, and memory refused in turn.
+use super::Scheme;
+use crate::{Bounds, CatSet, Label, LabelFault, SchemeFault, is_name};
+use refusing::Refusing;
+use std::alloc::{AllocError, Allocator, Global};
+use std::process::Abort;
+use std::test::Fail;
+
+const LEVELS: [&str; 4] = ["U", "C", "S", "T"];
+
+const CATEGORIES: [&str; 2] = ["A", "B"];
+
+/// The fault of a scheme of these names.
+fn fault(alloc: Global, levels: &[&str], categories: &[&str]) -> Option<SchemeFault> {
+    Scheme::new(alloc, levels, categories).err()
+}
+
+/// A secret label with both categories.
+fn secret() -> Label {
+    Label::new(2, CatSet::empty().with(0).with(1))
+}
+
+#[test]
+fn label_text_is_read_and_written(rt: HostRuntime) -> Result<(), Fail> {
+    let scheme = Scheme::new(rt.alloc(), &LEVELS, &CATEGORIES).expect(&rt, "a scheme");
+    assert!(rt; scheme.bounds() == Bounds::new(4, 2));
+    assert!(rt; scheme.has(secret()) && !scheme.has(Label::new(4, CatSet::empty())));
+    let read = scheme.read("S:B,A").expect(&rt, "a label text");
+    assert!(rt; read == secret());
+    assert!(rt; scheme.read("C") == Ok(Label::new(1, CatSet::empty())));
+    for (text, fault) in [
+        ("", LabelFault::BadForm),
+        ("S:", LabelFault::BadForm),
+        ("Q:Z", LabelFault::UnknownLevel),
+        ("S:Z,Z", LabelFault::UnknownCategory),
+        ("S:A,A", LabelFault::RepeatedCategory),
+        ("Q:,", LabelFault::BadForm),
+    ] {
+        assert!(rt; scheme.read(text) == Err(fault), "at {text}");
+    }
+    let mut text = String::from_str(rt.alloc(), "> ")?;
+    scheme.write(read, &mut text)?;
+    assert!(rt; text.as_str() == "> S:A,B");
+    Ok(())
+}
+
+#[test]
+fn a_scheme_has_the_least_fault(rt: HostRuntime) {
+    let alloc = rt.alloc();
+    assert!(rt; fault(alloc, &[], &CATEGORIES) == Some(SchemeFault::NoLevels));
+    assert!(rt; fault(alloc, &["a"; 17], &[]) == Some(SchemeFault::TooManyLevels));
+    assert!(rt; fault(alloc, &LEVELS, &["a"; 65]) == Some(SchemeFault::TooManyCategories));
+    assert!(rt; fault(alloc, &["a b"], &[]) == Some(SchemeFault::BadName));
+    assert!(rt; fault(alloc, &["U", "U"], &[]) == Some(SchemeFault::RepeatedName));
+    assert!(rt; fault(alloc, &["U"], &["U"]).is_none());
+    assert!(rt; fault(alloc, &[], &["a"; 65]) == Some(SchemeFault::NoLevels));
+    assert!(rt; fault(alloc, &["a"; 17], &["a"; 65]) == Some(SchemeFault::TooManyLevels));
+    assert!(rt; fault(alloc, &["U", "U"], &["a b"]) == Some(SchemeFault::BadName));
+}
+
+#[test]
+fn names_have_their_bytes(rt: HostRuntime) {
+    let long = "abcdefghijklmnopqrstuvwxyz_ABCDEF";
+    for (name, good) in [
+        ("", false),
+        ("x", true),
+        (&long[..32], true),
+        (long, false),
+        ("\u{e9}", false),
+    ] {
+        assert!(rt; is_name(name.as_bytes()) == good, "at {name}");
+        assert!(rt;
+            fault(rt.alloc(), &[name], &[]).is_none() == good,
+            "at {name}"
+        );
+    }
+    for byte in 0..128u8 {
+        let bytes = [byte];
+        let name = std::str::from_utf8(&bytes).expect(&rt, "ASCII");
+        let good = byte.is_ascii_alphanumeric() || byte == 45 || byte == 95;
+        assert!(rt;
+            fault(rt.alloc(), &LEVELS, &[name]).is_none() == good,
+            "at {byte}"
+        );
+    }
+}
+
+/// Makes a scheme and writes a label over a heap that may refuse an allocation. What was refused changed
+/// nothing, and the same call again answers.
+fn written(rt: &impl Abort, heap: &Refusing<Global>) -> Result<(), AllocError> {
+    let scheme = match Scheme::new(heap, &LEVELS, &CATEGORIES) {
+        Ok(scheme) => scheme,
+        Err(fault) => {
+            assert!(rt; fault == SchemeFault::Memory && heap.has_refused());
+            Scheme::new(heap, &LEVELS, &CATEGORIES).map_err(|_| AllocError)?
+        }
+    };
+    let label = scheme.read("S:B,A").expect(rt, "a label text");
+    assert!(rt; scheme.bounds() == Bounds::new(4, 2) && label == secret());
+    let mut text = String::new(heap);
+    if scheme.write(label, &mut text).is_err() {
+        assert!(rt; heap.has_refused() && text.is_empty());
+        scheme.write(label, &mut text)?;
+    }
+    assert!(rt; text.as_bytes() == b"S:A,B".as_slice());
+    Ok(())
+}
+
+#[test]
+fn each_allocation_is_refused_in_turn(rt: HostRuntime) -> Result<(), Fail> {
+    for number in 1..100 {
+        let heap = Refusing::new(rt.alloc(), number);
+        written(&rt, &heap)?;
+        if !heap.has_refused() {
+            assert!(rt; number > 8, "only {number}");
+            return Ok(());
+        }
+    }
+    assert!(rt; false, "every run met a refusal");
+    Ok(())
+}

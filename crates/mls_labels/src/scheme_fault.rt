@@ -1,0 +1,37 @@
+//! Why names are refused as a scheme.
+use std::alloc::AllocError;
+use thiserror::Error;
+
+/// Why [`Scheme::new`](crate::Scheme::new) refuses names. The least that applies is answered.
+#[derive(Clone, Copy, Debug, PartialEq, Eq, Error)]
+pub enum SchemeFault {
+    /// There is no level.
+    #[error("no levels")]
+    NoLevels,
+    /// There are more than 16 levels.
+    #[error("more than 16 levels")]
+    TooManyLevels,
+    /// There are more than 64 categories.
+    #[error("more than 64 categories")]
+    TooManyCategories,
+    /// A name isn't 1 to 32 of the ASCII letters, digits, `-` and `_`.
+    #[error("a name that isn't 1 to 32 letters, digits, hyphens and underscores")]
+    BadName,
+    /// Two levels or two categories have one name.
+    #[error("a name that stands twice")]
+    RepeatedName,
+    /// An allocation was refused. Nothing is kept of the names.
+    #[error("out of memory")]
+    Memory,
+}
+
+impl From<AllocError> for SchemeFault {
+    ghost use Rattle.std.specs.Prelude.{◌≡◌};
+    ghost use Rattle.mls_labels.specs.declared.scheme_fault.SchemeFault.TheVariants.{Memory};
+
+    ghost from_gives = { λ _ fault. fault ≡ Memory };
+
+    fn from(_: AllocError) -> SchemeFault {
+        SchemeFault::Memory
+    }
+}
