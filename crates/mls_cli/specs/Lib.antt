@@ -4,5 +4,6 @@ pub mod Names
 pub mod Script
 pub mod ScriptLine
 pub mod Serve
+pub mod Standard
 pub mod Tokens
 pub mod Words
