@@ -1,7 +1,7 @@
 -- Tests that each triple of a set passes, as the set changes.
 use Rattle.std.proofs.Common.{◌≡◌, Bool, true, false, not, ◌&&◌, ◌||◌, refl, sym, ap, ◌∙◌, ◌⊎◌, inl, inr}
 use Rattle.std.specs.FinSet as set
-use Rattle.mls_tables.specs.Triples.{Triple, TripleSet, is_triple, is_triple-true, contains-insert-triple, contains-remove-triple}
+use Rattle.mls_tables.specs.Triples.{Triple, TripleSet, is_triple, is_triple-true, same_triple, same_triples, contains-insert-triple, contains-remove-triple}
 use Rattle.mls_rules.specs.Properties.{Each}
 
 pub either : (a b : Bool) → (a || b) ≡ true → (a ≡ true) ⊎ (b ≡ true)
@@ -23,6 +23,10 @@ and_true false b g h = g
 pub or_true : (a b : Bool) → b ≡ true → (a || b) ≡ true
 or_true true b h = refl
 or_true false b h = h
+
+and_assoc : (a b c : Bool) → ((a && b) && c) ≡ (a && (b && c))
+and_assoc true b c = refl
+and_assoc false b c = refl
 
 -- one triple more
 pub Each-insert : (b : TripleSet) (t : Triple) (p : Triple → Bool) → Each b p → p t ≡ true → Each (set.insert b t) p
@@ -46,3 +50,28 @@ within-remove b m t within u there =
     let other : not (is_triple u t) ≡ true = first (not (is_triple u t)) (set.contains b u) both in
     let there_still : set.contains m u ≡ true = within u (second (not (is_triple u t)) (set.contains b u) both) in
     contains-remove-triple m t u ∙ and_true (not (is_triple u t)) (set.contains m u) other there_still
+
+-- the triples that pass a test
+pub contains-retain-triple : (b : TripleSet) (p : Triple → Bool) (t : Triple) → set.contains (set.retain b p) t ≡ (set.contains b t && p t)
+contains-retain-triple b p t = set.contains-retain b p t (λ u tie. ap p (sym (same_triple t u tie)))
+
+-- a triple that is kept was there, and passes the test
+pub kept_there : (b : TripleSet) (p : Triple → Bool) (t : Triple) → set.contains (set.retain b p) t ≡ true → set.contains b t ≡ true
+kept_there b p t there = first (set.contains b t) (p t) (sym (contains-retain-triple b p t) ∙ there)
+
+pub kept_passes : (b : TripleSet) (p : Triple → Bool) (t : Triple) → set.contains (set.retain b p) t ≡ true → p t ≡ true
+kept_passes b p t there = second (set.contains b t) (p t) (sym (contains-retain-triple b p t) ∙ there)
+
+-- within a set, and so within it where both keep the triples that pass a test
+pub within-retain : (b m : TripleSet) (p : Triple → Bool) → Each b (set.contains m) → Each (set.retain b p) (set.contains (set.retain m p))
+within-retain b m p within t there =
+    let in_m : set.contains m t ≡ true = within t (kept_there b p t there) in
+    contains-retain-triple m p t ∙ and_true (set.contains m t) (p t) in_m (kept_passes b p t there)
+
+-- to keep those that pass a test, and of these those that pass another, is to keep those that pass both
+pub retain-twice-triple : (b : TripleSet) (p q : Triple → Bool) → set.retain (set.retain b p) q ≡ set.retain b (λ t. p t && q t)
+retain-twice-triple b p q = same_triples _ _ (λ t.
+    contains-retain-triple (set.retain b p) q t
+    ∙ ap (λ c. c && q t) (contains-retain-triple b p t)
+    ∙ and_assoc (set.contains b t) (p t) (q t)
+    ∙ sym (contains-retain-triple b (λ t. p t && q t) t))

@@ -2,10 +2,13 @@ pub mod AfterKeeps
 pub mod Changes
 pub mod Copies
 pub mod EachTriple
+pub mod Entries
 pub mod Growing
 pub mod Kept
+pub mod LabelsSame
 pub mod Security
 pub mod SecurityGive
+pub mod SecurityTree
 pub mod StandardSecure
 pub mod StandardState
 pub mod Tables

@@ -2,7 +2,7 @@
 use Rattle.std.proofs.Common.{◌≡◌, ℕ, true, ◌&&◌}
 use Rattle.mls_tables.specs.declared.mode.Mode.{Mode}
 use Rattle.mls_rules.specs.declared.request.Action.{Action}
-use Rattle.mls_rules.specs.declared.request.Action.TheVariants.{Get, Release, Give, Rescind}
+use Rattle.mls_rules.specs.declared.request.Action.TheVariants.{Get, Release, Give, Rescind, Create, Delete}
 use Rattle.mls_rules.specs.declared.request.Request.{Request}
 use Rattle.mls_rules.specs.State.{State, is_subject}
 use Rattle.mls_rules.specs.Properties.{IsSecure, HasTree, simple_holds, star_holds, discretionary_holds, integrity_holds}
@@ -10,7 +10,8 @@ use Rattle.mls_rules.specs.Rules.{conditions, change, after, names_known}
 use Rattle.mls_rules.proofs.EachTriple.{Each-insert, Each-remove}
 use Rattle.mls_rules.proofs.AfterKeeps.{AllHold, after_keeps}
 use Rattle.mls_rules.proofs.SecurityGive.{give_secure, rescind_secure}
-use Rattle.mls_rules.proofs.TreeKept.{change_tree}
+use Rattle.mls_rules.proofs.SecurityTree.{create_secure, delete_secure}
+use Rattle.mls_rules.proofs.TreeKept.{change_tree, names_parent}
 
 -- to get adds a triple that passes every test
 get_secure : (v : State) (s : ℕ) (x : Mode) (o : ℕ) → IsSecure v → HasTree (change v s (Get x o))
@@ -45,6 +46,9 @@ change_secure v s (Get x o) h tree known holds = get_secure v s x o h tree holds
 change_secure v s (Release x o) h tree known holds = release_secure v s x o h tree
 change_secure v s (Give x t o) h tree known holds = give_secure v s x t o h tree
 change_secure v s (Rescind x t o) h tree known holds = rescind_secure v s x t o h tree
+change_secure v s (Create p l i) h tree known (authority, (compatible, (integrity, u))) =
+    create_secure v s p l i h tree (names_parent v s p l i known) compatible integrity
+change_secure v s (Delete o) h tree known holds = delete_secure v s o h tree
 
 -- Each request leaves a secure state secure.
 pub after_secure : (v : State) (r : Request) → IsSecure v → IsSecure (after v r)

@@ -1,19 +1,45 @@
 -- Each request leaves the tables of labels whole.
-use Rattle.std.proofs.Common.{◌≡◌, ℕ, true, ◌&&◌}
+use Rattle.std.proofs.Common.{◌≡◌, ℕ, true, nat_eq, ◌&&◌, ◌||◌, ap, sym, ◌∙◌}
 use Rattle.std.specs.FinSet as set
+use Rattle.mls_labels.specs.Label.{Label}
 use Rattle.mls_tables.specs.Triples.{TripleSet}
 use Rattle.mls_rules.specs.declared.request.Action.{Action}
-use Rattle.mls_rules.specs.declared.request.Action.TheVariants.{Get, Release, Give, Rescind}
+use Rattle.mls_rules.specs.declared.request.Action.TheVariants.{Get, Release, Give, Rescind, Create, Delete}
 use Rattle.mls_rules.specs.declared.request.Request.{Request}
 use Rattle.mls_rules.specs.State.{State, is_subject}
 use Rattle.mls_rules.specs.Properties.{HasWholeTables}
-use Rattle.mls_rules.specs.Rules.{change, after, names_known}
+use Rattle.mls_rules.specs.Rules.{change, after, names_known, stays}
+use Rattle.mls_rules.proofs.Entries.{has-inserted, has-kept}
 use Rattle.mls_rules.proofs.AfterKeeps.{after_keeps}
 
 -- other triples leave the tables of labels as they are
 triples_whole : (v : State) (accesses matrix : TripleSet) → HasWholeTables v → HasWholeTables (record v { accesses = accesses; matrix = matrix })
 triples_whole v accesses matrix h =
     record { current = h.current; subject_integrity = h.subject_integrity; trusted = h.trusted; object_integrity = h.object_integrity }
+
+-- both tables of labels of objects have one number more
+create_whole : (v : State) (s p : ℕ) (l i : Label) → HasWholeTables v → HasWholeTables (change v s (Create p l i))
+create_whole v s p l i h = record {
+  current = h.current;
+  subject_integrity = h.subject_integrity;
+  trusted = h.trusted;
+  object_integrity = λ o.
+      has-inserted v.object_integrity v.next i o
+      ∙ ap (λ b. nat_eq o v.next || b) (h.object_integrity o)
+      ∙ sym (has-inserted v.object_label v.next l o);
+}
+
+-- both tables of labels of objects lose the same numbers
+delete_whole : (v : State) (s o : ℕ) → HasWholeTables v → HasWholeTables (change v s (Delete o))
+delete_whole v s o h = record {
+  current = h.current;
+  subject_integrity = h.subject_integrity;
+  trusted = h.trusted;
+  object_integrity = λ x.
+      has-kept v.object_integrity (stays v o) x
+      ∙ ap (λ b. b && stays v o x) (h.object_integrity x)
+      ∙ sym (has-kept v.object_label (stays v o) x);
+}
 
 -- a granted change keeps the tables of labels whole
 pub change_whole : (v : State) (s : ℕ) (a : Action) → HasWholeTables v → (is_subject v s && names_known v a) ≡ true
@@ -22,6 +48,8 @@ change_whole v s (Get x o) h known = triples_whole v (set.insert v.accesses (s, 
 change_whole v s (Release x o) h known = triples_whole v (set.remove v.accesses (s, o, x)) v.matrix h
 change_whole v s (Give x t o) h known = triples_whole v v.accesses (set.insert v.matrix (t, o, x)) h
 change_whole v s (Rescind x t o) h known = triples_whole v (set.remove v.accesses (t, o, x)) (set.remove v.matrix (t, o, x)) h
+change_whole v s (Create p l i) h known = create_whole v s p l i h
+change_whole v s (Delete o) h known = delete_whole v s o h
 
 -- Each request leaves the tables of labels whole.
 pub after_whole : (v : State) (r : Request) → HasWholeTables v → HasWholeTables (after v r)

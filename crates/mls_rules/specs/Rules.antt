@@ -1,16 +1,18 @@
 -- The rules: the reply to a request, and the state after it.
-use Rattle.std.specs.Prelude.{ℕ, Bool, true, false, ◌&&◌, ◌==◌, Option, Some, None, List, [], ◌∷◌, if◌then◌else◌}
+use Rattle.std.specs.Prelude.{ℕ, ◌+◌, Bool, true, false, not, ◌&&◌, ◌||◌, ◌==◌, nat_lt, Option, Some, None, List, [], ◌∷◌, if◌then◌else◌}
 use Rattle.std.specs.FinSet as set
 use Rattle.std.specs.FinMap as map
-use Rattle.mls_tables.specs.declared.mode.Mode.TheVariants.{Write}
+use Rattle.mls_tables.specs.declared.mode.Mode.TheVariants.{Append, Write}
+use Rattle.mls_tree.specs.Tree.{is_inferior}
+use Rattle.mls_labels.specs.Label.{has_label}
 use Rattle.mls_rules.specs.declared.request.Action.{Action}
-use Rattle.mls_rules.specs.declared.request.Action.TheVariants.{Get, Release, Give, Rescind}
+use Rattle.mls_rules.specs.declared.request.Action.TheVariants.{Get, Release, Give, Rescind, Create, Delete}
 use Rattle.mls_rules.specs.declared.request.Request.{Request}
 use Rattle.mls_rules.specs.declared.request.Reason.{Reason}
-use Rattle.mls_rules.specs.declared.request.Reason.TheVariants.{Discretionary, Simple, Star, Integrity, Authority}
+use Rattle.mls_rules.specs.declared.request.Reason.TheVariants.{Discretionary, Simple, Star, Integrity, Authority, Compatibility, Root, Full}
 use Rattle.mls_rules.specs.declared.request.Reply.{Reply}
 use Rattle.mls_rules.specs.declared.request.Reply.TheVariants.{Yes, Created, No, Undefined}
-use Rattle.mls_rules.specs.State.{State, is_subject, is_active}
+use Rattle.mls_rules.specs.State.{State, is_subject, is_active, is_above}
 use Rattle.mls_rules.specs.Properties.{simple_holds, star_holds, discretionary_holds, integrity_holds}
 
 -- Whether the subject writes the parent, where there is one. (own)
@@ -23,20 +25,36 @@ writes_parent v s (Some p) = set.contains v.accesses (s, p, Write)
 abbrev pub controls : State → ℕ → ℕ → Bool
 controls v s o = if o == 0 then set.contains v.trusted s else writes_parent v s (map.get v.parent o)
 
--- Whether all that an action names is there: subjects are known, and objects active. (own)
+-- Whether an object stays when one is deleted: it is no inferior of that one. (after MTR-2997, rule to delete an object group)
+abbrev pub stays : State → ℕ → ℕ → Bool
+stays v o x = not (is_inferior v.parent x o)
+
+-- The state with just those of its objects that pass the test, and just the triples that name such objects. (own)
+abbrev pub with_objects : State → (ℕ → Bool) → State
+with_objects v passes = record v {
+  object_label = map.retain_keys v.object_label passes;
+  object_integrity = map.retain_keys v.object_integrity passes;
+  parent = map.retain_keys v.parent passes;
+  matrix = set.retain v.matrix (λ t. passes t.1);
+  accesses = set.retain v.accesses (λ t. passes t.1);
+}
+
+-- Whether all that an action names is there: subjects are known, objects active, and labels within the bounds. (own)
 abbrev pub names_known : State → Action → Bool
 names_known v (Get x o) = is_active v o
 names_known v (Release x o) = is_active v o
 names_known v (Give x t o) = is_subject v t && is_active v o
 names_known v (Rescind x t o) = is_subject v t && is_active v o
+names_known v (Create p l i) = is_active v p && (has_label v.security l && has_label v.integrity i)
+names_known v (Delete o) = is_active v o
 
 -- Domain: the caller is known, and all that the action names is there. (MTR-2997, domain of a rule)
 abbrev pub is_defined : State → Request → Bool
 is_defined v r = is_subject v r.subject && names_known v r.action
 
 -- Conditions of an action, in the order in which they are tried, each with the reason of the denial where it fails. (get and release: MTR-2997, rules
--- to get and to release access, with MTR-3153's strict integrity; give and rescind: own, after MTR-2997's rules of these names; the order and the
--- reasons own)
+-- to get and to release access, with MTR-3153's strict integrity; the others own, after MTR-2997's rules of these names; the order and the reasons
+-- own)
 abbrev pub conditions : State → ℕ → Action → List (Reason × Bool)
 conditions v s (Get x o) =
     (Discretionary, discretionary_holds v (s, o, x))
@@ -47,18 +65,27 @@ conditions v s (Get x o) =
 conditions v s (Release x o) = []
 conditions v s (Give x t o) = (Authority, controls v s o) ∷ []
 conditions v s (Rescind x t o) = (Authority, controls v s o) ∷ []
+conditions v s (Create p l i) =
+    (Authority, set.contains v.accesses (s, p, Append) || set.contains v.accesses (s, p, Write))
+    ∷ (Compatibility, is_above (Some l) (map.get v.object_label p))
+    ∷ (Integrity, is_above (map.get v.object_integrity p) (Some i))
+    ∷ (Full, nat_lt v.next 4096)
+    ∷ []
+conditions v s (Delete o) = (Root, not (o == 0)) ∷ (Authority, writes_parent v s (map.get v.parent o)) ∷ []
 
 -- The reason of the first condition that fails. (own)
 abbrev pub first_failing : List (Reason × Bool) → Option Reason
 first_failing [] = None
 first_failing ((reason, holds) ∷ rest) = if holds then first_failing rest else Some reason
 
--- The reply to an action that is granted. (MTR-2997, decision yes)
+-- The reply to an action that is granted; a creation tells the new object's number. (MTR-2997, decision yes; the number own)
 abbrev pub granted : State → Action → Reply
 granted v (Get x o) = Yes
 granted v (Release x o) = Yes
 granted v (Give x t o) = Yes
 granted v (Rescind x t o) = Yes
+granted v (Create p l i) = Created v.next
+granted v (Delete o) = Yes
 
 -- A denial where there is a reason for one, else the grant. (own)
 abbrev pub reply_unless : Option Reason → Reply → Reply
@@ -80,6 +107,13 @@ change v s (Get x o) = record v { accesses = set.insert v.accesses (s, o, x) }
 change v s (Release x o) = record v { accesses = set.remove v.accesses (s, o, x) }
 change v s (Give x t o) = record v { matrix = set.insert v.matrix (t, o, x) }
 change v s (Rescind x t o) = record v { matrix = set.remove v.matrix (t, o, x); accesses = set.remove v.accesses (t, o, x) }
+change v s (Create p l i) = record v {
+  object_label = map.insert v.object_label v.next l;
+  object_integrity = map.insert v.object_integrity v.next i;
+  parent = map.insert v.parent v.next p;
+  next = v.next + 1;
+}
+change v s (Delete o) = with_objects v (stays v o)
 
 -- The new state where the reply is a grant, else the old one. (own)
 abbrev pub after_reply : Reply → State → State → State
@@ -98,6 +132,8 @@ takes_no_room (Get x o) = false
 takes_no_room (Release x o) = true
 takes_no_room (Give x t o) = true
 takes_no_room (Rescind x t o) = true
+takes_no_room (Create p l i) = false
+takes_no_room (Delete o) = false
 
 -- Whether a request needs no memory but for its entry: nothing is granted, or what is granted makes nothing new. (own)
 abbrev pub needs_no_room : Reply → Action → Bool

@@ -1,5 +1,6 @@
 //! Requests, and the replies to them.
 
+use mls_labels::{IntLabel, SecLabel};
 use mls_tables::{Mode, ObjectId, SubjectId};
 
 /// What a subject asks for. The names and numbers of the rules are this project's own.
@@ -13,6 +14,10 @@ pub enum Action {
     Give(Mode, SubjectId, ObjectId),
     /// To permit it no longer, and to end the subject's access with it.
     Rescind(Mode, SubjectId, ObjectId),
+    /// To make an object of these labels below a parent.
+    Create(ObjectId, SecLabel, IntLabel),
+    /// To delete an object and all objects below it.
+    Delete(ObjectId),
 }
 
 /// An action and the subject that asks for it.
