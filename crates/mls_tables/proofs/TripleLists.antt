@@ -9,8 +9,8 @@ use Rattle.mls_tables.specs.declared.mode.Mode.{Mode}
 use Rattle.mls_tables.specs.Mode.{mode_number, ModeSet}
 use Rattle.mls_tables.specs.ModeBits.{contains-insert-mode}
 use Rattle.mls_tables.specs.Triples.{Triple, triple_cmp, is_triple, same_triples, contains-from_list-filter}
-use Rattle.mls_tables.specs.Table.{without_object}
-use Rattle.mls_tables.proofs.Within.{contains-without_object}
+use Rattle.mls_tables.specs.Table.{without_object, without_objects}
+use Rattle.mls_tables.proofs.Within.{contains-without_object, contains-without_objects}
 
 or_swap : (a b : Bool) → (a || b) ≡ (b || a)
 or_swap true true = refl
@@ -55,3 +55,10 @@ from_list-without_object ts o = same_triples _ _ (λ t.
     contains-from_list-filter (λ u. not (nat_eq u.1 o)) ts t
     ∙ and_swap (not (nat_eq t.1 o)) (set.contains (set.from_list ts) t)
     ∙ sym (contains-without_object (set.from_list ts) o t))
+
+-- to keep the triples of a list that are of no object of a group is to take out the group's
+pub from_list-without_objects : (ts : List Triple) (group : List ℕ) → set.from_list {R = triple_cmp} (filter (λ t. not (list_any (λ o. nat_eq o t.1) group)) ts) ≡ without_objects (set.from_list ts) group
+from_list-without_objects ts group = same_triples _ _ (λ t.
+    contains-from_list-filter (λ u. not (list_any (λ o. nat_eq o u.1) group)) ts t
+    ∙ and_swap (not (list_any (λ o. nat_eq o t.1) group)) (set.contains (set.from_list ts) t)
+    ∙ sym (contains-without_objects (set.from_list ts) group t))

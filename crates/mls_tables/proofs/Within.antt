@@ -1,9 +1,12 @@
 -- That each triple names a subject and an object within two bounds, as a set changes.
-use Rattle.std.proofs.Common.{◌≡◌, ℕ, ◌+◌, ◌<◌, Bool, true, false, nat_eq, refl, sym, ap, ◌∙◌, ◌⊎◌, inl, inr, arith}
+use Rattle.std.proofs.Common.{◌≡◌, ℕ, ◌+◌, ◌<◌, Bool, true, false, nat_eq, refl, sym, ap, ◌∙◌, ◌⊎◌, inl, inr, arith, List, [], ◌∷◌}
+use Rattle.std.specs.List.{list_any}
+use Rattle.std.specs.Cmp.{nat_eq_equiv}
+use Rattle.mls_tables.specs.Triples.{same_triples}
 use Rattle.std.specs.Prelude.{not, ◌&&◌, ◌||◌}
 use Rattle.std.specs.FinSet as set
 use Rattle.mls_tables.specs.Triples.{Triple, TripleSet, triple_cmp, is_triple, same_triple, is_triple-true, contains-insert-triple, contains-remove-triple}
-use Rattle.mls_tables.specs.Table.{IsWithin, without_object}
+use Rattle.mls_tables.specs.Table.{IsWithin, without_object, without_objects}
 
 pub IsWithin-empty : (n m : ℕ) → IsWithin n m set.empty
 IsWithin-empty n m t there = let none : set.contains set.empty t ≡ false = set.contains-empty triple_cmp t in let wrong : false ≡ true = sym none ∙ there in absurd (cc)
@@ -36,3 +39,31 @@ IsWithin-without_object n m ts o within t there = within t (both (set.contains t
 -- one column more
 pub IsWithin-more : (n m : ℕ) (ts : TripleSet) → IsWithin n m ts → IsWithin n (m + 1) ts
 IsWithin-more n m ts within t there = let bounds : (t.0 < n) × (t.1 < m) = within t there in (bounds.0, omega (arith, bounds.1))
+
+-- the triples that are of no object of a group
+pub contains-without_objects : (ts : TripleSet) (group : List ℕ) (t : Triple) → set.contains (without_objects ts group) t ≡ (set.contains ts t && not (list_any (λ o. nat_eq o t.1) group))
+contains-without_objects ts group t = set.contains-retain ts (λ u. not (list_any (λ o. nat_eq o u.1) group)) t (λ u tie. ap (λ v. not (list_any (λ o. nat_eq o v.1) group)) (sym (same_triple t u tie)))
+
+pub IsWithin-without_objects : (n m : ℕ) (ts : TripleSet) (group : List ℕ) → IsWithin n m ts → IsWithin n m (without_objects ts group)
+IsWithin-without_objects n m ts group within t there = within t (both (set.contains ts t) (not (list_any (λ o. nat_eq o t.1) group)) (sym (contains-without_objects ts group t) ∙ there)).0
+
+not_either : (a b c : Bool) → ((a && not b) && not c) ≡ (a && not (b || c))
+not_either true true c = refl
+not_either true false c = refl
+not_either false b c = refl
+
+-- to take out one object's triples, and then those of more, is to take out those of all
+pub without_objects-first : (ts : TripleSet) (o : ℕ) (group : List ℕ) → without_objects (without_object ts o) group ≡ without_objects ts (o ∷ group)
+without_objects-first ts o group = same_triples _ _ (λ t.
+    contains-without_objects (without_object ts o) group t
+    ∙ ap (λ b. b && not (list_any (λ x. nat_eq x t.1) group)) (contains-without_object ts o t)
+    ∙ (λ i. (set.contains ts t && not (nat_eq_equiv.symm t.1 o i)) && not (list_any (λ x. nat_eq x t.1) group))
+    ∙ not_either (set.contains ts t) (nat_eq o t.1) (list_any (λ x. nat_eq x t.1) group)
+    ∙ sym (contains-without_objects ts (o ∷ group) t))
+
+-- of no object none goes
+pub without_objects-none : (ts : TripleSet) → without_objects ts [] ≡ ts
+without_objects-none ts = same_triples _ _ (λ t. contains-without_objects ts [] t ∙ and_true (set.contains ts t)) where
+  and_true : (b : Bool) → (b && true) ≡ b
+  and_true true = refl
+  and_true false = refl

@@ -1,5 +1,6 @@
 -- Tables of triples: the value of the access matrix and of the current accesses.
-use Rattle.std.specs.Prelude.{ℕ, ◌<◌, ◌==◌, not, IsTrue, refl}
+use Rattle.std.specs.Prelude.{ℕ, ◌<◌, ◌≤◌, ◌==◌, not, IsTrue, List, length, slice_index, refl}
+use Rattle.std.specs.List.{list_any}
 use Rattle.std.specs.FinSet as set
 use Rattle.std.specs.Coded.{Coded, code_by, coded×, coded_ℕ}
 use Rattle.mls_tables.specs.Triples.{Triple, TripleSet, triple_set_code}
@@ -18,6 +19,14 @@ IsWithin subjects columns triples = (t : Triple) → IsTrue (set.contains triple
 -- The triples that are not of an object. (own)
 abbrev pub without_object : TripleSet → ℕ → TripleSet
 without_object triples o = set.retain triples (λ t. not (t.1 == o))
+
+-- The triples that are of no object of a group. (own)
+abbrev pub without_objects : TripleSet → List ℕ → TripleSet
+without_objects triples group = set.retain triples (λ t. not (list_any (λ o. o == t.1) group))
+
+-- The numbers of a list ascend. (own)
+abbrev pub IsAscending : List ℕ → Type 0
+IsAscending ns = (i j : ℕ) → i ≤ j → j < length ns → slice_index ns i ≤ slice_index ns j
 
 -- A table just made: it has rows for some subjects, no column and no triple. (own)
 abbrev pub empty_table : ℕ → Table

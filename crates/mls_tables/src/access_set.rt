@@ -2,12 +2,13 @@
 ghost use Rattle.std.specs.Prelude.{◌≡◌, ◌<◌, ◌≤◌, ◌+◌, IfOk, OnOk, OnErr, not};
 ghost use Rattle.std.specs.FinSet as set;
 ghost use Rattle.mls_tables.specs.declared.mode.Mode.{Mode as ModeName};
-ghost use Rattle.mls_tables.specs.Table.{IsWithin, empty_table, without_object};
+ghost use Rattle.mls_tables.specs.Triples.{triple_cmp};
+ghost use Rattle.mls_tables.specs.Table.{IsWithin, IsAscending, empty_table, without_object, without_objects};
 
 use crate::ids::{ObjectId, SubjectId};
 use crate::mode::Mode;
 use crate::modes::Modes;
-use crate::triple_list::{Triple, discard, discard_object, holds, modes_at};
+use crate::triple_list::{Triple, discard, discard_group, discard_object, holds, modes_at};
 use std::alloc::{AllocError, Allocator, Global};
 use std::marker::Model;
 
@@ -102,6 +103,13 @@ impl<A: Allocator> AccessSet<A> {
         holds(&self.triples, s, o, x)
     }
 
+    /// The triples, each at least once, in no promised order.
+    pub fn triples(&self) -> &[(SubjectId, ObjectId, Mode)]
+        ensures { set.from_list {R = triple_cmp} result.now ≡ self.now.triples }
+    {
+        &self.triples
+    }
+
     /// Adds a triple, and tells whether it is new. Where memory is refused, nothing has changed.
     pub fn insert(&mut self, s: SubjectId, o: ObjectId, x: Mode) -> Result<bool, AllocError>
         requires subject { s < self.old.subjects }
@@ -133,6 +141,14 @@ impl<A: Allocator> AccessSet<A> {
         ensures { self.new ≡ record self.old { triples = without_object self.old.triples o } }
     {
         discard_object(&mut self.triples, o);
+    }
+
+    /// Takes out the triples of the objects of a group, which ascends. It goes over the triples once.
+    pub fn drop_objects(&mut self, group: &[ObjectId])
+        requires { IsAscending group.now }
+        ensures { self.new ≡ record self.old { triples = without_objects self.old.triples group.now } }
+    {
+        discard_group(&mut self.triples, group);
     }
 
     /// A set with the same rows, columns and triples.

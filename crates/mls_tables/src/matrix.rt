@@ -1,8 +1,8 @@
 //! The access matrix.
-ghost use Rattle.std.specs.Prelude.{◌≡◌, ◌<◌, ◌≤◌, ◌+◌, ◌*◌, ℕ, IfOk, OnOk, OnErr, length, replicate};
+ghost use Rattle.std.specs.Prelude.{◌≡◌, ◌<◌, ◌≤◌, ◌+◌, ◌*◌, ℕ, IfOk, OnOk, OnErr, All, length, replicate};
 ghost use Rattle.std.specs.FinSet as set;
 ghost use Rattle.mls_tables.specs.declared.mode.Mode.{Mode as ModeName};
-ghost use Rattle.mls_tables.specs.Table.{IsWithin, empty_table, without_object};
+ghost use Rattle.mls_tables.specs.Table.{IsWithin, empty_table, without_object, without_objects};
 
 use crate::ids::{ObjectId, SubjectId};
 use crate::mode::Mode;
@@ -138,6 +138,16 @@ impl<A: Allocator> Matrix<A> {
         let from = place(self.subjects, SubjectId(0), o);
         let to = from + usize::from(self.subjects);
         clear(&mut self.cells[from..to]);
+    }
+
+    /// Empties the columns of the objects of a group.
+    pub fn clear_objects(&mut self, group: &[ObjectId])
+        requires { All (λ o. o < self.old.columns) group.now }
+        ensures { self.new ≡ record self.old { triples = without_objects self.old.triples group.now } }
+    {
+        for o in group {
+            self.clear_object(*o);
+        }
     }
 
     /// A matrix with the same rows, columns and triples.

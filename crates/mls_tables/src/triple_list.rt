@@ -4,6 +4,7 @@ ghost use Rattle.std.specs.FinSet as set;
 ghost use Rattle.std.specs.List.{list_any};
 ghost use Rattle.mls_tables.specs.declared.mode.Mode.{Mode as ModeName};
 ghost use Rattle.mls_tables.specs.Triples.{is_triple};
+ghost use Rattle.mls_tables.specs.Table.{IsAscending};
 
 use crate::ids::{ObjectId, SubjectId};
 use crate::mode::Mode;
@@ -54,6 +55,23 @@ pub(crate) fn discard_object<A: Allocator>(triples: &mut Vec<Triple, A>, o: Obje
     ensures { triples.new.items ≡ filter (λ t. not (t.1 == o)) triples.old.items }
 {
     triples.retain(|t| !is_of(t, o));
+}
+
+/// Whether an object is in a group, which is searched by halves.
+fn is_in(group: &[ObjectId], o: ObjectId) -> bool
+    ensures { IsAscending group.now → result ≡ list_any (λ x. x == o) group.now }
+{
+    group
+        .binary_search_by_key(&o.number(), |x| x.number())
+        .is_ok()
+}
+
+/// Takes out the triples of the objects of a group.
+pub fn discard_group<A: Allocator>(triples: &mut Vec<Triple, A>, group: &[ObjectId])
+    requires { IsAscending group.now }
+    ensures { triples.new.items ≡ filter (λ t. not (list_any (λ o. o == t.1) group.now)) triples.old.items }
+{
+    triples.retain(|t| !is_in(group, t.1));
 }
 
 /// The modes, with that of a triple if it is of the subject and the object.
