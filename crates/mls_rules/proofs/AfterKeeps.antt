@@ -5,12 +5,7 @@ use Rattle.mls_rules.specs.declared.request.Reason.{Reason}
 use Rattle.mls_rules.specs.declared.request.Reply.{Reply}
 use Rattle.mls_rules.specs.declared.request.Reply.TheVariants.{Yes, Created, No, Undefined}
 use Rattle.mls_rules.specs.State.{State}
-use Rattle.mls_rules.specs.Rules.{conditions, granted, first_failing, reply_unless, is_defined, change, after_reply, after}
-
--- every condition holds
-abbrev pub AllHold : List (Reason × Bool) → Type 0
-AllHold [] = Unit {0}
-AllHold ((reason, holds) ∷ rest) = (holds ≡ true) × AllHold rest
+use Rattle.mls_rules.specs.Rules.{conditions, AllHold, granted, first_failing, reply_unless, is_defined, change, after_reply, after}
 
 -- the request is in the domain, and every condition of its action holds
 abbrev pub IsGranted : State → Request → Type 0

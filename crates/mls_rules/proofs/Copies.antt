@@ -15,7 +15,8 @@ use Rattle.mls_rules.specs.StateView.{state_of, Agrees}
 use Rattle.mls_rules.specs.First.{first_state, SameCells}
 use Rattle.mls_rules.specs.Numbered.{numbered, places_of}
 use Rattle.mls_rules.proofs.EachTriple.{and_true, first, second}
-use Rattle.mls_rules.proofs.Growing.{kept-push, kept-one, by_number, at_new, elsewhere}
+use Rattle.mls_rules.proofs.Entries.{by_number, at_new, elsewhere}
+use Rattle.mls_rules.proofs.Growing.{kept-push, kept-one}
 use Rattle.mls_rules.proofs.StandardSecure.{Each-empty}
 
 module _ {A B : Type 0} (a : Inside A) (b : Inside B) (h : Agrees a)

@@ -1,28 +1,13 @@
 -- Maps of what is kept of a list, as the list and the tree grow by one.
-use Rattle.std.proofs.Common.{◌≡◌, ℕ, Bool, true, false, cond, List, [], ◌∷◌, ◌++◌, length, Option, Some, None, is_some, refl, sym, ap, ◌∙◌, subst, arith, nat_eq, ◌||◌}
+use Rattle.std.proofs.Common.{◌≡◌, ℕ, Bool, true, false, cond, List, [], ◌∷◌, ◌++◌, length, Option, Some, None, is_some, refl, sym, ap, ◌∙◌, nat_eq, ◌||◌}
 use Rattle.std.specs.Prelude.{◌==◌}
 use Rattle.std.specs.Ordering.{nat_cmp}
-use Rattle.std.specs.Cmp.{nat_cmp_total, unsigned_tied, nat_eq_equiv}
+use Rattle.std.specs.Cmp.{nat_cmp_total}
 use Rattle.std.specs.FinMap as map
 use Rattle.std.specs.FinMap.{FinMap, nat_cmp-IsAntisymmetric}
-use Rattle.std.proofs.lemmas.Bool.Decides.{nat_tests}
 use Rattle.mls_tree.specs.Tree.{is_active}
 use Rattle.mls_rules.specs.Numbered.{numbered, numbered-push, numbered-one}
-use Rattle.mls_rules.proofs.Kept.{get-retained}
-
--- a statement at one number and at each other
-pub by_number : (n o : ℕ) (P : ℕ → Type 0) → P n → (nat_eq o n ≡ false → P o) → P o
-by_number n o P at other = from (nat_eq o n) refl where
-  from : (b : Bool) → nat_eq o n ≡ b → P o
-  from true same = let is : o ≡ n = grind (arith, nat_tests, same) in subst P (sym is) at
-  from false differs = other differs
-
--- a map with one number more, there and elsewhere
-pub elsewhere : {X : Type 0} (m : FinMap nat_cmp X) (n : ℕ) (x : X) (q : ℕ) → nat_eq q n ≡ false → map.get (map.insert m n x) q ≡ map.get m q
-elsewhere m n x q other = map.get-insert nat_cmp_total m n x q ∙ ap (λ b. cond b (Some x) (map.get m q)) (unsigned_tied q n ∙ other)
-
-pub at_new : {X : Type 0} (m : FinMap nat_cmp X) (n : ℕ) (x : X) → map.get (map.insert m n x) n ≡ Some x
-at_new m n x = map.get-insert nat_cmp_total m n x n ∙ ap (λ b. cond b (Some x) (map.get m n)) (unsigned_tied n n ∙ nat_eq_equiv.refl n)
+use Rattle.mls_rules.proofs.Entries.{by_number, at_new, elsewhere, get-kept}
 
 pub or_true : (b : Bool) → (b || true) ≡ true
 or_true true = refl
@@ -47,18 +32,18 @@ module _ {A X : Type 0} (f : A → X) (items : List A) (a : A) (parent : FinMap 
   pub kept-push : (n : ℕ) → n ≡ length items → (is_active parent n ≡ true → ⊥)
       → map.retain_keys (numbered (λ x. Some (f x)) (items ++ a ∷ [])) (is_active (map.insert parent n p)) ≡ map.insert (map.retain_keys (numbered (λ x. Some (f x)) items) (is_active parent)) n (f a)
   kept-push n at new = map.same_map nat_cmp_total nat_cmp-IsAntisymmetric _ _ (λ q.
-      get-retained (numbered (λ x. Some (f x)) (items ++ a ∷ [])) (is_active (map.insert parent n p)) q
+      get-kept (numbered (λ x. Some (f x)) (items ++ a ∷ [])) (is_active (map.insert parent n p)) q
       ∙ ap (λ m. cond (is_active (map.insert parent n p) q) (map.get m q) None) (numbered-push (λ x. Some (f x)) items a (f a) refl ∙ ap (λ k. map.insert (numbered (λ x. Some (f x)) items) k (f a)) (sym at))
       ∙ by_number n q (λ k. cond (is_active (map.insert parent n p) k) (map.get (map.insert (numbered (λ x. Some (f x)) items) n (f a)) k) None ≡ map.get (map.insert (map.retain_keys (numbered (λ x. Some (f x)) items) (is_active parent)) n (f a)) k)
       ((λ i. cond (active_new parent n p i) (at_new (numbered (λ x. Some (f x)) items) n (f a) i) None) ∙ sym (at_new (map.retain_keys (numbered (λ x. Some (f x)) items) (is_active parent)) n (f a)))
       (λ other. (λ i. cond (active_other parent n p q other i) (elsewhere (numbered (λ x. Some (f x)) items) n (f a) q other i) None)
-      ∙ sym (get-retained (numbered (λ x. Some (f x)) items) (is_active parent) q)
+      ∙ sym (get-kept (numbered (λ x. Some (f x)) items) (is_active parent) q)
       ∙ sym (elsewhere (map.retain_keys (numbered (λ x. Some (f x)) items) (is_active parent)) n (f a) q other)))
 
 -- of a list of one item and the tree of the root alone
 pub kept-one : {A X : Type 0} (f : A → X) (a : A) → map.retain_keys (numbered (λ x. Some (f x)) (a ∷ [])) (is_active map.empty) ≡ map.insert map.empty 0 (f a)
 kept-one f a = map.same_map nat_cmp_total nat_cmp-IsAntisymmetric _ _ (λ q.
-    get-retained (numbered (λ x. Some (f x)) (a ∷ [])) (is_active map.empty) q
+    get-kept (numbered (λ x. Some (f x)) (a ∷ [])) (is_active map.empty) q
     ∙ ap (λ m. cond (is_active map.empty q) (map.get m q) None) (numbered-one (λ x. Some (f x)) a (f a) refl)
     ∙ by_number 0 q (λ k. cond (is_active map.empty k) (map.get {R = nat_cmp} (map.insert map.empty 0 (f a)) k) None ≡ map.get {R = nat_cmp} (map.insert map.empty 0 (f a)) k)
     refl

@@ -1,14 +1,11 @@
 -- A list seen as a map from places, of which just the places that a test passes are kept.
-use Rattle.std.proofs.Common.{◌≡◌, ℕ, ◌<◌, Bool, true, false, cond, List, length, Some, None, is_some, refl, sym, ap, ◌∙◌, get_or}
+use Rattle.std.proofs.Common.{◌≡◌, ℕ, ◌<◌, Bool, true, false, cond, List, length, Some, None, is_some, refl, ap, ◌∙◌, get_or}
 use Rattle.std.specs.Ordering.{nat_cmp}
 use Rattle.std.specs.FinMap as map
-use Rattle.std.specs.FinMap.{FinMap, nat_cmp-IsAntisymmetric}
+use Rattle.std.specs.FinMap.{FinMap}
 use Rattle.mls_labels.specs.CategoryBits.{true_below}
+use Rattle.mls_rules.proofs.Entries.{get-kept as entry-kept}
 use Rattle.mls_rules.specs.Numbered.{numbered, is_some-numbered, get-numbered-read}
-
--- what is kept of a map at a number
-pub get-retained : {X : Type 0} (m : FinMap nat_cmp X) (p : ℕ → Bool) (q : ℕ) → map.get (map.retain_keys m p) q ≡ cond (p q) (map.get m q) None
-get-retained m p q = map.get-retain_keys m p q (λ x tie. ap p (sym (nat_cmp-IsAntisymmetric q x tie)))
 
 module _ {A X : Type 0} (f : A → X) (items : List A) (p : ℕ → Bool) where
   kept : FinMap nat_cmp X
@@ -20,9 +17,9 @@ module _ {A X : Type 0} (f : A → X) (items : List A) (p : ℕ → Bool) where
 
   -- the map has a number exactly where the test passes it, if each number that passes is a place of the list
   pub contains-kept : (o : ℕ) → (p o ≡ true → o < length items) → is_some (map.get (map.retain_keys (numbered (λ a. Some (f a)) items) p) o) ≡ p o
-  contains-kept o below = ap is_some (get-retained (numbered (λ a. Some (f a)) items) p o) ∙ kept_when o (p o) refl below
+  contains-kept o below = ap is_some (entry-kept (numbered (λ a. Some (f a)) items) p o) ∙ kept_when o (p o) refl below
 
   -- what the map has at a place that passes
   pub get-kept : (o : ℕ) (x : A) → p o ≡ true → o < length items → x ≡ get_or items o x → map.get (map.retain_keys (numbered (λ a. Some (f a)) items) p) o ≡ Some (f x)
   get-kept o x passes within is =
-      get-retained (numbered (λ a. Some (f a)) items) p o ∙ ap (λ b. cond b (map.get (numbered (λ a. Some (f a)) items) o) None) passes ∙ get-numbered-read (λ a. Some (f a)) items o x within is
+      entry-kept (numbered (λ a. Some (f a)) items) p o ∙ ap (λ b. cond b (map.get (numbered (λ a. Some (f a)) items) o) None) passes ∙ get-numbered-read (λ a. Some (f a)) items o x within is

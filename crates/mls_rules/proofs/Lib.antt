@@ -6,6 +6,8 @@ pub mod Entries
 pub mod Growing
 pub mod Kept
 pub mod LabelsSame
+pub mod NumberedSet
+pub mod Removing
 pub mod Security
 pub mod SecurityGive
 pub mod SecurityTree

@@ -8,7 +8,8 @@ use Rattle.mls_rules.specs.State.{State, is_subject}
 use Rattle.mls_rules.specs.Properties.{IsSecure, HasTree, simple_holds, star_holds, discretionary_holds, integrity_holds}
 use Rattle.mls_rules.specs.Rules.{conditions, change, after, names_known}
 use Rattle.mls_rules.proofs.EachTriple.{Each-insert, Each-remove}
-use Rattle.mls_rules.proofs.AfterKeeps.{AllHold, after_keeps}
+use Rattle.mls_rules.proofs.AfterKeeps.{after_keeps}
+use Rattle.mls_rules.specs.Rules.{AllHold}
 use Rattle.mls_rules.proofs.SecurityGive.{give_secure, rescind_secure}
 use Rattle.mls_rules.proofs.SecurityTree.{create_secure, delete_secure}
 use Rattle.mls_rules.proofs.TreeKept.{change_tree, names_parent}

@@ -19,7 +19,7 @@ use Rattle.mls_rules.specs.Start.{opening}
 use Rattle.mls_rules.specs.Standard.{standard_start, subject_rows, object_rows, plain, secret, top}
 use Rattle.mls_rules.specs.Numbered.{get-numbered}
 use Rattle.mls_rules.proofs.EachTriple.{and_true}
-use Rattle.mls_rules.proofs.Growing.{by_number, at_new, elsewhere}
+use Rattle.mls_rules.proofs.Entries.{by_number, at_new, elsewhere}
 
 -- no triple is in the empty set
 pub Each-empty : (p : Triple → Bool) → Each set.empty p

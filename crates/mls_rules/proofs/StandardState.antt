@@ -14,7 +14,7 @@ use Rattle.mls_rules.specs.First.{first_state, with_triples}
 use Rattle.mls_rules.specs.Start.{opening}
 use Rattle.mls_rules.specs.Standard.{standard_start, subject_rows, object_rows, cells, plain, secret}
 use Rattle.mls_rules.specs.Numbered.{numbered, numbered-one, numbered-push, is_some-numbered}
-use Rattle.mls_rules.proofs.Growing.{at_new, elsewhere, by_number}
+use Rattle.mls_rules.proofs.Entries.{at_new, elsewhere, by_number}
 use Rattle.mls_rules.proofs.Copies.{grown}
 use Rattle.mls_rules.proofs.StandardSecure.{with_triples-from_list}
 

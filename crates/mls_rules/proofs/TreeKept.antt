@@ -15,7 +15,8 @@ use Rattle.mls_rules.specs.Properties.{Each, HasTree, is_known}
 use Rattle.mls_rules.specs.Rules.{conditions, change, after, names_known, stays}
 use Rattle.mls_rules.proofs.EachTriple.{Each-insert, Each-remove, first, second, and_true, or_true, kept_there, kept_passes}
 use Rattle.mls_rules.proofs.Entries.{has-inserted, has-kept}
-use Rattle.mls_rules.proofs.AfterKeeps.{AllHold, after_keeps}
+use Rattle.mls_rules.proofs.AfterKeeps.{after_keeps}
+use Rattle.mls_rules.specs.Rules.{AllHold}
 
 not_zero : (o : ℕ) → not (o == 0) ≡ true → o ≡ 0 → ⊥
 not_zero o other root = let same : nat_eq o 0 ≡ true = grind (arith, nat_tests) in let no : not (nat_eq o 0) ≡ false = ap not same in cc
@@ -40,7 +41,7 @@ create_tree v s p l i h parent room =
     }
 
 -- to delete takes the inferiors out, and the triples that name them
-delete_tree : (v : State) (s o : ℕ) → HasTree v → (o ≡ 0 → ⊥) → HasTree (change v s (Delete o))
+pub delete_tree : (v : State) (s o : ℕ) → HasTree v → (o ≡ 0 → ⊥) → HasTree (change v s (Delete o))
 delete_tree v s o h other =
     let w : State = change v s (Delete o) in
     let leaves = has-kept v.object_label (stays v o) in

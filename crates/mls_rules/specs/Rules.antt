@@ -1,5 +1,5 @@
 -- The rules: the reply to a request, and the state after it.
-use Rattle.std.specs.Prelude.{ℕ, ◌+◌, Bool, true, false, not, ◌&&◌, ◌||◌, ◌==◌, nat_lt, Option, Some, None, List, [], ◌∷◌, if◌then◌else◌}
+use Rattle.std.specs.Prelude.{◌≡◌, ℕ, ◌+◌, Bool, true, false, not, ◌&&◌, ◌||◌, ◌==◌, nat_lt, Option, Some, None, List, [], ◌∷◌, if◌then◌else◌}
 use Rattle.std.specs.FinSet as set
 use Rattle.std.specs.FinMap as map
 use Rattle.mls_tables.specs.declared.mode.Mode.TheVariants.{Append, Write}
@@ -72,6 +72,11 @@ conditions v s (Create p l i) =
     ∷ (Full, nat_lt v.next 4096)
     ∷ []
 conditions v s (Delete o) = (Root, not (o == 0)) ∷ (Authority, writes_parent v s (map.get v.parent o)) ∷ []
+
+-- Every condition holds. (own)
+abbrev pub AllHold : List (Reason × Bool) → Type 0
+AllHold [] = Unit {0}
+AllHold ((reason, holds) ∷ rest) = (holds ≡ true) × AllHold rest
 
 -- The reason of the first condition that fails. (own)
 abbrev pub first_failing : List (Reason × Bool) → Option Reason

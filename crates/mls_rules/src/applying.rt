@@ -2,11 +2,12 @@
 ghost use Rattle.std.specs.Prelude.{◌≡◌, IsTrue, IfOk, IsOk, OnOk, OnErr};
 ghost use Rattle.mls_rules.specs.State.{is_subject};
 ghost use Rattle.mls_rules.specs.Properties.{IsSecure};
-ghost use Rattle.mls_rules.specs.Rules.{names_known, reply, after, change, takes_no_room, needs_no_room};
+ghost use Rattle.mls_rules.specs.Rules.{names_known, conditions, AllHold, reply, after, change, takes_no_room, needs_no_room};
 
 use crate::deciding::decide;
 use crate::request::{Action, Reply, Request};
 use crate::state::State;
+use crate::subject::ObjectLabels;
 use mls_tables::SubjectId;
 use std::alloc::{AllocError, Allocator};
 
@@ -18,6 +19,7 @@ fn make_change<A: Allocator>(
 ) -> Result<(), AllocError>
     requires subject { IsTrue (is_subject state.old s) }
     requires names { IsTrue (names_known state.old action) }
+    requires granted { AllHold (conditions state.old s action) }
     ensures memory { IsTrue (takes_no_room action) → IsOk result }
     ensures ok { OnOk result (state.new ≡ change state.old s action) }
     ensures err { OnErr result (state.new ≡ state.old) }
@@ -31,6 +33,14 @@ fn make_change<A: Allocator>(
         }
         Action::Give(x, t, o) => state.permit(t, o, x),
         Action::Rescind(x, t, o) => state.forbid(t, o, x),
+        Action::Create(p, security, integrity) => {
+            let labels = ObjectLabels {
+                security,
+                integrity,
+            };
+            state.add_object(p, labels)?;
+        }
+        Action::Delete(o) => state.remove_object(o)?,
     }
     Ok(())
 }

@@ -9,6 +9,7 @@ ghost use Rattle.mls_rules.specs.Rules.{is_defined, verdict, reply, writes_paren
 use crate::conditions::{discretionary_holds, integrity_holds, simple_holds, star_holds};
 use crate::request::{Action, Reason, Reply, Request};
 use crate::state::State;
+use mls_labels::{IntLabel, SecLabel};
 use mls_tables::{Mode, ObjectId, SubjectId};
 use std::alloc::Allocator;
 
@@ -22,6 +23,12 @@ fn is_defined<A: Allocator>(state: &State<A>, request: &Request) -> bool
             Action::Give(_, t, o) | Action::Rescind(_, t, o) => {
                 state.is_subject(t) && state.is_active(o)
             }
+            Action::Create(p, l, i) => {
+                state.is_active(p)
+                    && state.security().has(l.label())
+                    && state.integrity().has(i.label())
+            }
+            Action::Delete(o) => state.is_active(o),
         }
 }
 
@@ -84,6 +91,50 @@ fn decide_control<A: Allocator>(state: &State<A>, s: SubjectId, o: ObjectId) -> 
     }
 }
 
+/// The reply to a create in the domain.
+fn decide_create<A: Allocator>(
+    state: &State<A>,
+    s: SubjectId,
+    p: ObjectId,
+    l: SecLabel,
+    i: IntLabel,
+) -> Reply
+    requires subject { IsTrue (is_subject state.now s) }
+    requires object { IsTrue (is_active state.now p) }
+    ensures { result ≡ verdict state.now s (Action.Create p l i) }
+{
+    let held = state.accesses(s, p);
+    if !held.has(Mode::Append) && !held.has(Mode::Write) {
+        return Reply::No(Reason::Authority);
+    }
+    if !l.dominates(&state.object_label(p)) {
+        return Reply::No(Reason::Compatibility);
+    }
+    if !state.object_integrity(p).dominates(&i) {
+        return Reply::No(Reason::Integrity);
+    }
+    let next = state.next();
+    if next >= 4096 {
+        return Reply::No(Reason::Full);
+    }
+    Reply::Created(ObjectId::new(next))
+}
+
+/// The reply to a delete in the domain.
+fn decide_delete<A: Allocator>(state: &State<A>, s: SubjectId, o: ObjectId) -> Reply
+    requires subject { IsTrue (is_subject state.now s) }
+    requires object { IsTrue (is_active state.now o) }
+    ensures { result ≡ verdict state.now s (Action.Delete o) }
+{
+    if o.number() == 0 {
+        return Reply::No(Reason::Root);
+    }
+    if !writes_parent(state, s, o) {
+        return Reply::No(Reason::Authority);
+    }
+    Reply::Yes
+}
+
 /// The reply to a request: `Undefined` outside the domain, else `No` with the first condition of its rule that fails,
 /// else the grant. It changes nothing and takes no memory.
 pub fn decide<A: Allocator>(state: &State<A>, request: &Request) -> Reply
@@ -98,5 +149,7 @@ pub fn decide<A: Allocator>(state: &State<A>, request: &Request) -> Reply
         Action::Give(_, _, o) | Action::Rescind(_, _, o) => {
             decide_control(state, request.subject, o)
         }
+        Action::Create(p, l, i) => decide_create(state, request.subject, p, l, i),
+        Action::Delete(o) => decide_delete(state, request.subject, o),
     }
 }

@@ -25,6 +25,8 @@ pub struct State<A: Allocator = Global> {
     tree: Tree<A>,
     matrix: Matrix<A>,
     accesses: AccessSet<A>,
+    /// Room for the objects that a deletion takes out.
+    group: Vec<ObjectId, A>,
     security: Bounds,
     integrity: Bounds,
 }

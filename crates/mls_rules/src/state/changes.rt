@@ -1,7 +1,8 @@
 //! The changes of a state, each of one part.
-ghost use Rattle.std.specs.Prelude.{◌≡◌, ◌<◌, ◌+◌, IsTrue, IfOk, OnOk, OnErr, not};
+ghost use Rattle.std.specs.Prelude.{◌≡◌, ◌≢◌, ◌<◌, ◌+◌, IsTrue, IfOk, OnOk, OnErr, not};
 ghost use Rattle.std.specs.FinSet as set;
 ghost use Rattle.mls_rules.specs.State.{is_subject, is_active};
+ghost use Rattle.mls_rules.specs.Rules.{with_objects, stays};
 
 use crate::state::State;
 use mls_tables::{Mode, ObjectId, SubjectId};
@@ -46,5 +47,21 @@ impl<A: Allocator> State<A> {
     {
         self.matrix.rescind(s, o, x);
         self.accesses.remove(s, o, x);
+    }
+
+    /// Takes out an object that isn't the root, all objects below it, and the triples that name them. A refusal changes
+    /// nothing.
+    pub(crate) fn remove_object(&mut self, o: ObjectId) -> Result<(), AllocError>
+        requires object { IsTrue (is_active self.old o) }
+        requires other { o ≢ 0 }
+        ensures ok { OnOk result (self.new ≡ with_objects self.old (stays self.old o)) }
+        ensures err { OnErr result (self.new ≡ self.old) }
+    {
+        self.tree.list_inferiors(o, &mut self.group)?;
+        self.matrix.clear_objects(&self.group);
+        self.accesses.drop_objects(&self.group);
+        self.tree.remove_group(&self.group);
+        let _ = self.tree.next();
+        Ok(())
     }
 }

@@ -109,6 +109,7 @@ impl<A: Allocator + Clone> State<A> {
         let mut objects = Vec::new(alloc.clone()?);
         objects.push(root)?;
         let subjects = Vec::from_slice(alloc.clone()?, subjects)?;
+        let group = Vec::new(alloc.clone()?);
         let tree = Tree::new(alloc)?;
         let _ = tree.next();
         Ok(State {
@@ -117,6 +118,7 @@ impl<A: Allocator + Clone> State<A> {
             tree,
             matrix,
             accesses,
+            group,
             security,
             integrity,
         })
@@ -131,7 +133,8 @@ impl<A: Allocator + Clone> State<A> {
             objects: Vec::from_slice(alloc.clone()?, &self.objects)?,
             tree: self.tree.duplicate(alloc.clone()?)?,
             matrix: self.matrix.duplicate(alloc.clone()?)?,
-            accesses: self.accesses.duplicate(alloc)?,
+            accesses: self.accesses.duplicate(alloc.clone()?)?,
+            group: Vec::new(alloc),
             security: self.security,
             integrity: self.integrity,
         })

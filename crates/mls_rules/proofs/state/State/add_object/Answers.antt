@@ -24,6 +24,7 @@ returns-clause-ok g c =
       tree = c.add.new.self;
       matrix = c.widen_matrix.new.matrix;
       accesses = c.widen_accesses.new.accesses;
+      group = c.self.inside.group;
       security = c.self.inside.security;
       integrity = c.self.inside.integrity;
     }) c.self.invariant c.args.labels c.args.parent

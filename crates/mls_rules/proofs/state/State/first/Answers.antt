@@ -11,6 +11,7 @@ invariant_of-result g c =
       tree = c.in_ok-tree.tree;
       matrix = c.add_object.new.self;
       accesses = c.add_object-2.new.self;
+      group = c.new-group.result;
       security = c.args.security;
       integrity = c.args.integrity;
     }) c.args.subjects.now c.args.root (length c.args.subjects.now) c.in_ok-subjects.ensures.items (rw (c.in_ok-push.ensures.items, c.new-objects.ensures.items) refl) c.in_ok-tree.ensures
@@ -26,6 +27,7 @@ returns g c =
       tree = c.in_ok-tree.tree;
       matrix = c.add_object.new.self;
       accesses = c.add_object-2.new.self;
+      group = c.new-group.result;
       security = c.args.security;
       integrity = c.args.integrity;
     }) c.args.subjects.now c.args.root (length c.args.subjects.now) c.in_ok-subjects.ensures.items (rw (c.in_ok-push.ensures.items, c.new-objects.ensures.items) refl) c.in_ok-tree.ensures
