@@ -3,6 +3,8 @@
 
 mod laws;
 mod lists;
+#[cfg(test)]
+mod tests;
 mod tree;
 
 pub use laws::inferiors_reach;
