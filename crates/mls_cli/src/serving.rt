@@ -65,12 +65,16 @@ fn serve_pieces<R: Read, W: Write, A: Allocator, N: Allocator, V: Allocator, L: 
 
 /// Answers a script line by line as the session `session`, and gives how many entries it added.
 ///
-/// Each line that is complete in what was read is answered before the reader is called again. The writer is flushed before each read that
-/// follows an answer, and before the return after one; so hand it a buffered writer. A script has at most `SCRIPT_LIMIT` bytes.
+/// Each line that is complete in what was read is answered before the reader is called again. The writer is flushed
+/// before each read that follows an answer, and before the return after one; so hand it a buffered writer. A script has
+/// at most `SCRIPT_LIMIT` bytes.
 ///
-/// Whatever the result, the monitor is as after the requests that were asked, each with its entry. `Read`: all complete lines were answered.
-/// `Write`: a front of the answers was written, and no line was asked after the one whose answer broke off. `Memory`: the lines before were
-/// answered, and the line that found no memory left no entry. `TooLong`: the lines whose newlines are within the limit were answered.
+/// # Errors
+/// The monitor is always as after the requests that were asked, each with its entry, and keeps its start.
+/// - `Read`: the lines that were complete are answered, and no other line was asked.
+/// - `Write`: a front of the answers is written, and no line was asked after the one whose answer broke off.
+/// - `Memory`: the lines before are answered, and the line that met it added no entry.
+/// - `TooLong`: the lines whose newlines are within the limit are answered.
 pub fn serve<R: Read, W: Write, A: Allocator, B: Allocator, N: Allocator>(
     alloc: A,
     names: &Names<N>,
@@ -94,3 +98,6 @@ pub fn serve<R: Read, W: Write, A: Allocator, B: Allocator, N: Allocator>(
     };
     serve_pieces(&script, monitor, &mut line, &mut buffer, reader, writer)
 }
+
+#[cfg(test)]
+mod tests;

@@ -1,0 +1,325 @@
+//! Scripts whose answers the format fixes, over readers, writers and allocators that fail.
+mod streams;
+
+use crate::lines::cut_line;
+use crate::serving::tests::streams::{Narrow, Pieces, Telling, Waiting};
+use crate::{MAX_LINE, Names, SCRIPT_LIMIT, ServeFault, serve};
+use mls_monitor::{Entry, Monitor};
+use mls_rules::Start;
+use refusing::Refusing;
+use std::alloc::{AllocError, Allocator, Global};
+use std::cell::Cell;
+use std::io::{BufWriter, ErrorKind, Read, Write};
+use std::process::Abort;
+use std::test::Fail;
+
+/// A get, the same again, and a check of it.
+const SHORT: &[u8] = b"ann get-read plans\nann get-read plans\nann check read plans\n";
+
+/// Its answers.
+const SHORT_ANSWERS: &[u8] = b"yes\nyes\nheld\n";
+
+fn standard_names(alloc: Global) -> Result<Names, AllocError> {
+    Names::new(
+        alloc,
+        &["ann", "bob", "sec", "aud"],
+        &["root", "plans", "memo", "tool"],
+    )
+}
+
+fn standard_monitor<A: Allocator + Copy>(alloc: A) -> Result<Monitor<A>, AllocError> {
+    Monitor::open(alloc, Start::standard(alloc)?).map_err(|_| AllocError)
+}
+
+/// What serving as session 7 left: its result, and how many entries of the session.
+#[derive(Clone, Copy, Debug, PartialEq, Eq)]
+struct Left {
+    result: Result<u64, ServeFault>,
+    entries: usize,
+}
+
+/// Serves over a standard monitor that is new.
+fn run<R: Read, W: Write>(
+    alloc: Global,
+    reader: &mut R,
+    writer: &mut W,
+) -> Result<Left, AllocError> {
+    let names = standard_names(alloc)?;
+    let mut monitor = standard_monitor(alloc)?;
+    let result = serve(alloc, &names, &mut monitor, 7, reader, writer);
+    let entries = entries_of_seven(monitor.entries());
+    Ok(Left { result, entries })
+}
+
+fn entries_of_seven(entries: &[Entry]) -> usize {
+    entries.iter().filter(|entry| entry.session == 7).count()
+}
+
+/// Whether a script that comes in pieces of at most `most` bytes is answered so, with so many entries.
+fn is_answered(
+    alloc: Global,
+    script: &[u8],
+    most: usize,
+    answers: &[u8],
+    entries: usize,
+) -> Result<bool, AllocError> {
+    let mut written = Vec::new(alloc);
+    let left = run(alloc, &mut Pieces::new(script, most), &mut written)?;
+    let result = Ok(entries as u64);
+    Ok(left == Left { result, entries } && written.as_slice() == answers)
+}
+
+#[test]
+fn answers_scripts(rt: HostRuntime) -> Result<(), Fail> {
+    let cases: [(&[u8], &[u8], usize); 10] = [
+        (b"", b"", 0),
+        (SHORT, SHORT_ANSWERS, 2),
+        (
+            b"bob get-append plans\nann get-read memo\nann get-append plans\nbob get-read memo\n",
+            b"no integrity\nno integrity\nno discretionary\nno star\n",
+            4,
+        ),
+        (
+            b"ann get-execute tool\nbob get-execute tool\n",
+            b"no integrity\nyes\n",
+            2,
+        ),
+        (
+            b"sec get-write plans\nsec get-write memo\n",
+            b"yes\nno integrity\n",
+            2,
+        ),
+        (
+            b"ann release write plans\nann check write plans\n",
+            b"yes\nnot held\n",
+            1,
+        ),
+        (
+            b"ann frob plans\nzoe get-read plans\nann get-read\n; note\n\n",
+            b"bad form\nbad name\nbad form\n",
+            0,
+        ),
+        (
+            b"ann get-read pl\0ns\nann\tget-read plans\nann get-read plans\r\n",
+            b"bad form\nbad form\nbad form\n",
+            0,
+        ),
+        (
+            b"ann get-read plans\nann get-read pla",
+            b"yes\nbad name\n",
+            1,
+        ),
+        (b"ann get-read plans\nann get-read plans", b"yes\nyes\n", 2),
+    ];
+    for (script, answers, entries) in cases {
+        for most in [1, 7, 65_536] {
+            assert!(rt; is_answered(rt.alloc(), script, most, answers, entries)?);
+        }
+    }
+    Ok(())
+}
+
+#[test]
+fn lines_at_the_bounds(rt: HostRuntime) -> Result<(), Fail> {
+    let cases: [(&[u8], &[u8], usize); 3] = [
+        (b"", b"", 0),
+        (b";", b"", 0),
+        (b"ann get-read plans", b"yes\n", 1),
+    ];
+    for (text, answers, entries) in cases {
+        for most in [6_000, 65_536] {
+            let mut line = Vec::from_slice(rt.alloc(), text)?;
+            line.resize(MAX_LINE, b' ')?;
+            assert!(rt; is_answered(rt.alloc(), &line, most, answers, entries)?);
+            line.push(b' ')?;
+            assert!(rt; is_answered(rt.alloc(), &line, most, b"bad form\n", 0)?);
+            line.resize(100_000, b' ')?;
+            line.extend_from_slice(b"\nann check read plans\n")?;
+            assert!(rt; is_answered(rt.alloc(), &line, most, b"bad form\nnot held\n", 0)?);
+        }
+    }
+    Ok(())
+}
+
+/// Serves so many newlines one by one, and tells how often the reader was called.
+fn newlines(alloc: Global, count: usize) -> Result<(Left, usize), AllocError> {
+    let script = Vec::from_elem(alloc, b'\n', count)?;
+    let mut reader = Pieces::new(&script, 1);
+    let left = run(alloc, &mut reader, &mut Narrow::new(alloc, 0, None))?;
+    Ok((left, reader.calls))
+}
+
+#[test]
+fn a_script_at_its_limit(rt: HostRuntime) -> Result<(), Fail> {
+    for (count, result) in [
+        (SCRIPT_LIMIT, Ok(0)),
+        (SCRIPT_LIMIT + 1, Err(ServeFault::TooLong)),
+    ] {
+        let (left, calls) = newlines(rt.alloc(), count)?;
+        assert_eq!(rt; left, Left { result, entries: 0 });
+        assert_eq!(rt; calls, SCRIPT_LIMIT + 1);
+    }
+    Ok(())
+}
+
+#[test]
+fn answers_before_it_reads_on(rt: HostRuntime) -> Result<(), Fail> {
+    let flushed = Cell::new(0);
+    let mut reader = Waiting {
+        bytes: b"ann get-read plans\n\n; note\nann check read plans\nann get-write plans\nbob get-read memo",
+        steps: &[(19, 0), (8, 4), (12, 4), (32, 4), (14, 13)],
+        step: 0,
+        flushed: &flushed,
+    };
+    let left = run(rt.alloc(), &mut reader, &mut Telling::new(&flushed))?;
+    assert_eq!(rt;
+        left,
+        Left {
+            result: Ok(3),
+            entries: 3
+        }
+    );
+    assert_eq!(rt; flushed.get(), 21);
+    Ok(())
+}
+
+/// How many lines end within the bytes.
+fn count_lines(bytes: &[u8]) -> usize {
+    bytes.iter().filter(|byte| **byte == b'\n').count()
+}
+
+#[test]
+fn reader_fails_after_each_byte(rt: HostRuntime) -> Result<(), Fail> {
+    for count in 0..60 {
+        let front = SHORT.get(..count).unwrap_or(SHORT);
+        let lines = count_lines(front);
+        for most in [1, 65_536] {
+            let mut written = Vec::new(rt.alloc());
+            let left = run(rt.alloc(), &mut Pieces::failing(front, most), &mut written)?;
+            let (result, entries) = (Err(ServeFault::Read), lines.min(2));
+            assert_eq!(rt; left, Left { result, entries });
+            assert!(rt; SHORT_ANSWERS.starts_with(&written) && count_lines(&written) == lines);
+        }
+    }
+    Ok(())
+}
+
+/// Whether the short script into a writer that breaks off after `room` bytes ends so, with no entry after the line whose answer broke off.
+fn breaks_off<W: Write>(
+    alloc: Global,
+    writer: &mut W,
+    room: usize,
+    most: usize,
+) -> Result<bool, AllocError> {
+    let left = run(alloc, &mut Pieces::new(SHORT, most), writer)?;
+    let (result, entries) = (Err(ServeFault::Write), if room < 4 { 1 } else { 2 });
+    Ok(left == Left { result, entries })
+}
+
+/// Whether just the first `room` bytes of the short script's answers were taken.
+fn took(writer: &Narrow, room: usize) -> bool {
+    SHORT_ANSWERS.starts_with(&writer.taken) && writer.taken.len() == room
+}
+
+#[test]
+fn writer_fails_after_each_byte(rt: HostRuntime) -> Result<(), Fail> {
+    for room in 0..13 {
+        for fails in [None, Some(ErrorKind::Interrupted)] {
+            let mut writer = Narrow::new(rt.alloc(), room, fails);
+            assert!(rt; breaks_off(rt.alloc(), &mut writer, room, 65_536)?);
+            assert!(rt; took(&writer, room));
+        }
+        let narrow = Narrow::new(rt.alloc(), room, Some(ErrorKind::Other));
+        let mut writer = BufWriter::new(rt.alloc(), narrow)?;
+        assert!(rt; breaks_off(rt.alloc(), &mut writer, room, 19)?);
+        assert!(rt; took(writer.get_ref(), room));
+    }
+    Ok(())
+}
+
+/// The bytes after so many lines.
+fn after_lines(bytes: &[u8], lines: usize) -> &[u8] {
+    let mut rest = bytes;
+    for _ in 0..lines {
+        let Some((_, more)) = cut_line(rest) else {
+            return &[];
+        };
+        rest = more;
+    }
+    rest
+}
+
+/// A script of six lines, four of which ask for an entry.
+const SIX: &[u8] =
+    b"ann get-read plans\nbob get-read memo\nann check read plans\nfrob\nsec get-write plans\nann release read plans\n";
+
+/// Its answers.
+const SIX_ANSWERS: &[u8] = b"yes\nno star\nheld\nbad form\nyes\nyes\n";
+
+/// Serves what `written` doesn't answer yet of the script of six lines.
+fn run_rest(
+    heap: &Refusing<Global>,
+    names: &Names,
+    monitor: &mut Monitor<&Refusing<Global>>,
+    written: &mut Vec<u8>,
+) -> Left {
+    let mut reader = Pieces::new(after_lines(SIX, count_lines(written)), 11);
+    let result = serve(heap, names, monitor, 7, &mut reader, written);
+    let entries = entries_of_seven(monitor.entries());
+    Left { result, entries }
+}
+
+/// Where the refused allocation was asked for.
+#[derive(Clone, Copy, Debug, PartialEq, Eq)]
+enum Asked {
+    Opening,
+    Serving,
+    Nowhere,
+}
+
+/// Where the allocation of this number is asked for, and whether all is as it must be: written just the answers of the lines before, entries
+/// just theirs, and the rest of the script then answered as in a run that met no refusal.
+fn refuses(alloc: Global, names: &Names, number: u64) -> (Asked, bool) {
+    let heap = Refusing::new(alloc, number);
+    let Ok(mut monitor) = standard_monitor(&heap) else {
+        return (Asked::Opening, true);
+    };
+    let mut written = Vec::new(alloc);
+    let first = run_rest(&heap, names, &mut monitor, &mut written);
+    if !heap.has_refused() {
+        let is_whole = first.result == Ok(4) && first.entries == 4;
+        return (
+            Asked::Nowhere,
+            is_whole && written.as_slice() == SIX_ANSWERS,
+        );
+    }
+    let added = [0, 1, 2, 2, 2, 3, 4].get(count_lines(&written)).copied();
+    let is_front = SIX_ANSWERS.starts_with(&written) && added == Some(first.entries);
+    let second = run_rest(&heap, names, &mut monitor, &mut written);
+    let is_whole = second.result.is_ok() && second.entries == 4;
+    let is_right = first.result == Err(ServeFault::Memory) && is_front && is_whole;
+    (
+        Asked::Serving,
+        is_right && written.as_slice() == SIX_ANSWERS,
+    )
+}
+
+#[test]
+fn each_allocation_refused_in_turn(rt: HostRuntime) -> Result<(), Fail> {
+    let names = standard_names(rt.alloc())?;
+    let mut refusals = 0u32;
+    for number in 1..1000 {
+        let (asked, is_right) = refuses(rt.alloc(), &names, number);
+        assert!(rt; is_right, "at {number}");
+        match asked {
+            Asked::Opening => {}
+            Asked::Serving => refusals = refusals.saturating_add(1),
+            Asked::Nowhere => {
+                assert!(rt; refusals >= 3);
+                return Ok(());
+            }
+        }
+    }
+    assert!(rt; false, "an allocation was refused in each run");
+    Ok(())
+}

@@ -1,0 +1,5 @@
+//! Tests that cross crates: scripts over the standard start, from bytes to bytes, and what is held after them.
+#![tactic(auto)]
+
+#[cfg(test)]
+mod scripts;
