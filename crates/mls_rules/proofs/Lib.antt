@@ -1,4 +1,5 @@
 pub mod AfterKeeps
+pub mod AllTriples
 pub mod Changes
 pub mod Copies
 pub mod EachTriple

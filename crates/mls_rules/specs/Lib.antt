@@ -1,3 +1,4 @@
+pub mod Audit
 pub mod First
 pub mod Numbered
 pub mod Properties

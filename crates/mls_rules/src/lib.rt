@@ -2,6 +2,7 @@
 #![tactic(auto)]
 
 mod applying;
+mod audit;
 mod conditions;
 mod deciding;
 mod request;
@@ -11,6 +12,7 @@ mod state;
 mod subject;
 
 pub use applying::apply;
+pub use audit::is_secure;
 pub use deciding::decide;
 pub use request::{Action, Reason, Reply, Request};
 pub use start::Start;

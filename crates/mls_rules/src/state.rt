@@ -14,6 +14,7 @@ use std::alloc::{AllocError, Allocator, Global};
 use std::marker::Model;
 
 mod changes;
+mod listing;
 mod making;
 
 /// The state of the monitor, the `(b, M, f, H)` of MTR-2997 with integrity labels. Its tables agree and its objects

@@ -26,6 +26,22 @@ impl<A: Allocator> State<A> {
         Ok(new)
     }
 
+    /// Adds a current access without asking whether it may be had, and says whether it is new. It is there to make
+    /// states that aren't secure, for audits: no crate above calls it, and a state with such an access has no promise
+    /// but that its tables agree.
+    ///
+    /// # Errors
+    /// `AllocError` where a growth was refused; the state is then as before.
+    pub fn put_access(&mut self, s: SubjectId, o: ObjectId, x: Mode) -> Result<bool, AllocError>
+        requires subject { IsTrue (is_subject self.old s) }
+        requires object { IsTrue (is_active self.old o) }
+        ensures new { IfOk result (λ new. new ≡ not (set.contains self.old.accesses (s, o, x))) }
+        ensures ok { OnOk result (self.new ≡ record self.old { accesses = set.insert self.old.accesses (s, o, x) }) }
+        ensures err { OnErr result (self.new ≡ self.old) }
+    {
+        self.insert_access(s, o, x)
+    }
+
     /// Takes out a current access, and says whether it was there.
     pub(crate) fn remove_access(&mut self, s: SubjectId, o: ObjectId, x: Mode) -> bool
         requires subject { IsTrue (is_subject self.old s) }
