@@ -10,6 +10,8 @@ mod standard;
 mod start;
 mod state;
 mod subject;
+#[cfg(test)]
+mod tests;
 
 pub use applying::apply;
 pub use audit::is_secure;
