@@ -7,3 +7,4 @@ pub mod Runs
 pub mod Texts
 pub mod TokenLemmas
 pub mod TokensLaw
+pub mod VarLemmas

@@ -9,7 +9,7 @@ use Rattle.mls_cli.specs.declared.serving.ServeFault.{ServeFault}
 use Rattle.mls_cli.specs.declared.serving.ServeFault.TheVariants.{Write, Memory}
 use Rattle.mls_cli.proofs.LineLemmas.{closed_lines-cuts, open_part-cuts, closed_lines-open, open_none, has_newline-joined, last_line}
 use Rattle.mls_cli.proofs.Kept.{kept_of-joined, kept_nothing, kept_something, answer_to-kept, after_line-kept}
-use Rattle.mls_cli.proofs.Runs.{answered_none, stopped_before, replied_one, Answers-trans, Answers-kept, Stops-front, Stops-after, Stops-kept, settled, flush_failed}
+use Rattle.mls_cli.proofs.Runs.{answered_none, answered_all, stopped_before, replied_one, Answers-trans, Answers-kept, Stops-front, Stops-after, Stops-kept, settled, flush_failed}
 
 module _ (names : Names) (session : ℕ) where
   -- how far a piece is answered: the lines before what is left of it
@@ -67,6 +67,12 @@ module _ (names : Names) (session : ℕ) where
       → Feeds names session held holds before after kept keeps piece result
   feeds_alone held holds before after kept keeps piece (Ok x) empty a k line none is = rw (kept_nothing kept line empty is) (a, k)
   feeds_alone held holds before after kept keeps piece (Err fault) empty a k line none is = rw (kept_nothing kept line empty is) a
+
+  -- lines that were answered, whether or not what stands after them could be kept
+  pub answered_then_kept : {X : Type 0} (held holds : Option (List ℕ)) (before after : Standing) (lines : List (List ℕ)) (kept : Result X ServeFault)
+      → Answers names session held holds before after lines → IfErr kept (λ fault. fault ≡ Memory) → AnswersOrStops names session held holds before after lines kept
+  answered_then_kept held holds before after lines (Ok x) a e = a
+  answered_then_kept held holds before after lines (Err fault) a e = rw e (answered_all names session held holds before after lines a)
 
   -- a piece that ends no line
   pub feeds_open : (held : Option (List ℕ)) (before : Standing) (kept keeps piece : List ℕ) (result : Result (Unit {0}) ServeFault)

@@ -6,4 +6,5 @@ pub mod ScriptLine
 pub mod Serve
 pub mod Standard
 pub mod Tokens
+pub mod Vars
 pub mod Words

@@ -1,5 +1,5 @@
 -- What the lines of a script are answered, and what they leave.
-use Rattle.std.specs.Prelude.{ℕ, List, [], ◌∷◌, ◌++◌, length, codes, Bool, true, false, Result, Ok, Err}
+use Rattle.std.specs.Prelude.{ℕ, List, [], ◌∷◌, ◌++◌, length, codes, Bool, true, false, Option, Some, None, Result, Ok, Err}
 use Rattle.std.specs.Fmt.{decimal}
 use Rattle.std.specs.FinSet as set
 use Rattle.mls_rules.specs.State.{State}
@@ -19,6 +19,7 @@ use Rattle.mls_cli.specs.declared.answer.Answer.{Answer}
 use Rattle.mls_cli.specs.declared.answer.Answer.TheVariants.{Nothing, Fault, Held, Replied}
 use Rattle.mls_cli.specs.Names.{Names}
 use Rattle.mls_cli.specs.ScriptLine.{LineView, Blank, Asks, line_of}
+use Rattle.mls_cli.specs.Vars.{with_binding}
 
 -- The word of a reason. (own)
 abbrev pub reason_word : Reason → List ℕ
@@ -81,12 +82,20 @@ said_to s (Ok Blank) = Nothing
 said_to s (Ok (Asks bind (Check t o x))) = Held (set.contains (state_at s).accesses (t, o, x))
 said_to s (Ok (Asks bind (Submit r))) = Replied (reply (state_at s) r)
 
--- What a line leaves: a request its entry, all else nothing. (own)
+-- The variables after a request was replied to: where its line binds one and an object was made, that one is bound to it. (own)
+abbrev pub vars_after : List (List ℕ × ℕ) → Option (List ℕ) → Reply → List (List ℕ × ℕ)
+vars_after vars None r = vars
+vars_after vars (Some name) Yes = vars
+vars_after vars (Some name) (Created o) = with_binding vars name o
+vars_after vars (Some name) (No reason) = vars
+vars_after vars (Some name) Undefined = vars
+
+-- What a line leaves: a request its entry, and its variable bound where it has one and made an object; all else nothing. (own)
 abbrev pub left_by : ℕ → Standing → Result LineView LineFault → Standing
 left_by session s (Err fault) = s
 left_by session s (Ok Blank) = s
 left_by session s (Ok (Asks bind (Check t o x))) = s
-left_by session s (Ok (Asks bind (Submit r))) = record { vars = s.vars; start = s.start; entries = s.entries ++ entry_for session s r ∷ [] }
+left_by session s (Ok (Asks bind (Submit r))) = record { vars = vars_after s.vars bind (reply (state_at s) r); start = s.start; entries = s.entries ++ entry_for session s r ∷ [] }
 
 -- The bytes of the answer to a line. (own)
 unfoldable pub answer_to : Names → Standing → List ℕ → List ℕ

@@ -1,7 +1,9 @@
 //! The step of one line of a script: what it asks of the monitor, and what it is answered.
-ghost use Rattle.std.specs.Prelude.{◌≡◌, IfOk, OnOk, OnErr};
+ghost use Rattle.std.specs.Prelude.{◌≡◌, ◌++◌, ◌∷◌, [], Some, IfOk, OnOk, OnErr};
+ghost use Rattle.mls_rules.specs.Rules.{reply};
+ghost use Rattle.mls_monitor.specs.Journal.{state_of};
 ghost use Rattle.mls_cli.specs.ScriptLine.{line_of};
-ghost use Rattle.mls_cli.specs.Script.{standing_of, said_to, left_by};
+ghost use Rattle.mls_cli.specs.Script.{standing_of, said_to, left_by, vars_after, entry_for};
 
 use crate::ask::{Ask, Line};
 use crate::fault::LineFault;
@@ -9,7 +11,7 @@ use crate::line::read_line;
 use crate::names::Names;
 use crate::vars::Vars;
 use mls_monitor::Monitor;
-use mls_rules::Reply;
+use mls_rules::{Reply, Request};
 use std::alloc::{AllocError, Allocator};
 
 /// What a line is answered.
@@ -25,40 +27,67 @@ pub enum Answer {
     Replied(Reply),
 }
 
-/// A script that is being answered: the names and variables that its lines may use, and the session that it asks in.
+/// A script that is being answered: the names that its lines may use, and the session that it asks in.
 #[derive(Drop)]
-pub struct Script<'n, N: Allocator, V: Allocator> {
+pub struct Script<'n, N: Allocator> {
     pub names: &'n Names<N>,
-    pub vars: Vars<V>,
     pub session: u32,
 }
 
-impl<N: Allocator, V: Allocator> Script<'_, N, V> {
-    /// Asks what a line asks. Want of memory leaves the monitor as it was.
-    pub fn answer<A: Allocator>(
+impl<N: Allocator> Script<'_, N> {
+    /// Asks what a line asks. Want of memory leaves the variables and the monitor as they were.
+    pub fn answer<A: Allocator, V: Allocator + Copy>(
         &self,
+        vars: &mut Vars<V>,
         monitor: &mut Monitor<A>,
         line: &[u8],
     ) -> Result<Answer, AllocError>
-        ensures answer { let before = standing_of self.now.vars monitor.old in
+        ensures answer { let before = standing_of vars.old monitor.old in
             IfOk result (λ a. a ≡ said_to before (line_of self.now.names.now before.vars line.now)) }
-        ensures stands { let before = standing_of self.now.vars monitor.old in
-            OnOk result (standing_of self.now.vars monitor.new
+        ensures stands { let before = standing_of vars.old monitor.old in
+            OnOk result (standing_of vars.new monitor.new
             ≡ left_by self.now.session before (line_of self.now.names.now before.vars line.now)) }
-        ensures err { OnErr result (standing_of self.now.vars monitor.new ≡ standing_of self.now.vars monitor.old) }
+        ensures err { OnErr result (standing_of vars.new monitor.new ≡ standing_of vars.old monitor.old) }
     {
-        match read_line(self.names, &self.vars, line) {
+        match read_line(self.names, vars, line) {
             Err(fault) => Ok(Answer::Fault(fault)),
             Ok(Line::Blank) => Ok(Answer::Nothing),
-            Ok(Line::Ask { ask, .. }) => match ask {
+            Ok(Line::Ask { bind, ask }) => match ask {
                 Ask::Check(subject, object, mode) => {
                     Ok(Answer::Held(monitor.check(subject, object, mode)))
                 }
                 Ask::Submit(request) => {
-                    let entry = monitor.submit(self.session, request)?;
-                    Ok(Answer::Replied(entry.reply))
+                    let reply = match bind {
+                        None => monitor.submit(self.session, request)?.reply,
+                        Some(name) => submit_and_bind(vars, name, monitor, self.session, &request)?,
+                    };
+                    Ok(Answer::Replied(reply))
                 }
             },
         }
     }
+}
+
+/// Asks a request, and binds a variable to the object that it made. The room for the variable is made first, so that an object that
+/// was made is always bound. Want of memory leaves the variables and the monitor as they were.
+fn submit_and_bind<A: Allocator, V: Allocator + Copy>(
+    vars: &mut Vars<V>,
+    name: &str,
+    monitor: &mut Monitor<A>,
+    session: u32,
+    request: &Request,
+) -> Result<Reply, AllocError>
+    ensures reply { IfOk result (λ r. r ≡ reply (state_of monitor.old) request.now) }
+    ensures bound { IfOk result (λ r. vars.new ≡ vars_after vars.old (Some name.now) r) }
+    ensures start { monitor.new.start ≡ monitor.old.start }
+    ensures entries { OnOk result (monitor.new.entries
+        ≡ monitor.old.entries ++ entry_for session (standing_of vars.old monitor.old) request.now ∷ []) }
+    ensures err { OnErr result (standing_of vars.new monitor.new ≡ standing_of vars.old monitor.old) }
+{
+    let copy = vars.bindings.reserve(name)?;
+    let reply = monitor.submit(session, *request)?.reply;
+    if let Reply::Created(object) = reply {
+        vars.bindings.bind(copy, object);
+    }
+    Ok(reply)
 }

@@ -3,6 +3,7 @@
 
 mod answer;
 mod ask;
+mod bindings;
 mod fault;
 mod line;
 mod lines;

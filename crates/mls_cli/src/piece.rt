@@ -9,25 +9,27 @@ use crate::line::MAX_LINE;
 use crate::lines::{cut_line, keep};
 use crate::output::{settle, write_answer};
 use crate::serving::ServeFault;
+use crate::vars::Vars;
 use mls_monitor::Monitor;
 use std::alloc::Allocator;
 use std::io::Write;
 
 /// Answers one line, and marks in `wrote` where it wrote.
-fn reply<W: Write, A: Allocator, N: Allocator, V: Allocator>(
-    script: &Script<'_, N, V>,
+fn reply<W: Write, A: Allocator, N: Allocator, V: Allocator + Copy>(
+    script: &Script<'_, N>,
+    vars: &mut Vars<V>,
     monitor: &mut Monitor<A>,
     line: &[u8],
     writer: &mut W,
     wrote: &mut bool,
 ) -> Result<(), ServeFault>
-    ensures { let before = standing_of script.now.vars monitor.old in
-        let after = standing_of script.now.vars monitor.new in
+    ensures { let before = standing_of vars.old monitor.old in
+        let after = standing_of vars.new monitor.new in
         Replies (W.contents writer.old) (W.contents writer.new) before after
         (answer_to script.now.names.now before line.now)
         (after_line script.now.names.now script.now.session before line.now) result }
 {
-    let Ok(answer) = script.answer(monitor, line) else {
+    let Ok(answer) = script.answer(vars, monitor, line) else {
         return Err(ServeFault::Memory);
     };
     *wrote |= answer != Answer::Nothing;
@@ -35,28 +37,30 @@ fn reply<W: Write, A: Allocator, N: Allocator, V: Allocator>(
 }
 
 /// Answers the lines of a piece that are complete, and gives what stands after them.
-fn answer_lines<'p, W: Write, A: Allocator, N: Allocator, V: Allocator>(
-    script: &Script<'_, N, V>,
+fn answer_lines<'p, W: Write, A: Allocator, N: Allocator, V: Allocator + Copy>(
+    script: &Script<'_, N>,
+    vars: &mut Vars<V>,
     monitor: &mut Monitor<A>,
     piece: &'p [u8],
     writer: &mut W,
     wrote: &mut bool,
 ) -> Result<&'p [u8], ServeFault>
     ensures answered { AnswersOrStops script.now.names.now script.now.session (W.contents writer.old) (W.contents writer.new)
-        (standing_of script.now.vars monitor.old) (standing_of script.now.vars monitor.new) (closed_lines piece.now) result }
+        (standing_of vars.old monitor.old) (standing_of vars.new monitor.new) (closed_lines piece.now) result }
     ensures left { IfOk result (λ left. left.now ≡ open_part piece.now) }
 {
     let mut rest = piece;
     while let Some((line, more)) = cut_line(rest) {
-        reply(script, monitor, line, writer, wrote)?;
+        reply(script, vars, monitor, line, writer, wrote)?;
         rest = more;
     }
     Ok(rest)
 }
 
 /// Answers the line of which `line` was kept and which ends with `last`.
-fn end_line<W: Write, A: Allocator, N: Allocator, V: Allocator, L: Allocator>(
-    script: &Script<'_, N, V>,
+fn end_line<W: Write, A: Allocator, N: Allocator, V: Allocator + Copy, L: Allocator>(
+    script: &Script<'_, N>,
+    vars: &mut Vars<V>,
     monitor: &mut Monitor<A>,
     line: &mut Vec<u8, L>,
     last: &[u8],
@@ -64,8 +68,8 @@ fn end_line<W: Write, A: Allocator, N: Allocator, V: Allocator, L: Allocator>(
     wrote: &mut bool,
 ) -> Result<(), ServeFault>
     requires { vec_len line.old ≤ MAX_LINE + 1 }
-    ensures answered { let before = standing_of script.now.vars monitor.old in
-        let after = standing_of script.now.vars monitor.new in
+    ensures answered { let before = standing_of vars.old monitor.old in
+        let after = standing_of vars.new monitor.new in
         let asked = kept_of (line.old.items ++ last.now) in
         Replies (W.contents writer.old) (W.contents writer.new) before after
         (answer_to script.now.names.now before asked)
@@ -73,14 +77,15 @@ fn end_line<W: Write, A: Allocator, N: Allocator, V: Allocator, L: Allocator>(
     ensures line { OnOk result (line.new.items ≡ []) }
 {
     keep(line, last)?;
-    reply(script, monitor, line, writer, wrote)?;
+    reply(script, vars, monitor, line, writer, wrote)?;
     line.clear();
     Ok(())
 }
 
 /// Answers the lines of a piece that are complete, and keeps what stands after them.
-fn answer_and_keep<W: Write, A: Allocator, N: Allocator, V: Allocator, L: Allocator>(
-    script: &Script<'_, N, V>,
+fn answer_and_keep<W: Write, A: Allocator, N: Allocator, V: Allocator + Copy, L: Allocator>(
+    script: &Script<'_, N>,
+    vars: &mut Vars<V>,
     monitor: &mut Monitor<A>,
     line: &mut Vec<u8, L>,
     piece: &[u8],
@@ -89,16 +94,17 @@ fn answer_and_keep<W: Write, A: Allocator, N: Allocator, V: Allocator, L: Alloca
 ) -> Result<(), ServeFault>
     requires { line.old.items ≡ [] }
     ensures answered { AnswersOrStops script.now.names.now script.now.session (W.contents writer.old) (W.contents writer.new)
-        (standing_of script.now.vars monitor.old) (standing_of script.now.vars monitor.new) (closed_lines piece.now) result }
+        (standing_of vars.old monitor.old) (standing_of vars.new monitor.new) (closed_lines piece.now) result }
     ensures line { OnOk result (line.new.items ≡ kept_of (open_part piece.now)) }
 {
-    let left = answer_lines(script, monitor, piece, writer, wrote)?;
+    let left = answer_lines(script, vars, monitor, piece, writer, wrote)?;
     keep(line, left)
 }
 
 /// Answers the lines that are complete with one more piece, and keeps what stands after them.
-fn answer_piece<W: Write, A: Allocator, N: Allocator, V: Allocator, L: Allocator>(
-    script: &Script<'_, N, V>,
+fn answer_piece<W: Write, A: Allocator, N: Allocator, V: Allocator + Copy, L: Allocator>(
+    script: &Script<'_, N>,
+    vars: &mut Vars<V>,
     monitor: &mut Monitor<A>,
     line: &mut Vec<u8, L>,
     piece: &[u8],
@@ -107,22 +113,23 @@ fn answer_piece<W: Write, A: Allocator, N: Allocator, V: Allocator, L: Allocator
 ) -> Result<(), ServeFault>
     requires { vec_len line.old ≤ MAX_LINE + 1 }
     ensures { Feeds script.now.names.now script.now.session (W.contents writer.old) (W.contents writer.new)
-        (standing_of script.now.vars monitor.old) (standing_of script.now.vars monitor.new)
+        (standing_of vars.old monitor.old) (standing_of vars.new monitor.new)
         line.old.items line.new.items piece.now result }
 {
     if line.is_empty() {
-        return answer_and_keep(script, monitor, line, piece, writer, wrote);
+        return answer_and_keep(script, vars, monitor, line, piece, writer, wrote);
     }
     let Some((last, rest)) = cut_line(piece) else {
         return keep(line, piece);
     };
-    end_line(script, monitor, line, last, writer, wrote)?;
-    answer_and_keep(script, monitor, line, rest, writer, wrote)
+    end_line(script, vars, monitor, line, last, writer, wrote)?;
+    answer_and_keep(script, vars, monitor, line, rest, writer, wrote)
 }
 
 /// Takes one more piece of a script: answers the lines that are complete with it, and flushes the writer where it wrote.
-pub fn take_piece<W: Write, A: Allocator, N: Allocator, V: Allocator, L: Allocator>(
-    script: &Script<'_, N, V>,
+pub fn take_piece<W: Write, A: Allocator, N: Allocator, V: Allocator + Copy, L: Allocator>(
+    script: &Script<'_, N>,
+    vars: &mut Vars<V>,
     monitor: &mut Monitor<A>,
     line: &mut Vec<u8, L>,
     piece: &[u8],
@@ -130,29 +137,30 @@ pub fn take_piece<W: Write, A: Allocator, N: Allocator, V: Allocator, L: Allocat
 ) -> Result<(), ServeFault>
     requires { vec_len line.old ≤ MAX_LINE + 1 }
     ensures { Feeds script.now.names.now script.now.session (W.contents writer.old) (W.contents writer.new)
-        (standing_of script.now.vars monitor.old) (standing_of script.now.vars monitor.new)
+        (standing_of vars.old monitor.old) (standing_of vars.new monitor.new)
         line.old.items line.new.items piece.now result }
 {
     let mut wrote = false;
-    let outcome = answer_piece(script, monitor, line, piece, writer, &mut wrote);
+    let outcome = answer_piece(script, vars, monitor, line, piece, writer, &mut wrote);
     settle(writer, wrote, outcome)
 }
 
 /// Ends a script: answers the line that no newline ends, where it has a byte, and flushes the writer where it wrote.
-pub fn take_end<W: Write, A: Allocator, N: Allocator, V: Allocator>(
-    script: &Script<'_, N, V>,
+pub fn take_end<W: Write, A: Allocator, N: Allocator, V: Allocator + Copy>(
+    script: &Script<'_, N>,
+    vars: &mut Vars<V>,
     monitor: &mut Monitor<A>,
     line: &[u8],
     writer: &mut W,
 ) -> Result<(), ServeFault>
     ensures { (open_line : List ℕ) → has_newline open_line ≡ false → line.now ≡ kept_of open_line →
         AnswersOrStops script.now.names.now script.now.session (W.contents writer.old) (W.contents writer.new)
-        (standing_of script.now.vars monitor.old) (standing_of script.now.vars monitor.new) (lines_of open_line) result }
+        (standing_of vars.old monitor.old) (standing_of vars.new monitor.new) (lines_of open_line) result }
 {
     if line.is_empty() {
         return Ok(());
     }
     let mut wrote = false;
-    let outcome = reply(script, monitor, line, writer, &mut wrote);
+    let outcome = reply(script, vars, monitor, line, writer, &mut wrote);
     settle(writer, wrote, outcome)
 }

@@ -31,8 +31,9 @@ pub enum ServeFault {
 }
 
 /// Serves a script through a buffer, and keeps an unfinished line in `line` between two pieces.
-fn serve_pieces<R: Read, W: Write, A: Allocator, N: Allocator, V: Allocator, L: Allocator>(
-    script: &Script<'_, N, V>,
+fn serve_pieces<R: Read, W: Write, A: Allocator, N: Allocator, V: Allocator + Copy, L: Allocator>(
+    script: &Script<'_, N>,
+    vars: &mut Vars<V>,
     monitor: &mut Monitor<A>,
     line: &mut Vec<u8, L>,
     buffer: &mut [u8],
@@ -43,7 +44,7 @@ fn serve_pieces<R: Read, W: Write, A: Allocator, N: Allocator, V: Allocator, L: 
     requires line { line.old.items ≡ [] }
     ensures { Ends script.now.names.now script.now.session (R.remaining reader.old) (R.remaining reader.new)
         (W.contents writer.old) (W.contents writer.new)
-        (standing_of script.now.vars monitor.old) (standing_of script.now.vars monitor.new) result }
+        (standing_of vars.old monitor.old) (standing_of vars.new monitor.new) result }
 {
     let before = monitor.entries().len();
     let mut room = SCRIPT_LIMIT;
@@ -52,10 +53,17 @@ fn serve_pieces<R: Read, W: Write, A: Allocator, N: Allocator, V: Allocator, L: 
             return Err(ServeFault::Read);
         };
         if count == 0 {
-            take_end(script, monitor, line, writer)?;
+            take_end(script, vars, monitor, line, writer)?;
             return Ok((monitor.entries().len() - before) as u64);
         }
-        take_piece(script, monitor, line, &buffer[..count.min(room)], writer)?;
+        take_piece(
+            script,
+            vars,
+            monitor,
+            line,
+            &buffer[..count.min(room)],
+            writer,
+        )?;
         if count > room {
             return Err(ServeFault::TooLong);
         }
@@ -91,12 +99,17 @@ pub fn serve<R: Read, W: Write, A: Allocator, B: Allocator, N: Allocator>(
         return Err(ServeFault::Memory);
     };
     let mut line = Vec::new(&alloc);
-    let script = Script {
-        names,
-        vars: Vars::new(&alloc),
-        session,
-    };
-    serve_pieces(&script, monitor, &mut line, &mut buffer, reader, writer)
+    let mut vars = Vars::new(&alloc);
+    let script = Script { names, session };
+    serve_pieces(
+        &script,
+        &mut vars,
+        monitor,
+        &mut line,
+        &mut buffer,
+        reader,
+        writer,
+    )
 }
 
 #[cfg(test)]

@@ -2,9 +2,9 @@ use Rattle.std.proofs.Common.{sym, ap, ◌∙◌, string_bytes}
 use Rattle.std.specs.Str.{bytes_eq}
 use Rattle.mls_cli.specs.Names.{bound_to}
 use Rattle.mls_cli.proofs.NameLemmas.{lookup-map}
-use Rattle.mls_cli.proofs.vars.Vars.get.Goals as goal
+use Rattle.mls_cli.proofs.bindings.Bindings.get.Goals as goal
 
 pub returns : goal.returns
 returns g c =
     c.copied.ensures ∙ c.get.ensures.value
-    ∙ sym (lookup-map string_bytes (bytes_eq c.args.name.now) c.self.inside.bindings.entries) ∙ ap (bound_to c.args.name.now) c.self.view_is
+    ∙ sym (lookup-map string_bytes (bytes_eq c.args.name.now) c.self.inside.pairs.entries) ∙ ap (λ b. bound_to c.args.name.now b.bound) c.self.view_is
