@@ -55,3 +55,6 @@ impl<A: Allocator> Vars<A> {
         self.bindings.get(name)
     }
 }
+
+#[cfg(test)]
+mod tests;
