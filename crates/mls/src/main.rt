@@ -1,7 +1,8 @@
 //! The program `mls`: without words it answers the script on standard input over the standard start.
 #![tactic(auto)]
 
-use mls_cli::{ServeFault, serve, standard_start};
+use mls_cli::{LoadFault, ServeFault, serve, standard_start};
+use mls_labels::SchemeFault;
 use mls_monitor::Monitor;
 use std::env::FillError;
 use std::io::BufWriter;
@@ -13,35 +14,60 @@ fn has_words(env: &impl Env) -> bool {
     !matches!(env.arg(1, &mut [0u8; 1]), Err(FillError::NotPresent))
 }
 
-/// Answers the script on standard input as session 0, and gives the number of entries.
-fn serve_input(rt: &HostRuntime) -> Result<u64, ServeFault> {
-    let Ok(loaded) = standard_start(rt.alloc()) else {
-        return Err(ServeFault::Memory);
+/// The line on standard error where memory was refused.
+const NO_MEMORY: &str = "mls: memory";
+
+/// The line on standard error where the standard start was refused.
+fn start_line(fault: LoadFault) -> &'static str {
+    match fault {
+        LoadFault::Scheme(SchemeFault::NoLevels) => "mls: standard: start 3 Scheme 1 NoLevels",
+        LoadFault::Scheme(SchemeFault::TooManyLevels) => {
+            "mls: standard: start 3 Scheme 2 TooManyLevels"
+        }
+        LoadFault::Scheme(SchemeFault::TooManyCategories) => {
+            "mls: standard: start 3 Scheme 3 TooManyCategories"
+        }
+        LoadFault::Scheme(SchemeFault::BadName) => "mls: standard: start 3 Scheme 4 BadName",
+        LoadFault::Scheme(SchemeFault::RepeatedName) => {
+            "mls: standard: start 3 Scheme 5 RepeatedName"
+        }
+        LoadFault::Scheme(SchemeFault::Memory) | LoadFault::Memory => NO_MEMORY,
+    }
+}
+
+/// The line on standard error where serving the script ended before the script did.
+fn serve_line(fault: ServeFault) -> &'static str {
+    match fault {
+        ServeFault::Read => "mls: input: read",
+        ServeFault::Write => "mls: output: write",
+        ServeFault::Memory => NO_MEMORY,
+        ServeFault::TooLong => "mls: input: too long",
+    }
+}
+
+/// Answers the script on standard input as session 0, and gives the number of entries, or the line that tells of a fault.
+fn serve_input(rt: &HostRuntime) -> Result<u64, &'static str> {
+    let loaded = match standard_start(rt.alloc()) {
+        Ok(loaded) => loaded,
+        Err(fault) => return Err(start_line(fault)),
     };
     let Ok(mut monitor) = Monitor::open(rt.alloc(), loaded.start) else {
-        return Err(ServeFault::Memory);
+        return Err(NO_MEMORY);
     };
     let Ok(mut writer) = BufWriter::new(rt.alloc(), rt.stdout()) else {
-        return Err(ServeFault::Memory);
+        return Err(NO_MEMORY);
     };
     let mut reader = rt.stdin();
-    serve(
+    match serve(
         rt.alloc(),
         &loaded.names,
         &mut monitor,
         0,
         &mut reader,
         &mut writer,
-    )
-}
-
-/// The line on standard error that tells of a fault.
-fn fault_line(fault: ServeFault) -> &'static str {
-    match fault {
-        ServeFault::Read => "mls: input: read",
-        ServeFault::Write => "mls: output: write",
-        ServeFault::Memory => "mls: memory",
-        ServeFault::TooLong => "mls: input: too long",
+    ) {
+        Ok(count) => Ok(count),
+        Err(fault) => Err(serve_line(fault)),
     }
 }
 
@@ -57,6 +83,6 @@ fn main(rt: HostRuntime) -> ExitCode {
     }
     match serve_input(&rt) {
         Ok(_) => ExitCode::SUCCESS,
-        Err(fault) => refused(&rt, fault_line(fault), 1),
+        Err(line) => refused(&rt, line, 1),
     }
 }

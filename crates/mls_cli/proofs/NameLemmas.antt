@@ -66,3 +66,7 @@ name_added names i d keys added key below distinct so_far text is =
     let last : added ≡ keys ++ key ∷ [] = is ∙ ap (λ b. if b then keys else keys ++ key ∷ []) new in
     ap (map string_bytes) last ∙ map-append string_bytes keys (key ∷ []) ∙ ap (λ done. done ++ string_bytes key ∷ []) so_far
     ∙ ap (λ k. take i bytes ++ k ∷ []) key_is ∙ sym (take_more bytes i [] within)
+
+-- there are as many keys as names
+pub as_many : {Y : Type 0} (keys : List (String Y)) (names : List (Bor (List ℕ))) → map string_bytes keys ≡ map (λ name. name.now) names → length keys ≡ length names
+as_many keys names same = sym (length-map keys string_bytes) ∙ ap length same ∙ length-map names (λ name. name.now)

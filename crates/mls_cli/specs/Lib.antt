@@ -1,5 +1,6 @@
 pub mod Fault
 pub mod Lines
+pub mod Loading
 pub mod Names
 pub mod Script
 pub mod ScriptLine

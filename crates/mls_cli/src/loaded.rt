@@ -1,11 +1,12 @@
-//! A start with the names of its subjects and objects.
-ghost use Rattle.std.specs.Prelude.{◌≡◌, IfOk};
+//! A start with the names that its lines may use.
+ghost use Rattle.std.specs.Prelude.{◌≡◌, IfOk, IfErr};
 ghost use Rattle.mls_rules.specs.Standard as rules;
 ghost use Rattle.mls_cli.specs.Standard.{standard_names};
 
 use crate::names::Names;
+use mls_labels::{Scheme, SchemeFault};
 use mls_rules::Start;
-use std::alloc::{Allocator, Global};
+use std::alloc::{AllocError, Allocator, Global};
 
 /// A start, and the names that its lines may use.
 #[derive(Drop)]
@@ -14,25 +15,52 @@ pub struct Loaded<A: Allocator = Global> {
     pub start: Start<A>,
 }
 
-/// Why there is no start.
+/// Why there is no start. Where several apply, the first is answered, but want of memory as soon as it is met.
 #[derive(Clone, Copy, Debug, PartialEq, Eq)]
 pub enum LoadFault {
+    /// The names of levels and categories are refused as a scheme, for another cause than memory.
+    Scheme(SchemeFault),
     /// A growth was refused.
     Memory,
 }
 
-/// The standard start: ann, bob, sec and aud, and root, plans, memo and tool.
+impl From<SchemeFault> for LoadFault {
+    ghost use Rattle.std.specs.Prelude.{◌≡◌};
+    ghost use Rattle.mls_cli.specs.Loading.{load_fault};
+
+    ghost from_gives = { λ refused fault. fault ≡ load_fault refused };
+
+    /// Want of memory is `Memory`, whatever met it.
+    fn from(refused: SchemeFault) -> LoadFault {
+        match refused {
+            SchemeFault::Memory => LoadFault::Memory,
+            refused => LoadFault::Scheme(refused),
+        }
+    }
+}
+
+impl From<AllocError> for LoadFault {
+    ghost use Rattle.std.specs.Prelude.{◌≡◌};
+    ghost use Rattle.mls_cli.specs.declared.loaded.LoadFault.TheVariants.{Memory};
+
+    ghost from_gives = { λ _ fault. fault ≡ Memory };
+
+    fn from(_: AllocError) -> LoadFault {
+        LoadFault::Memory
+    }
+}
+
+/// The standard start: ann, bob, sec and aud, and root, plans, memo and tool. It fails for want of memory alone.
 pub fn standard_start<A: Allocator + Copy>(alloc: A) -> Result<Loaded<A>, LoadFault>
     ensures names { IfOk result (λ l. l.names ≡ standard_names) }
     ensures start { IfOk result (λ l. l.start ≡ rules.standard_start) }
+    ensures err { IfErr result (λ fault. fault ≡ LoadFault.Memory) }
 {
+    let security = Scheme::new(alloc, &["U", "C", "S", "T"], &["A", "B"])?;
+    let integrity = Scheme::new(alloc, &["lo", "hi"], &[])?;
     let subjects = ["ann", "bob", "sec", "aud"];
     let objects = ["root", "plans", "memo", "tool"];
-    let Ok(names) = Names::new(alloc, &subjects, &objects) else {
-        return Err(LoadFault::Memory);
-    };
-    match Start::standard(alloc) {
-        Ok(start) => Ok(Loaded { names, start }),
-        Err(_) => Err(LoadFault::Memory),
-    }
+    let names = Names::new(alloc, &subjects, &objects, security, integrity)?;
+    let start = Start::standard(alloc)?;
+    Ok(Loaded { names, start })
 }

@@ -1,8 +1,9 @@
-//! The names of a start's subjects and objects.
+//! The names of a start's subjects and objects, and its schemes of labels.
 ghost use Rattle.std.specs.Prelude.{◌≡◌, ◌<◌, ◌≤◌, length, map, string_bytes, true, IfOk, IfSome};
 ghost use Rattle.mls_cli.specs.Names.{place_of, all_distinct};
 
 use indexmap::IndexSet;
+use mls_labels::Scheme;
 use mls_tables::{ObjectId, SubjectId};
 use std::alloc::{AllocError, Allocator, Global};
 use std::hash::{BuildHasherDefault, FoldHasher};
@@ -11,11 +12,14 @@ use std::marker::Model;
 /// Names, each once, in order. A name's place is its number.
 type NameSet<A> = IndexSet<String<A>, BuildHasherDefault<FoldHasher>, A>;
 
-/// The names of a start's subjects and of its objects. A subject and an object may have one name.
+/// The names of a start's subjects and of its objects, and the schemes of its security and its integrity labels. A subject and an
+/// object may have one name.
 #[derive(Drop)]
 pub struct Names<A: Allocator = Global> {
     subjects: NameSet<A>,
     objects: NameSet<A>,
+    security: Scheme<A>,
+    integrity: Scheme<A>,
 }
 
 impl<A: Allocator> Model for Names<A> {
@@ -26,7 +30,7 @@ impl<A: Allocator> Model for Names<A> {
 
     ghost coded = { names_code };
 
-    ghost view = { λ n. record { subjects = map string_bytes n.subjects.keys; objects = map string_bytes n.objects.keys } };
+    ghost view = { λ n. record { subjects = map string_bytes n.subjects.keys; objects = map string_bytes n.objects.keys; security = n.security; integrity = n.integrity } };
 
     ghost invariant = { λ n. (length n.subjects.keys ≤ 256) × (length n.objects.keys ≤ 4096) };
 }
@@ -45,16 +49,24 @@ fn name_set<A: Allocator + Copy>(alloc: A, names: &[&str]) -> Result<NameSet<A>,
 
 impl<A: Allocator + Copy> Names<A> {
     /// The names of at most 256 subjects and 4,096 objects in their order, no subject's name and no object's twice.
-    pub fn new(alloc: A, subjects: &[&str], objects: &[&str]) -> Result<Names<A>, AllocError>
+    pub fn new(
+        alloc: A,
+        subjects: &[&str],
+        objects: &[&str],
+        security: Scheme<A>,
+        integrity: Scheme<A>,
+    ) -> Result<Names<A>, AllocError>
         requires few_subjects { length subjects.now ≤ 256 }
         requires few_objects { length objects.now ≤ 4096 }
         requires subjects { all_distinct (map (λ name. name.now) subjects.now) ≡ true }
         requires objects { all_distinct (map (λ name. name.now) objects.now) ≡ true }
-        ensures { IfOk result (λ n. n ≡ record { subjects = map (λ name. name.now) subjects.now; objects = map (λ name. name.now) objects.now }) }
+        ensures { IfOk result (λ n. n ≡ record { subjects = map (λ name. name.now) subjects.now; objects = map (λ name. name.now) objects.now; security = security; integrity = integrity }) }
     {
         Ok(Names {
             subjects: name_set(alloc, subjects)?,
             objects: name_set(alloc, objects)?,
+            security,
+            integrity,
         })
     }
 }
@@ -82,5 +94,19 @@ impl<A: Allocator> Names<A> {
     {
         let place = place_in(&self.objects, name)?;
         Some(ObjectId(place as u16))
+    }
+
+    /// The scheme of the security labels.
+    pub fn security(&self) -> &Scheme<A>
+        ensures { result.now ≡ self.now.security }
+    {
+        &self.security
+    }
+
+    /// The scheme of the integrity labels.
+    pub fn integrity(&self) -> &Scheme<A>
+        ensures { result.now ≡ self.now.integrity }
+    {
+        &self.integrity
     }
 }

@@ -1,16 +1,17 @@
 //! Lines whose reading the format fixes, over the names of the standard start.
 use crate::{Ask, Line, LineFault, MAX_LINE, Names, Vars, read_line};
+use mls_labels::{CatSet, Label, LabelFault, Scheme};
 use mls_rules::{Action, Request};
 use mls_tables::{Mode, ObjectId, SubjectId};
-use std::alloc::{AllocError, Global};
+use std::alloc::Global;
 use std::test::Fail;
 
-fn standard_names(alloc: Global) -> Result<Names, AllocError> {
-    Names::new(
-        alloc,
-        &["ann", "bob", "sec", "aud"],
-        &["root", "plans", "memo", "tool"],
-    )
+fn standard_names(alloc: Global) -> Result<Names, Fail> {
+    let security = Scheme::new(alloc, &["U", "C", "S", "T"], &["A", "B"])?;
+    let integrity = Scheme::new(alloc, &["lo", "hi"], &[])?;
+    let subjects = ["ann", "bob", "sec", "aud"];
+    let objects = ["root", "plans", "memo", "tool"];
+    Ok(Names::new(alloc, &subjects, &objects, security, integrity)?)
 }
 
 fn submits(subject: u16, action: Action) -> Ask {
@@ -32,6 +33,13 @@ fn names_have_their_numbers(rt: HostRuntime) -> Result<(), Fail> {
     assert_eq!(rt; names.subject("plans"), None);
     assert_eq!(rt; names.object("tool"), Some(ObjectId(3)));
     assert_eq!(rt; names.object("ann"), None);
+    let plain = CatSet::empty();
+    let high = Label::new(1, plain);
+    let secret = Label::new(2, plain.with(0));
+    assert_eq!(rt; names.security().read("S:A"), Ok(secret));
+    assert_eq!(rt; names.security().read("hi"), Err(LabelFault::UnknownLevel));
+    assert_eq!(rt; names.integrity().read("hi"), Ok(high));
+    assert_eq!(rt; names.integrity().read("S"), Err(LabelFault::UnknownLevel));
     let vars = Vars::new(rt.alloc());
     assert_eq!(rt; vars.get("x"), None);
     Ok(())

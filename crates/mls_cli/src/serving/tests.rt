@@ -3,7 +3,7 @@ mod streams;
 
 use crate::lines::cut_line;
 use crate::serving::tests::streams::{Narrow, Pieces, Telling, Waiting};
-use crate::{MAX_LINE, Names, SCRIPT_LIMIT, ServeFault, serve};
+use crate::{MAX_LINE, Names, SCRIPT_LIMIT, ServeFault, serve, standard_start};
 use mls_monitor::{Entry, Monitor};
 use mls_rules::Start;
 use refusing::Refusing;
@@ -20,11 +20,10 @@ const SHORT: &[u8] = b"ann get-read plans\nann get-read plans\nann check read pl
 const SHORT_ANSWERS: &[u8] = b"yes\nyes\nheld\n";
 
 fn standard_names(alloc: Global) -> Result<Names, AllocError> {
-    Names::new(
-        alloc,
-        &["ann", "bob", "sec", "aud"],
-        &["root", "plans", "memo", "tool"],
-    )
+    let Ok(loaded) = standard_start(alloc) else {
+        return Err(AllocError);
+    };
+    Ok(loaded.names)
 }
 
 fn standard_monitor<A: Allocator + Copy>(alloc: A) -> Result<Monitor<A>, AllocError> {

@@ -1,0 +1,14 @@
+-- Why there is no start.
+use Rattle.mls_labels.specs.declared.scheme_fault.SchemeFault.{SchemeFault}
+use Rattle.mls_labels.specs.declared.scheme_fault.SchemeFault.TheVariants as refused
+use Rattle.mls_cli.specs.declared.loaded.LoadFault.{LoadFault}
+use Rattle.mls_cli.specs.declared.loaded.LoadFault.TheVariants.{Scheme, Memory}
+
+-- The fault of a start whose scheme is refused: want of memory is that, whatever met it. (own)
+abbrev pub load_fault : SchemeFault → LoadFault
+load_fault refused.NoLevels = Scheme refused.NoLevels
+load_fault refused.TooManyLevels = Scheme refused.TooManyLevels
+load_fault refused.TooManyCategories = Scheme refused.TooManyCategories
+load_fault refused.BadName = Scheme refused.BadName
+load_fault refused.RepeatedName = Scheme refused.RepeatedName
+load_fault refused.Memory = Memory
