@@ -1,6 +1,8 @@
 pub mod Kept
 pub mod LineLemmas
 pub mod NameLemmas
+pub mod NumberLemmas
+pub mod NumbersLaw
 pub mod Pieces
 pub mod Progress
 pub mod Runs

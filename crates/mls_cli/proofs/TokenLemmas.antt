@@ -1,12 +1,9 @@
 -- The first token of a line, and names as text.
-use Rattle.std.proofs.Common.{◌≡◌, ℕ, suc, ◌<◌, ◌≤◌, Bool, true, false, cond, ltb, eqb, List, [], ◌∷◌, ◌++◌, length, get_or, take, drop, filter, Some, None, sym, refl, ap, ◌∙◌, subst, append-nil, take-append-drop, arith, ◌⊎◌, inl, inr, lt-ltb, zero, ◌&&◌, Bor, Result, Ok, Err, if◌then◌else◌}
+use Rattle.std.proofs.Common.{◌≡◌, ℕ, suc, ◌<◌, ◌≤◌, Bool, true, false, cond, ltb, eqb, List, [], ◌∷◌, ◌++◌, length, get_or, take, drop, filter, sym, refl, ap, ◌∙◌, subst, append-nil, take-append-drop, arith, ◌⊎◌, inl, inr, lt-ltb, zero, ◌&&◌}
 use Rattle.std.specs.List.{All, slice_split, list_all}
-use Rattle.std.specs.Option.{option_map}
-use Rattle.std.specs.Result.{MatchResult, result_ok}
-use Rattle.std.specs.Str.{IsUtf8}
-use Rattle.std.proofs.lemmas.Str.{IsUtf8-from_ascii}
+use Rattle.std.specs.Str.{IsAscii}
 use Rattle.std.proofs.lemmas.Bool.Decides.{nat_tests}
-use Rattle.mls_cli.specs.Tokens.{is_name, is_name_byte, name_of}
+use Rattle.mls_cli.specs.Tokens.{is_name, is_name_byte}
 use Rattle.std.proofs.Math.Seq.{drop-cons}
 use Rattle.std.proofs.lemmas.Bool.{ne_eqb, cases_lt}
 use Rattle.std.proofs.lemmas.List.{length-take-le, get_or-take, drop_all}
@@ -59,16 +56,6 @@ all_small [] h i = omega arith
 all_small (b ∷ bs) h zero = byte_small b (both (is_name_byte b) (list_all is_name_byte bs) h).0
 all_small (b ∷ bs) h (suc i) = all_small bs (both (is_name_byte b) (list_all is_name_byte bs) h).1 i
 
-name_is_utf8 : (bytes : List ℕ) → is_name bytes ≡ true → IsUtf8 bytes
-name_is_utf8 bytes h = IsUtf8-from_ascii bytes (all_small bytes (both _ (list_all is_name_byte bytes) h).1)
-
-name_is_read : {E : Type 0} (Q : E → Type 0) (bytes : List ℕ) (r : Result (Bor (List ℕ)) E) → IsUtf8 bytes
-    → MatchResult r (λ s. (s.now ≡ bytes) × IsUtf8 bytes) (λ e. ¬ (IsUtf8 bytes) × Q e) → option_map (λ name. name.now) (result_ok r) ≡ Some bytes
-name_is_read Q bytes (Ok s) text cases = ap Some cases.0
-name_is_read Q bytes (Err e) text cases = absurd (cases.0 text)
-
--- a name is read as text
-pub name_as_text : {E : Type 0} (Q : E → Type 0) (bytes : List ℕ) (r : Result (Bor (List ℕ)) E) → is_name bytes ≡ true
-    → MatchResult r (λ s. (s.now ≡ bytes) × IsUtf8 bytes) (λ e. ¬ (IsUtf8 bytes) × Q e) → option_map (λ name. name.now) (result_ok r) ≡ name_of bytes
-name_as_text Q bytes r named cases =
-    name_is_read Q bytes r (name_is_utf8 bytes named) cases ∙ sym (ap (λ b. if b then Some bytes else None) named)
+-- a name is ASCII
+pub name_is_ascii : (bytes : List ℕ) → is_name bytes ≡ true → IsAscii bytes
+name_is_ascii bytes h = all_small bytes (both _ (list_all is_name_byte bytes) h).1

@@ -1,12 +1,15 @@
 -- The faults of a line's parts.
 use Rattle.std.specs.Prelude.{Result, Ok, Err}
 use Rattle.mls_cli.specs.declared.fault.LineFault.{LineFault}
-use Rattle.mls_cli.specs.declared.fault.LineFault.TheVariants.{BadForm, UnknownName}
+use Rattle.mls_cli.specs.declared.fault.LineFault.TheVariants.{BadForm, UnknownName, BadLabel}
 
--- The first of two faults in the order bad form, unknown name. (own)
+-- The first of two faults in the order bad form, unknown name, bad label. (own)
 abbrev pub first_fault : LineFault → LineFault → LineFault
 first_fault BadForm f = BadForm
-first_fault UnknownName f = f
+first_fault UnknownName BadForm = BadForm
+first_fault UnknownName UnknownName = UnknownName
+first_fault UnknownName BadLabel = UnknownName
+first_fault BadLabel f = f
 
 -- Two parts of a line: both, or the first of their faults, wherever it stands in the line. (own)
 abbrev pub both : {X Y : Type 0} → Result X LineFault → Result Y LineFault → Result (X × Y) LineFault

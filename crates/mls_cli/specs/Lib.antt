@@ -2,6 +2,7 @@ pub mod Fault
 pub mod Lines
 pub mod Loading
 pub mod Names
+pub mod Numbers
 pub mod Script
 pub mod ScriptLine
 pub mod Serve

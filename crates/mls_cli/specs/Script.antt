@@ -14,7 +14,7 @@ use Rattle.mls_monitor.specs.declared.entry.Entry.{Entry}
 use Rattle.mls_monitor.specs.Journal.{Monitor, fold}
 use Rattle.mls_cli.specs.declared.ask.Ask.TheVariants.{Submit, Check}
 use Rattle.mls_cli.specs.declared.fault.LineFault.{LineFault}
-use Rattle.mls_cli.specs.declared.fault.LineFault.TheVariants.{BadForm, UnknownName}
+use Rattle.mls_cli.specs.declared.fault.LineFault.TheVariants.{BadForm, UnknownName, BadLabel}
 use Rattle.mls_cli.specs.declared.answer.Answer.{Answer}
 use Rattle.mls_cli.specs.declared.answer.Answer.TheVariants.{Nothing, Fault, Held, Replied}
 use Rattle.mls_cli.specs.Names.{Names}
@@ -44,6 +44,7 @@ reply_text Undefined = codes "undefined"
 abbrev pub fault_text : LineFault → List ℕ
 fault_text BadForm = codes "bad form"
 fault_text UnknownName = codes "bad name"
+fault_text BadLabel = codes "bad label"
 
 -- The text that tells whether an access is held. (own)
 abbrev pub held_text : Bool → List ℕ

@@ -14,7 +14,8 @@ use Rattle.mls_cli.specs.declared.words.Act.TheVariants as act
 use Rattle.mls_cli.specs.declared.words.Word.{Word}
 use Rattle.mls_cli.specs.declared.words.Word.TheVariants as word
 use Rattle.mls_cli.specs.Fault.{both}
-use Rattle.mls_cli.specs.Names.{Names, place_of}
+use Rattle.mls_cli.specs.Names.{Names, place_of, bound_to}
+use Rattle.mls_cli.specs.Numbers.{number_of}
 use Rattle.mls_cli.specs.Tokens.{tokens_of, one_of, two_of, three_of, is_name}
 use Rattle.mls_cli.specs.Words.{mode_of, word_of}
 
@@ -38,13 +39,35 @@ abbrev pub known : Option ℕ → Result ℕ LineFault
 known None = Err UnknownName
 known (Some n) = Ok n
 
--- The subject that a token names. (own)
-abbrev pub subject_of : Names → List ℕ → Result ℕ LineFault
-subject_of names token = if is_name token then known (place_of token names.subjects) else Err BadForm
+-- The number after a `#`, or the fault that there is none. (own)
+abbrev pub numbered : Option ℕ → Result ℕ LineFault
+numbered None = Err BadForm
+numbered (Some n) = Ok n
 
--- The object that a token names. (own)
+-- The subject of a name. (own)
+abbrev pub subject_named : Names → List ℕ → Result ℕ LineFault
+subject_named names token = if is_name token then known (place_of token names.subjects) else Err BadForm
+
+-- The subject that a token names: a NAME, or `#DEC` for the subject of that number, known or not. (own)
+abbrev pub subject_of : Names → List ℕ → Result ℕ LineFault
+subject_of names [] = Err BadForm
+subject_of names (b ∷ token) = if b == 35 then numbered (number_of token) else subject_named names (b ∷ token)
+
+-- The object of a name. (own)
+abbrev pub object_named : Names → List ℕ → Result ℕ LineFault
+object_named names token = if is_name token then known (place_of token names.objects) else Err BadForm
+
+-- The object that a variable is bound to. (own)
+abbrev pub variable_of : List (List ℕ × ℕ) → List ℕ → Result ℕ LineFault
+variable_of vars name = if is_name name then known (bound_to name vars) else Err BadForm
+
+-- The object that a token names: a NAME, `#DEC` for the object of that number, known or not, or `$NAME` for what is bound. (own)
 abbrev pub object_of : Names → List (List ℕ × ℕ) → List ℕ → Result ℕ LineFault
-object_of names vars token = if is_name token then known (place_of token names.objects) else Err BadForm
+object_of names vars [] = Err BadForm
+object_of names vars (b ∷ token) =
+    if b == 35 then numbered (number_of token)
+    else if b == 36 then variable_of vars token
+    else object_named names (b ∷ token)
 
 -- The operand of `get-execute` and the like: `OBJ`. (own)
 abbrev pub object_operand : Names → List (List ℕ × ℕ) → Option (List ℕ) → Result ℕ LineFault

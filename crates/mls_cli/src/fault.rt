@@ -1,6 +1,6 @@
 //! Why a line asks nothing.
 ghost use Rattle.std.specs.Prelude.{◌≡◌};
-ghost use Rattle.mls_cli.specs.Fault.{both as both_parts};
+ghost use Rattle.mls_cli.specs.Fault.{first_fault as first_of, both as both_parts};
 
 use thiserror::Error;
 
@@ -10,9 +10,23 @@ pub enum LineFault {
     /// The line isn't of the form of a line.
     #[error("bad form")]
     BadForm,
-    /// A name isn't that of a subject or an object of the start.
+    /// A name isn't that of a subject or an object of the start, or a variable isn't bound.
     #[error("bad name")]
     UnknownName,
+    /// A label isn't one of its scheme, for whatever cause.
+    #[error("bad label")]
+    BadLabel,
+}
+
+/// The first of two faults, in their order.
+fn first_fault(one: LineFault, other: LineFault) -> LineFault
+    ensures { result ≡ first_of one other }
+{
+    match (one, other) {
+        (LineFault::BadForm, _) | (_, LineFault::BadForm) => LineFault::BadForm,
+        (LineFault::UnknownName, _) | (_, LineFault::UnknownName) => LineFault::UnknownName,
+        (LineFault::BadLabel, LineFault::BadLabel) => LineFault::BadLabel,
+    }
 }
 
 /// Both parts of a line, or the first of their faults.
@@ -24,7 +38,7 @@ pub fn both<T: Copy, U: Copy>(
 {
     match (first, second) {
         (Ok(one), Ok(other)) => Ok((one, other)),
-        (Err(LineFault::BadForm), _) | (_, Err(LineFault::BadForm)) => Err(LineFault::BadForm),
-        (Err(fault), _) | (_, Err(fault)) => Err(fault),
+        (Err(one), Err(other)) => Err(first_fault(one, other)),
+        (Err(fault), Ok(_)) | (Ok(_), Err(fault)) => Err(fault),
     }
 }

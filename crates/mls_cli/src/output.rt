@@ -75,6 +75,7 @@ pub fn write_answer<W: Write>(writer: &mut W, answer: Answer) -> Result<(), Serv
         Answer::Nothing => Ok(()),
         Answer::Fault(LineFault::BadForm) => write_out(writer, b"bad form\n"),
         Answer::Fault(LineFault::UnknownName) => write_out(writer, b"bad name\n"),
+        Answer::Fault(LineFault::BadLabel) => write_out(writer, b"bad label\n"),
         Answer::Held(true) => write_out(writer, b"held\n"),
         Answer::Held(false) => write_out(writer, b"not held\n"),
         Answer::Replied(reply) => write_reply(writer, reply),

@@ -86,6 +86,22 @@ fn reads_what_lines_ask(rt: HostRuntime) -> Result<(), Fail> {
             b"  aud   check  append tool ".as_slice(),
             checks(3, Mode::Append, 3),
         ),
+        (
+            b"#9 get-read plans".as_slice(),
+            submits(9, Action::Get(Mode::Read, ObjectId(1))),
+        ),
+        (
+            b"ann get-read #77".as_slice(),
+            submits(0, Action::Get(Mode::Read, ObjectId(77))),
+        ),
+        (
+            b"#0 check read #65535".as_slice(),
+            checks(0, Mode::Read, 65_535),
+        ),
+        (
+            b"sec give write #65535 #0".as_slice(),
+            submits(2, Action::Give(Mode::Write, SubjectId(65_535), ObjectId(0))),
+        ),
     ];
     for (line, ask) in cases {
         assert_eq!(rt;
@@ -136,6 +152,25 @@ fn names_the_first_fault(rt: HostRuntime) -> Result<(), Fail> {
             b"sec give read bob root root".as_slice(),
             LineFault::BadForm,
         ),
+        (b"ann get-read #65536".as_slice(), LineFault::BadForm),
+        (b"#65536 get-read plans".as_slice(), LineFault::BadForm),
+        (
+            b"ann get-read #18446744073709551616".as_slice(),
+            LineFault::BadForm,
+        ),
+        (b"ann get-read #007".as_slice(), LineFault::BadForm),
+        (b"ann get-read #00".as_slice(), LineFault::BadForm),
+        (b"ann get-read #".as_slice(), LineFault::BadForm),
+        (b"ann get-read #+7".as_slice(), LineFault::BadForm),
+        (b"ann get-read 7".as_slice(), LineFault::UnknownName),
+        (b"ann get-read $".as_slice(), LineFault::BadForm),
+        (b"ann get-read $x.y".as_slice(), LineFault::BadForm),
+        (b"ann get-read $#7".as_slice(), LineFault::BadForm),
+        (b"$ann get-read plans".as_slice(), LineFault::BadForm),
+        (b"zoe get-read #x".as_slice(), LineFault::BadForm),
+        (b"ann get-read $x".as_slice(), LineFault::UnknownName),
+        (b"ann get-read $plans".as_slice(), LineFault::UnknownName),
+        (b"zoe get-read #77".as_slice(), LineFault::UnknownName),
         (b"zoe get-read plans".as_slice(), LineFault::UnknownName),
         (
             b"sec rescind read root root".as_slice(),

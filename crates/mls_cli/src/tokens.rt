@@ -1,5 +1,5 @@
 //! The tokens of a line, as slices of it.
-ghost use Rattle.std.specs.Prelude.{◌≡◌, ◌≢◌, ◌<◌, ◌≤◌, ℕ, List, length, slice_index, [], ◌∷◌, MatchOption, option_map};
+ghost use Rattle.std.specs.Prelude.{◌≡◌, ◌≢◌, ◌<◌, ◌≤◌, ℕ, List, length, slice_index, IsAscii, [], ◌∷◌, MatchOption, option_map};
 ghost use Rattle.std.specs.List.{list_all};
 ghost use Rattle.mls_cli.specs.Tokens.{tokens_of, one_of, two_of, three_of, name_of, Spells};
 ghost use Rattle.mls_cli.specs.Tokens.{is_name_byte as name_byte, is_name as name_test};
@@ -94,12 +94,20 @@ fn is_name(token: &[u8]) -> bool
     !token.is_empty() && token.len() <= 32 && has_name_bytes(token)
 }
 
+/// ASCII bytes as text. They aren't looked at again.
+pub fn as_text(bytes: &[u8]) -> &str
+    requires { IsAscii bytes.now }
+    ensures { result.now ≡ bytes.now }
+{
+    unsafe { str::from_utf8_unchecked(bytes) }
+}
+
 /// The token as a name, where it is one.
 pub fn read_name(token: &[u8]) -> Option<&str>
     ensures { option_map (λ name. name.now) result ≡ name_of token.now }
 {
     if is_name(token) {
-        str::from_utf8(token).ok()
+        Some(as_text(token))
     } else {
         None
     }
