@@ -145,6 +145,28 @@ fn accesses_of<A: Allocator>(rt: &impl Abort, set: &mut AccessSet<A>) -> Result<
     Ok(())
 }
 
+#[test]
+fn a_group_of_objects_leaves(rt: HostRuntime) -> Result<(), Fail> {
+    let mut matrix = matrix_of(&rt, rt.alloc())?;
+    let mut set = AccessSet::new(rt.alloc(), 3)?;
+    accesses_of(&rt, &mut set)?;
+    assert!(rt; matrix.subjects() == 3 && matrix.columns() == 4);
+    assert!(rt; set.subjects() == 3 && set.columns() == 4);
+    assert!(rt; set.triples().len() == 16);
+    let group = [ObjectId(1), ObjectId(3)];
+    matrix.clear_objects(&group);
+    set.drop_objects(&group);
+    assert!(rt; matrix.columns() == 4 && set.columns() == 4);
+    for (o, kept) in [(0, true), (1, false), (2, true), (3, false)] {
+        let (s, o) = (SubjectId(2), ObjectId(o));
+        assert!(rt; matrix.modes(s, o).has(Mode::Read) == kept);
+        assert!(rt; set.contains(s, o, Mode::Append) == kept);
+    }
+    assert!(rt; set.triples().len() == 8);
+    assert!(rt; set.triples().iter().all(|t| t.0 == SubjectId(2) && t.1.0 % 2 == 0));
+    Ok(())
+}
+
 /// Fills both tables and copies them.
 fn filled(rt: &impl Abort, heap: &Refusing<Global>) -> Result<(), AllocError> {
     let matrix = matrix_of(rt, heap)?;
