@@ -1,11 +1,11 @@
 -- What a state has, and what each granted change keeps, the state after any request has.
-use Rattle.std.proofs.Common.{◌≡◌, Bool, true, false, List, [], ◌∷◌, refl, if◌then◌else◌}
+use Rattle.std.proofs.Common.{◌≡◌, Bool, true, false, List, [], ◌∷◌, refl, sym, ap, ◌∙◌, if◌then◌else◌}
 use Rattle.mls_rules.specs.declared.request.Request.{Request}
 use Rattle.mls_rules.specs.declared.request.Reason.{Reason}
 use Rattle.mls_rules.specs.declared.request.Reply.{Reply}
 use Rattle.mls_rules.specs.declared.request.Reply.TheVariants.{Yes, Created, No, Undefined}
 use Rattle.mls_rules.specs.State.{State}
-use Rattle.mls_rules.specs.Rules.{conditions, AllHold, granted, first_failing, reply_unless, is_defined, change, after_reply, after}
+use Rattle.mls_rules.specs.Rules.{conditions, AllHold, granted, first_failing, reply_unless, is_defined, reply, change, after_reply, after}
 
 -- the request is in the domain, and every condition of its action holds
 abbrev pub IsGranted : State → Request → Type 0
@@ -33,3 +33,23 @@ after_keeps P v r kept changed =
     let cs = conditions v r.subject r.action in
     let new = change v r.subject r.action in
     reply_keeps P (is_defined v r) cs (granted v r.action) v new kept (λ defined holds. changed (defined, holds))
+
+-- whether a reply is a grant
+abbrev pub is_grant : Reply → Bool
+is_grant Yes = true
+is_grant (Created o) = true
+is_grant (No reason) = false
+is_grant Undefined = false
+
+unless_holds : (cs : List (Reason × Bool)) (grant : Reply) → is_grant (reply_unless (first_failing cs) grant) ≡ true → AllHold cs
+unless_holds [] grant is = tt
+unless_holds ((reason, true) ∷ rest) grant is = (refl, unless_holds rest grant is)
+unless_holds ((reason, false) ∷ rest) grant is = cc
+
+in_domain : (defined : Bool) (cs : List (Reason × Bool)) (grant : Reply) → is_grant (if defined then reply_unless (first_failing cs) grant else Undefined) ≡ true → AllHold cs
+in_domain true cs grant is = unless_holds cs grant is
+in_domain false cs grant is = cc
+
+-- every condition of a request that is granted holds
+pub grant_holds : (v : State) (r : Request) (x : Reply) → x ≡ reply v r → is_grant x ≡ true → AllHold (conditions v r.subject r.action)
+grant_holds v r x is grant = in_domain (is_defined v r) (conditions v r.subject r.action) (granted v r.action) (ap is_grant (sym is) ∙ grant)

@@ -25,6 +25,10 @@ module _ {X : Type 0} where
   pub at_new : (m : FinMap nat_cmp X) (n : ℕ) (x : X) → map.get (map.insert m n x) n ≡ Some x
   at_new m n x = get-inserted m n x n ∙ ap (λ b. cond b (Some x) (map.get m n)) (nat_eq_equiv.refl n)
 
+  -- at a number that is that of the new entry
+  pub at_same : (m : FinMap nat_cmp X) (n : ℕ) (x : X) (q : ℕ) → nat_eq q n ≡ true → map.get (map.insert m n x) q ≡ Some x
+  at_same m n x q same = get-inserted m n x q ∙ ap (λ b. cond b (Some x) (map.get m q)) same
+
   -- at any other number
   pub elsewhere : (m : FinMap nat_cmp X) (n : ℕ) (x : X) (q : ℕ) → nat_eq q n ≡ false → map.get (map.insert m n x) q ≡ map.get m q
   elsewhere m n x q other = get-inserted m n x q ∙ ap (λ b. cond b (Some x) (map.get m q)) other
@@ -74,6 +78,15 @@ module _ {X : Type 0} where
       ∙ ap (λ e. cond (q k) e None) (get-kept m p k)
       ∙ kept_twice (p k) (q k) (map.get m k)
       ∙ sym (get-kept m (λ k. p k && q k) k))
+
+  -- to enter a value at a number that stays, before or after the others go
+  pub retain_keys-insert : (m : FinMap nat_cmp X) (p : ℕ → Bool) (n : ℕ) (x : X) → p n ≡ true
+      → map.retain_keys (map.insert m n x) p ≡ map.insert (map.retain_keys m p) n x
+  retain_keys-insert m p n x passes = map.same_map nat_cmp_total nat_cmp-IsAntisymmetric _ _ (λ q.
+      get-kept (map.insert m n x) p q
+      ∙ by_number n q (λ k. cond (p k) (map.get (map.insert m n x) k) None ≡ map.get (map.insert (map.retain_keys m p) n x) k)
+      ((λ i. cond (passes i) (at_new m n x i) None) ∙ sym (at_new (map.retain_keys m p) n x))
+      (λ other. ap (λ e. cond (p q) e None) (elsewhere m n x q other) ∙ sym (get-kept m p q) ∙ sym (elsewhere (map.retain_keys m p) n x q other)))
 
   kept_entry : (b : Bool) (e : Option X) (x : X) → cond b e None ≡ Some x → (b ≡ true) × (e ≡ Some x)
   kept_entry true e x is = (refl, is)

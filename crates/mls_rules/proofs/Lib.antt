@@ -7,10 +7,14 @@ pub mod Entries
 pub mod Growing
 pub mod Kept
 pub mod LabelsSame
+pub mod LevelTests
+pub mod Listed
 pub mod NumberedSet
 pub mod Removing
+pub mod Replacing
 pub mod Security
 pub mod SecurityGive
+pub mod SecurityLevels
 pub mod SecurityTree
 pub mod StandardSecure
 pub mod StandardState

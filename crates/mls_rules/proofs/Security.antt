@@ -2,7 +2,7 @@
 use Rattle.std.proofs.Common.{◌≡◌, ℕ, true, ◌&&◌}
 use Rattle.mls_tables.specs.declared.mode.Mode.{Mode}
 use Rattle.mls_rules.specs.declared.request.Action.{Action}
-use Rattle.mls_rules.specs.declared.request.Action.TheVariants.{Get, Release, Give, Rescind, Create, Delete}
+use Rattle.mls_rules.specs.declared.request.Action.TheVariants.{Get, Release, Give, Rescind, Create, Delete, SubjectLevel, ObjectLevel}
 use Rattle.mls_rules.specs.declared.request.Request.{Request}
 use Rattle.mls_rules.specs.State.{State, is_subject}
 use Rattle.mls_rules.specs.Properties.{IsSecure, HasTree, simple_holds, star_holds, discretionary_holds, integrity_holds}
@@ -11,6 +11,7 @@ use Rattle.mls_rules.proofs.EachTriple.{Each-insert, Each-remove}
 use Rattle.mls_rules.proofs.AfterKeeps.{after_keeps}
 use Rattle.mls_rules.specs.Rules.{AllHold}
 use Rattle.mls_rules.proofs.SecurityGive.{give_secure, rescind_secure}
+use Rattle.mls_rules.proofs.SecurityLevels.{subject_level_secure, object_level_secure}
 use Rattle.mls_rules.proofs.SecurityTree.{create_secure, delete_secure}
 use Rattle.mls_rules.proofs.TreeKept.{change_tree, names_parent}
 
@@ -50,6 +51,8 @@ change_secure v s (Rescind x t o) h tree known holds = rescind_secure v s x t o 
 change_secure v s (Create p l i) h tree known (authority, (compatible, (integrity, u))) =
     create_secure v s p l i h tree (names_parent v s p l i known) compatible integrity
 change_secure v s (Delete o) h tree known holds = delete_secure v s o h tree
+change_secure v s (SubjectLevel l) h tree known (under, (star, u)) = subject_level_secure v s l h tree under star
+change_secure v s (ObjectLevel o l) h tree known (authority, (fits, (simple, (star, u)))) = object_level_secure v o l h tree fits simple star
 
 -- Each request leaves a secure state secure.
 pub after_secure : (v : State) (r : Request) → IsSecure v → IsSecure (after v r)

@@ -36,7 +36,7 @@ module _ {A : Type 0} (a : Inside A) where
     pub active-tree : (o : ℕ) → is_active (state_of a) o ≡ tree.is_active a.tree.parent o
     active-tree o = contains-kept (λ (x : ObjectLabels). x.security) a.objects.items (tree.is_active a.tree.parent) o (has_labels o)
 
-    in_tree : (o : ℕ) → is_active (state_of a) o ≡ true → tree.is_active a.tree.parent o ≡ true
+    pub in_tree : (o : ℕ) → is_active (state_of a) o ≡ true → tree.is_active a.tree.parent o ≡ true
     in_tree o active = sym (active-tree o) ∙ active
 
     pub below_next : (o : ℕ) → is_active (state_of a) o ≡ true → o < a.tree.next

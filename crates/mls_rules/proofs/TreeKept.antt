@@ -1,20 +1,22 @@
 -- Each request leaves the objects a tree, and the triples known.
-use Rattle.std.proofs.Common.{◌≡◌, ℕ, true, false, not, ◌&&◌, ◌==◌, nat_eq, ◌<◌, refl, ap, ◌∙◌, arith}
+use Rattle.std.proofs.Common.{◌≡◌, ℕ, true, false, not, ◌&&◌, ◌==◌, nat_eq, ◌<◌, refl, sym, ap, subst, ◌∙◌, arith}
 use Rattle.std.proofs.lemmas.Bool.Decides.{nat_tests}
 use Rattle.std.specs.FinMap as map
 use Rattle.std.specs.FinSet as set
 use Rattle.mls_labels.specs.Label.{Label, has_label}
 use Rattle.mls_tables.specs.Triples.{Triple, TripleSet}
+use Rattle.mls_tree.specs.Tree.{IsTree}
 use Rattle.mls_tree.proofs.Grown.{IsTree-insert}
 use Rattle.mls_tree.proofs.Inferiors.{IsTree-retain}
 use Rattle.mls_rules.specs.declared.request.Action.{Action}
-use Rattle.mls_rules.specs.declared.request.Action.TheVariants.{Get, Release, Give, Rescind, Create, Delete}
+use Rattle.mls_rules.specs.declared.request.Action.TheVariants.{Get, Release, Give, Rescind, Create, Delete, SubjectLevel, ObjectLevel}
 use Rattle.mls_rules.specs.declared.request.Request.{Request}
 use Rattle.mls_rules.specs.State.{State, is_subject, is_active}
 use Rattle.mls_rules.specs.Properties.{Each, HasTree, is_known}
+use Rattle.mls_rules.specs.Levels.{with_object_label}
 use Rattle.mls_rules.specs.Rules.{conditions, change, after, names_known, stays}
 use Rattle.mls_rules.proofs.EachTriple.{Each-insert, Each-remove, first, second, and_true, or_true, kept_there, kept_passes}
-use Rattle.mls_rules.proofs.Entries.{has-inserted, has-kept}
+use Rattle.mls_rules.proofs.Entries.{has-inserted, has-kept, has-replaced}
 use Rattle.mls_rules.proofs.AfterKeeps.{after_keeps}
 use Rattle.mls_rules.specs.Rules.{AllHold}
 
@@ -56,6 +58,22 @@ delete_tree v s o h other =
       matrix_known = known v.matrix h.matrix_known;
     }
 
+-- to relabel an object leaves the same objects active
+pub relabel_tree : (v : State) (o : ℕ) (l : Label) → HasTree v → is_active v o ≡ true → HasTree (with_object_label v o l)
+relabel_tree v o l h active =
+    let w : State = with_object_label v o l in
+    let same = λ (x : ℕ). has-replaced v.object_label o l x active in
+    record {
+      objects = subst (λ is. IsTree v.parent is v.next) (λ i x. sym (same x) i) h.objects;
+      accesses_known = λ t there. known_still v w t refl (λ is. same t.1 ∙ is) (h.accesses_known t there);
+      matrix_known = λ t there. known_still v w t refl (λ is. same t.1 ∙ is) (h.matrix_known t there);
+    }
+
+-- a relabelling in the domain names an active object
+pub names_object : (v : State) (s o : ℕ) (l : Label) → (is_subject v s && names_known v (ObjectLevel o l)) ≡ true → is_active v o ≡ true
+names_object v s o l known =
+    first (is_active v o) (has_label v.security l) (second (is_subject v s) (names_known v (ObjectLevel o l)) known)
+
 -- a creation in the domain names an active parent
 pub names_parent : (v : State) (s p : ℕ) (l i : Label) → (is_subject v s && names_known v (Create p l i)) ≡ true → is_active v p ≡ true
 names_parent v s p l i known =
@@ -87,6 +105,8 @@ change_tree v s (Rescind x t o) h known holds = record {
 change_tree v s (Create p l i) h known (authority, (compatible, (integrity, (room, u)))) =
     create_tree v s p l i h (names_parent v s p l i known) (grind (arith, nat_tests, room))
 change_tree v s (Delete o) h known (not_root, u) = delete_tree v s o h (not_zero o not_root)
+change_tree v s (SubjectLevel l) h known holds = record { objects = h.objects; accesses_known = h.accesses_known; matrix_known = h.matrix_known }
+change_tree v s (ObjectLevel o l) h known holds = relabel_tree v o l h (names_object v s o l known)
 
 -- Each request leaves the objects a tree, and the triples known, also from a state that isn't secure.
 pub after_tree : (v : State) (r : Request) → HasTree v → HasTree (after v r)

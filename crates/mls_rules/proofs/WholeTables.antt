@@ -4,12 +4,15 @@ use Rattle.std.specs.FinSet as set
 use Rattle.mls_labels.specs.Label.{Label}
 use Rattle.mls_tables.specs.Triples.{TripleSet}
 use Rattle.mls_rules.specs.declared.request.Action.{Action}
-use Rattle.mls_rules.specs.declared.request.Action.TheVariants.{Get, Release, Give, Rescind, Create, Delete}
+use Rattle.mls_rules.specs.declared.request.Action.TheVariants.{Get, Release, Give, Rescind, Create, Delete, SubjectLevel, ObjectLevel}
 use Rattle.mls_rules.specs.declared.request.Request.{Request}
-use Rattle.mls_rules.specs.State.{State, is_subject}
+use Rattle.mls_rules.specs.State.{State, is_subject, is_active}
 use Rattle.mls_rules.specs.Properties.{HasWholeTables}
+use Rattle.mls_rules.specs.Levels.{with_current, with_object_label}
 use Rattle.mls_rules.specs.Rules.{change, after, names_known, stays}
-use Rattle.mls_rules.proofs.Entries.{has-inserted, has-kept}
+use Rattle.mls_rules.proofs.EachTriple.{first}
+use Rattle.mls_rules.proofs.Entries.{has-inserted, has-kept, has-replaced}
+use Rattle.mls_rules.proofs.TreeKept.{names_object}
 use Rattle.mls_rules.proofs.AfterKeeps.{after_keeps}
 
 -- other triples leave the tables of labels as they are
@@ -41,6 +44,24 @@ delete_whole v s o h = record {
       ∙ sym (has-kept v.object_label (stays v o) x);
 }
 
+-- the table of current labels has another value for a number that it has
+subject_level_whole : (v : State) (s : ℕ) (l : Label) → HasWholeTables v → is_subject v s ≡ true → HasWholeTables (with_current v s l)
+subject_level_whole v s l h known = record {
+  current = λ q. has-replaced v.current s l q (h.current s ∙ known) ∙ h.current q;
+  subject_integrity = h.subject_integrity;
+  trusted = h.trusted;
+  object_integrity = h.object_integrity;
+}
+
+-- and so has that of the objects' security labels
+object_level_whole : (v : State) (o : ℕ) (l : Label) → HasWholeTables v → is_active v o ≡ true → HasWholeTables (with_object_label v o l)
+object_level_whole v o l h active = record {
+  current = h.current;
+  subject_integrity = h.subject_integrity;
+  trusted = h.trusted;
+  object_integrity = λ x. h.object_integrity x ∙ sym (has-replaced v.object_label o l x active);
+}
+
 -- a granted change keeps the tables of labels whole
 pub change_whole : (v : State) (s : ℕ) (a : Action) → HasWholeTables v → (is_subject v s && names_known v a) ≡ true
     → HasWholeTables (change v s a)
@@ -50,6 +71,8 @@ change_whole v s (Give x t o) h known = triples_whole v v.accesses (set.insert v
 change_whole v s (Rescind x t o) h known = triples_whole v (set.remove v.accesses (t, o, x)) (set.remove v.matrix (t, o, x)) h
 change_whole v s (Create p l i) h known = create_whole v s p l i h
 change_whole v s (Delete o) h known = delete_whole v s o h
+change_whole v s (SubjectLevel l) h known = subject_level_whole v s l h (first (is_subject v s) (names_known v (SubjectLevel l)) known)
+change_whole v s (ObjectLevel o l) h known = object_level_whole v o l h (names_object v s o l known)
 
 -- Each request leaves the tables of labels whole.
 pub after_whole : (v : State) (r : Request) → HasWholeTables v → HasWholeTables (after v r)

@@ -1,5 +1,6 @@
 pub mod Audit
 pub mod First
+pub mod Levels
 pub mod Numbered
 pub mod Properties
 pub mod Rules

@@ -4,16 +4,17 @@ use Rattle.std.specs.FinSet as set
 use Rattle.std.specs.FinMap as map
 use Rattle.mls_tables.specs.declared.mode.Mode.TheVariants.{Append, Write}
 use Rattle.mls_tree.specs.Tree.{is_inferior}
-use Rattle.mls_labels.specs.Label.{has_label}
+use Rattle.mls_labels.specs.Label.{Label, has_label}
 use Rattle.mls_rules.specs.declared.request.Action.{Action}
-use Rattle.mls_rules.specs.declared.request.Action.TheVariants.{Get, Release, Give, Rescind, Create, Delete}
+use Rattle.mls_rules.specs.declared.request.Action.TheVariants.{Get, Release, Give, Rescind, Create, Delete, SubjectLevel, ObjectLevel}
 use Rattle.mls_rules.specs.declared.request.Request.{Request}
 use Rattle.mls_rules.specs.declared.request.Reason.{Reason}
-use Rattle.mls_rules.specs.declared.request.Reason.TheVariants.{Discretionary, Simple, Star, Integrity, Authority, Compatibility, Root, Full}
+use Rattle.mls_rules.specs.declared.request.Reason.TheVariants.{Discretionary, Simple, Star, Integrity, Authority, Compatibility, Ceiling, Root, Full}
 use Rattle.mls_rules.specs.declared.request.Reply.{Reply}
 use Rattle.mls_rules.specs.declared.request.Reply.TheVariants.{Yes, Created, No, Undefined}
 use Rattle.mls_rules.specs.State.{State, is_subject, is_active, is_above}
 use Rattle.mls_rules.specs.Properties.{simple_holds, star_holds, discretionary_holds, integrity_holds}
+use Rattle.mls_rules.specs.Levels.{with_current, with_object_label, each_of_subject, each_of_object, label_fits}
 
 -- Whether the subject writes the parent, where there is one. (own)
 abbrev pub writes_parent : State → ℕ → Option ℕ → Bool
@@ -24,6 +25,15 @@ writes_parent v s (Some p) = set.contains v.accesses (s, p, Write)
 -- write access to the parent)
 abbrev pub controls : State → ℕ → ℕ → Bool
 controls v s o = if o == 0 then set.contains v.trusted s else writes_parent v s (map.get v.parent o)
+
+-- Whether a subject may give an object a label: it is trusted; or the object isn't the root, the subject writes its parent, and both the subject's
+-- current label and the new one dominate the object's. (own, after MTR-2997's rules to change levels)
+abbrev pub may_relabel : State → ℕ → ℕ → Label → Bool
+may_relabel v s o l =
+    set.contains v.trusted s
+    || (not (o == 0)
+    && (writes_parent v s (map.get v.parent o)
+    && (is_above (map.get v.current s) (map.get v.object_label o) && is_above (Some l) (map.get v.object_label o))))
 
 -- Whether an object stays when one is deleted: it is no inferior of that one. (after MTR-2997, rule to delete an object group)
 abbrev pub stays : State → ℕ → ℕ → Bool
@@ -47,6 +57,8 @@ names_known v (Give x t o) = is_subject v t && is_active v o
 names_known v (Rescind x t o) = is_subject v t && is_active v o
 names_known v (Create p l i) = is_active v p && (has_label v.security l && has_label v.integrity i)
 names_known v (Delete o) = is_active v o
+names_known v (SubjectLevel l) = has_label v.security l
+names_known v (ObjectLevel o l) = is_active v o && has_label v.security l
 
 -- Domain: the caller is known, and all that the action names is there. (MTR-2997, domain of a rule)
 abbrev pub is_defined : State → Request → Bool
@@ -72,6 +84,14 @@ conditions v s (Create p l i) =
     ∷ (Full, nat_lt v.next 4096)
     ∷ []
 conditions v s (Delete o) = (Root, not (o == 0)) ∷ (Authority, writes_parent v s (map.get v.parent o)) ∷ []
+conditions v s (SubjectLevel l) =
+    (Ceiling, is_above (map.get v.maximum s) (Some l)) ∷ (Star, each_of_subject v s (star_holds (with_current v s l))) ∷ []
+conditions v s (ObjectLevel o l) =
+    (Authority, may_relabel v s o l)
+    ∷ (Compatibility, label_fits v o l)
+    ∷ (Simple, each_of_object v o (simple_holds (with_object_label v o l)))
+    ∷ (Star, each_of_object v o (star_holds (with_object_label v o l)))
+    ∷ []
 
 -- Every condition holds. (own)
 abbrev pub AllHold : List (Reason × Bool) → Type 0
@@ -91,6 +111,8 @@ granted v (Give x t o) = Yes
 granted v (Rescind x t o) = Yes
 granted v (Create p l i) = Created v.next
 granted v (Delete o) = Yes
+granted v (SubjectLevel l) = Yes
+granted v (ObjectLevel o l) = Yes
 
 -- A denial where there is a reason for one, else the grant. (own)
 abbrev pub reply_unless : Option Reason → Reply → Reply
@@ -119,6 +141,8 @@ change v s (Create p l i) = record v {
   next = v.next + 1;
 }
 change v s (Delete o) = with_objects v (stays v o)
+change v s (SubjectLevel l) = with_current v s l
+change v s (ObjectLevel o l) = with_object_label v o l
 
 -- The new state where the reply is a grant, else the old one. (own)
 abbrev pub after_reply : Reply → State → State → State
@@ -139,6 +163,8 @@ takes_no_room (Give x t o) = true
 takes_no_room (Rescind x t o) = true
 takes_no_room (Create p l i) = false
 takes_no_room (Delete o) = false
+takes_no_room (SubjectLevel l) = true
+takes_no_room (ObjectLevel o l) = true
 
 -- Whether a request needs no memory but for its entry: nothing is granted, or what is granted makes nothing new. (own)
 abbrev pub needs_no_room : Reply → Action → Bool

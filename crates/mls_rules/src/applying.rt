@@ -41,6 +41,8 @@ fn make_change<A: Allocator>(
             state.add_object(p, labels)?;
         }
         Action::Delete(o) => state.remove_object(o)?,
+        Action::SubjectLevel(l) => state.set_current(s, l),
+        Action::ObjectLevel(o, l) => state.set_object_label(o, l),
     }
     Ok(())
 }
@@ -49,7 +51,7 @@ fn make_change<A: Allocator>(
 ///
 /// # Errors
 /// `AllocError` where a growth was refused; the state is then as before. It isn't refused where nothing is granted, nor
-/// for a release, a give or a rescind.
+/// for a release, a give, a rescind or a change of a subject's or an object's level.
 pub fn apply<A: Allocator>(state: &mut State<A>, request: &Request) -> Result<Reply, AllocError>
     ensures reply { IfOk result (λ r. r ≡ reply state.old request.now) }
     ensures ok { OnOk result (state.new ≡ after state.old request.now) }

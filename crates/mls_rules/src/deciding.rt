@@ -3,10 +3,11 @@ ghost use Rattle.std.specs.Prelude.{◌≡◌, IsTrue, if◌then◌else◌};
 ghost use Rattle.mls_rules.specs.declared.request.Reply.TheVariants.{Yes, No};
 ghost use Rattle.mls_rules.specs.declared.request.Reason.TheVariants.{Authority};
 ghost use Rattle.mls_rules.specs.State.{is_subject, is_active};
-ghost use Rattle.std.specs.FinMap as map;
-ghost use Rattle.mls_rules.specs.Rules.{is_defined, verdict, reply, writes_parent, controls};
+ghost use Rattle.mls_rules.specs.Rules.{is_defined, verdict, reply, controls};
 
+use crate::authority::{controls, writes_parent};
 use crate::conditions::{discretionary_holds, integrity_holds, simple_holds, star_holds};
+use crate::levels::{decide_object_level, decide_subject_level};
 use crate::request::{Action, Reason, Reply, Request};
 use crate::state::State;
 use mls_labels::{IntLabel, SecLabel};
@@ -29,6 +30,8 @@ fn is_defined<A: Allocator>(state: &State<A>, request: &Request) -> bool
                     && state.integrity().has(i.label())
             }
             Action::Delete(o) => state.is_active(o),
+            Action::SubjectLevel(l) => state.security().has(l.label()),
+            Action::ObjectLevel(o, l) => state.is_active(o) && state.security().has(l.label()),
         }
 }
 
@@ -51,31 +54,6 @@ fn decide_get<A: Allocator>(state: &State<A>, s: SubjectId, o: ObjectId, x: Mode
         return Reply::No(Reason::Integrity);
     }
     Reply::Yes
-}
-
-/// Whether the subject writes the parent of an object that has one.
-fn writes_parent<A: Allocator>(state: &State<A>, s: SubjectId, o: ObjectId) -> bool
-    requires subject { IsTrue (is_subject state.now s) }
-    requires object { IsTrue (is_active state.now o) }
-    ensures { result ≡ writes_parent state.now s (map.get state.now.parent o) }
-{
-    match state.parent(o) {
-        Some(p) => state.has_access(s, p, Mode::Write),
-        None => false,
-    }
-}
-
-/// Whether the subject controls who may access the object.
-fn controls<A: Allocator>(state: &State<A>, s: SubjectId, o: ObjectId) -> bool
-    requires subject { IsTrue (is_subject state.now s) }
-    requires object { IsTrue (is_active state.now o) }
-    ensures { result ≡ controls state.now s o }
-{
-    if o.number() == 0 {
-        state.is_trusted(s)
-    } else {
-        writes_parent(state, s, o)
-    }
 }
 
 /// The reply to an action in the domain that takes control of the object.
@@ -151,5 +129,7 @@ pub fn decide<A: Allocator>(state: &State<A>, request: &Request) -> Reply
         }
         Action::Create(p, l, i) => decide_create(state, request.subject, p, l, i),
         Action::Delete(o) => decide_delete(state, request.subject, o),
+        Action::SubjectLevel(l) => decide_subject_level(state, request.subject, l),
+        Action::ObjectLevel(o, l) => decide_object_level(state, request.subject, o, l),
     }
 }

@@ -3,8 +3,11 @@
 
 mod applying;
 mod audit;
+mod authority;
 mod conditions;
 mod deciding;
+mod laws;
+mod levels;
 mod request;
 mod standard;
 mod start;
@@ -16,6 +19,7 @@ mod tests;
 pub use applying::apply;
 pub use audit::is_secure;
 pub use deciding::decide;
+pub use laws::tests_are_of_all;
 pub use request::{Action, Reason, Reply, Request};
 pub use start::Start;
 pub use state::State;

@@ -18,6 +18,10 @@ pub enum Action {
     Create(ObjectId, SecLabel, IntLabel),
     /// To delete an object and all objects below it.
     Delete(ObjectId),
+    /// To go to another current label of one's own.
+    SubjectLevel(SecLabel),
+    /// To give an object another security label.
+    ObjectLevel(ObjectId, SecLabel),
 }
 
 /// An action and the subject that asks for it.

@@ -1,5 +1,5 @@
 //! The state: subjects, objects, the matrix and the current accesses.
-ghost use Rattle.std.specs.Prelude.{◌≡◌, ◌<◌, IsTrue, Some, IfOk, OnOk, OnErr, not, nat_lt, ℕ};
+ghost use Rattle.std.specs.Prelude.{◌≡◌, ◌<◌, IsTrue, Some, IfSome, IfOk, OnOk, OnErr, not, nat_lt, ℕ};
 ghost use Rattle.std.specs.FinMap as map;
 ghost use Rattle.std.specs.FinSet as set;
 ghost use Rattle.mls_tables.specs.declared.mode.Mode.{Mode};
@@ -145,10 +145,11 @@ impl<A: Allocator> State<A> {
         self.labels(o).integrity
     }
 
-    /// The parent of an active object, `None` for the root.
+    /// The parent of an active object, `None` for the root. It is active.
     pub fn parent(&self, o: ObjectId) -> Option<ObjectId>
         requires { IsTrue (is_active self.now o) }
-        ensures { result ≡ map.get self.now.parent o }
+        ensures parent { result ≡ map.get self.now.parent o }
+        ensures active { IfSome result (λ p. IsTrue (is_active self.now p)) }
     {
         self.tree.parent(o)
     }

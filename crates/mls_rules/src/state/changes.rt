@@ -2,9 +2,11 @@
 ghost use Rattle.std.specs.Prelude.{◌≡◌, ◌≢◌, ◌<◌, ◌+◌, IsTrue, IfOk, OnOk, OnErr, not};
 ghost use Rattle.std.specs.FinSet as set;
 ghost use Rattle.mls_rules.specs.State.{is_subject, is_active};
+ghost use Rattle.mls_rules.specs.Levels.{with_current, with_object_label};
 ghost use Rattle.mls_rules.specs.Rules.{with_objects, stays};
 
 use crate::state::State;
+use mls_labels::SecLabel;
 use mls_tables::{Mode, ObjectId, SubjectId};
 use std::alloc::{AllocError, Allocator};
 
@@ -79,5 +81,23 @@ impl<A: Allocator> State<A> {
         self.tree.remove_group(&self.group);
         let _ = self.tree.next();
         Ok(())
+    }
+
+    /// Gives a subject another current label.
+    pub(crate) fn set_current(&mut self, s: SubjectId, l: SecLabel)
+        requires { IsTrue (is_subject self.old s) }
+        ensures { self.new ≡ with_current self.old s l }
+    {
+        let at = s.number() as usize;
+        self.subjects[at].current = l;
+    }
+
+    /// Gives an object another security label.
+    pub(crate) fn set_object_label(&mut self, o: ObjectId, l: SecLabel)
+        requires { IsTrue (is_active self.old o) }
+        ensures { self.new ≡ with_object_label self.old o l }
+    {
+        let at = o.number() as usize;
+        self.objects[at].security = l;
     }
 }

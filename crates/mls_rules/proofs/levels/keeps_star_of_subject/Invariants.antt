@@ -1,0 +1,9 @@
+use Rattle.std.proofs.Common.{◌≡◌, true, not, ◌||◌, ◌==◌, take}
+use Rattle.std.specs.List.{list_all}
+use Rattle.mls_rules.specs.Properties.{star_holds}
+use Rattle.mls_rules.specs.Levels.{with_current}
+use Rattle.mls_rules.proofs.levels.keeps_star_of_subject.Given as goal
+
+-- the accesses that were read meet the test
+abbrev pub invariant-loop-t : goal.invariant-loop-t
+invariant-loop-t g l = list_all (λ t. not (t.0 == l.s) || star_holds (with_current l.state l.s l.l) t) (take l.t-index l.t-items) ≡ true
