@@ -1,63 +1,12 @@
 //! Each allocation refused in turn: nothing that a read tells has changed, and the same call again answers as ever.
+use super::alike::are_alike;
 use super::{BOB, PLANS, ROOT, SEC, create, get, give_sec_write, opened};
-use crate::{Action, Reply, Request, State, apply, is_secure};
-use mls_tables::{Mode, Modes, ObjectId, SubjectId};
+use crate::{Action, Reply, Request, Start, State, apply, is_secure};
+use mls_tables::{Mode, ObjectId};
 use refusing::Refusing;
 use std::alloc::{AllocError, Allocator, Global};
 use std::process::Abort;
 use std::test::Fail;
-
-const MODES: [Mode; 4] = [Mode::Execute, Mode::Read, Mode::Append, Mode::Write];
-
-/// Whether two sets have the same modes.
-fn same_modes(a: Modes, b: Modes) -> bool {
-    MODES.iter().all(|x| a.has(*x) == b.has(*x))
-}
-
-/// Asserts that no read tells the cells of a subject and an object in two states apart.
-fn cells_are_alike<A: Allocator>(
-    rt: &impl Abort,
-    one: &State<A>,
-    other: &State<A>,
-    s: SubjectId,
-    o: ObjectId,
-) {
-    assert!(rt; one.is_subject(s) && other.is_subject(s));
-    assert!(rt; one.is_active(o) && other.is_active(o));
-    assert!(rt; same_modes(one.allowed(s, o), other.allowed(s, o)));
-    assert!(rt; same_modes(one.accesses(s, o), other.accesses(s, o)));
-}
-
-/// Asserts that no read tells an object in two states apart.
-fn objects_are_alike<A: Allocator>(rt: &impl Abort, one: &State<A>, other: &State<A>, o: ObjectId) {
-    let active = one.is_active(o);
-    assert!(rt; active == other.is_active(o));
-    if !active {
-        return;
-    }
-    assert!(rt; one.is_active(o) && other.is_active(o));
-    assert!(rt; one.object_label(o) == other.object_label(o));
-    assert!(rt; one.object_integrity(o) == other.object_integrity(o));
-    assert!(rt; one.parent(o) == other.parent(o) && one.children(o) == other.children(o));
-    for s in 0..one.subject_count() {
-        cells_are_alike(rt, one, other, SubjectId(s), o);
-    }
-}
-
-/// Asserts that no read tells two states apart.
-fn are_alike<A: Allocator>(rt: &impl Abort, one: &State<A>, other: &State<A>) {
-    assert!(rt; one.next() == other.next() && one.subject_count() == other.subject_count());
-    for n in 0..one.next() {
-        objects_are_alike(rt, one, other, ObjectId(n));
-    }
-    for n in 0..one.subject_count() {
-        let s = SubjectId(n);
-        assert!(rt; one.is_subject(s) && other.is_subject(s));
-        assert!(rt; one.maximum(s) == other.maximum(s) && one.current(s) == other.current(s));
-        assert!(rt; one.subject_integrity(s) == other.subject_integrity(s));
-        assert!(rt; one.is_trusted(s) == other.is_trusted(s));
-    }
-}
 
 /// Makes a request of both states, of the first again where memory was refused.
 fn answered<A: Allocator>(
@@ -115,6 +64,18 @@ fn requests() -> [Request; 7] {
     ]
 }
 
+/// The opening of the standard start; a call that was refused memory is made again.
+fn opened_again(heap: &Refusing<Global>) -> Result<State<&Refusing<Global>>, AllocError> {
+    let start = match Start::standard(heap) {
+        Ok(start) => start,
+        Err(_) => Start::standard(heap)?,
+    };
+    match start.opening(heap) {
+        Ok(state) => Ok(state),
+        Err(_) => start.opening(heap),
+    }
+}
+
 /// Opens a state, again where memory was refused, makes the requests of it and puts an access into it, beside a state
 /// that has ample memory.
 fn run(
@@ -123,10 +84,7 @@ fn run(
     ample: &Refusing<Global>,
 ) -> Result<(), AllocError> {
     let mut plenty = opened(ample)?;
-    let mut state = match opened(heap) {
-        Ok(state) => state,
-        Err(_) => opened(heap)?,
-    };
+    let mut state = opened_again(heap)?;
     are_alike(rt, &state, &plenty);
     for request in requests() {
         answered(rt, &mut state, &mut plenty, &request)?;
