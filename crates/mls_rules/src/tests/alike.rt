@@ -44,7 +44,9 @@ fn objects_are_alike<A: Allocator>(rt: &impl Abort, one: &State<A>, other: &Stat
 /// Asserts that no read tells two states apart.
 pub fn are_alike<A: Allocator>(rt: &impl Abort, one: &State<A>, other: &State<A>) {
     assert!(rt; one.next() == other.next() && one.subject_count() == other.subject_count());
-    for n in 0..one.next() {
+    assert!(rt; one.security() == other.security() && one.integrity() == other.integrity());
+    // the next number is no object's yet
+    for n in 0..one.next().saturating_add(1) {
         objects_are_alike(rt, one, other, ObjectId(n));
     }
     for n in 0..one.subject_count() {
