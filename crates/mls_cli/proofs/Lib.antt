@@ -1,4 +1,5 @@
 pub mod Kept
+pub mod LabelBytes
 pub mod LineLemmas
 pub mod NameLemmas
 pub mod NumberLemmas

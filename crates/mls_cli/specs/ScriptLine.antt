@@ -1,5 +1,7 @@
 -- What a line of a script asks, by cases on its tokens.
-use Rattle.std.specs.Prelude.{ℕ, Bool, false, List, [], ◌∷◌, if◌then◌else◌, Option, Some, None, Result, Ok, Err, option_map, ◌==◌, nat_lt, length}
+use Rattle.std.specs.Prelude.{ℕ, List, [], ◌∷◌, if◌then◌else◌, Option, Some, None, Result, Ok, Err, option_map, ◌==◌, ◌&&◌, nat_lt, length, codes}
+use Rattle.std.specs.Str.{bytes_eq}
+use Rattle.mls_labels.specs.Label.{Label}
 use Rattle.mls_tables.specs.declared.mode.Mode.{Mode}
 use Rattle.mls_rules.specs.declared.request.Action.{Action}
 use Rattle.mls_rules.specs.declared.request.Action.TheVariants as action
@@ -14,9 +16,10 @@ use Rattle.mls_cli.specs.declared.words.Act.TheVariants as act
 use Rattle.mls_cli.specs.declared.words.Word.{Word}
 use Rattle.mls_cli.specs.declared.words.Word.TheVariants as word
 use Rattle.mls_cli.specs.Fault.{both}
+use Rattle.mls_cli.specs.Labels.{label_named}
 use Rattle.mls_cli.specs.Names.{Names, place_of, bound_to}
 use Rattle.mls_cli.specs.Numbers.{number_of}
-use Rattle.mls_cli.specs.Tokens.{tokens_of, one_of, two_of, three_of, is_name}
+use Rattle.mls_cli.specs.Tokens.{tokens_of, one_of, two_of, three_of, is_name, name_of}
 use Rattle.mls_cli.specs.Words.{mode_of, word_of}
 
 -- What a line says: nothing, or what it asks, and the name of the variable to bind where it has one. (own)
@@ -90,49 +93,83 @@ abbrev pub cell_operands : Names → List (List ℕ × ℕ) → Option (List ℕ
 cell_operands names vars None = Err BadForm
 cell_operands names vars (Some p) = with_mode (mode_of p.0) (both (subject_of names p.1) (object_of names vars p.2))
 
+-- The operands of `create`: `OBJ LABEL LABEL`, the parent, the security label and the integrity label. (own)
+abbrev pub create_operands : Names → List (List ℕ × ℕ) → Option (List ℕ × List ℕ × List ℕ) → Result (ℕ × (Label × Label)) LineFault
+create_operands names vars None = Err BadForm
+create_operands names vars (Some p) =
+    both (object_of names vars p.0) (both (label_named names.security p.1) (label_named names.integrity p.2))
+
 -- What a part without a fault makes. (own)
 abbrev pub made_of : {X Y : Type 0} → (X → Y) → Result X LineFault → Result Y LineFault
 made_of f (Ok x) = Ok (f x)
 made_of f (Err fault) = Err fault
 
--- The action that an action's word and its operands name. (own)
-abbrev pub action_of : Names → List (List ℕ × ℕ) → List (List ℕ) → Act → Result Action LineFault
-action_of names vars operands (act.Get x) = made_of (λ o. action.Get x o) (object_operand names vars (one_of operands))
-action_of names vars operands act.Release = made_of (λ p. action.Release p.0 p.1) (mode_and_object names vars (two_of operands))
-action_of names vars operands act.Give = made_of (λ p. action.Give p.0 p.1.0 p.1.1) (cell_operands names vars (three_of operands))
-action_of names vars operands act.Rescind = made_of (λ p. action.Rescind p.0 p.1.0 p.1.1) (cell_operands names vars (three_of operands))
+-- The request of a subject for an action. (own)
+abbrev pub submits : ℕ → Action → Ask
+submits s a = ask.Submit (record { subject = s; action = a })
+
+-- What a subject, an action's word and its operands ask. (own)
+abbrev pub request_of : Names → List (List ℕ × ℕ) → Result ℕ LineFault → List (List ℕ) → Act → Result Ask LineFault
+request_of names vars subject operands (act.Get x) =
+    made_of (λ p. submits p.0 (action.Get x p.1)) (both subject (object_operand names vars (one_of operands)))
+request_of names vars subject operands act.Release =
+    made_of (λ p. submits p.0 (action.Release p.1.0 p.1.1)) (both subject (mode_and_object names vars (two_of operands)))
+request_of names vars subject operands act.Give =
+    made_of (λ p. submits p.0 (action.Give p.1.0 p.1.1.0 p.1.1.1)) (both subject (cell_operands names vars (three_of operands)))
+request_of names vars subject operands act.Rescind =
+    made_of (λ p. submits p.0 (action.Rescind p.1.0 p.1.1.0 p.1.1.1)) (both subject (cell_operands names vars (three_of operands)))
+request_of names vars subject operands act.Create =
+    made_of (λ p. submits p.0 (action.Create p.1.0 p.1.1.0 p.1.1.1)) (both subject (create_operands names vars (three_of operands)))
+request_of names vars subject operands act.Delete =
+    made_of (λ p. submits p.0 (action.Delete p.1)) (both subject (object_operand names vars (one_of operands)))
 
 -- What a subject, a word and its operands ask. (own)
 abbrev pub ask_of : Names → List (List ℕ × ℕ) → List ℕ → List (List ℕ) → Word → Result Ask LineFault
 ask_of names vars subject operands word.Check =
     made_of (λ p. ask.Check p.0 p.1.1 p.1.0) (both (subject_of names subject) (mode_and_object names vars (two_of operands)))
-ask_of names vars subject operands (word.Act a) =
-    made_of (λ p. ask.Submit (record { subject = p.0; action = p.1 })) (both (subject_of names subject) (action_of names vars operands a))
+ask_of names vars subject operands (word.Act a) = request_of names vars (subject_of names subject) operands a
 
 -- The same, where the word is one. (own)
 abbrev pub command_of : Names → List (List ℕ × ℕ) → List ℕ → List (List ℕ) → Option Word → Result Ask LineFault
 command_of names vars subject operands None = Err BadForm
 command_of names vars subject operands (Some w) = ask_of names vars subject operands w
 
--- What a line asks that asks without binding a variable. (own)
-abbrev pub unbound : Result Ask LineFault → Result LineView LineFault
-unbound (Ok a) = Ok (Asks None a)
-unbound (Err f) = Err f
+-- What a line asks that binds this variable, or none. (own)
+abbrev pub asked : Option (List ℕ) → Result Ask LineFault → Result LineView LineFault
+asked bind (Ok a) = Ok (Asks bind a)
+asked bind (Err f) = Err f
 
--- A line whose first token begins with `;` is a note. (own)
-abbrev pub is_note : List ℕ → Bool
-is_note [] = false
-is_note (byte ∷ _) = byte == 59
-
--- A subject, an action's word and its operands, whatever the first token begins with. (own)
+-- What stands after a subject: a word and its operands. (own)
 abbrev pub command_line : Names → List (List ℕ × ℕ) → List ℕ → List (List ℕ) → Result LineView LineFault
 command_line names vars subject [] = Err BadForm
-command_line names vars subject (w ∷ operands) = unbound (command_of names vars subject operands (word_of w))
+command_line names vars subject (w ∷ operands) = asked None (command_of names vars subject operands (word_of w))
+
+-- The subject and the operands of a line that binds: after its variable stand `= SUBJ create` and the operands. (own)
+abbrev pub created_by : List (List ℕ) → Option (List ℕ × List (List ℕ))
+created_by [] = None
+created_by (e ∷ []) = None
+created_by (e ∷ subject ∷ []) = None
+created_by (e ∷ subject ∷ w ∷ operands) =
+    if bytes_eq e (codes "=") && bytes_eq w (codes "create") then Some (subject, operands) else None
+
+-- What a line asks that binds a variable, where its name is one and what stands after it is of that form. (own)
+abbrev pub binding_line : Names → List (List ℕ × ℕ) → Option (List ℕ) → Option (List ℕ × List (List ℕ)) → Result LineView LineFault
+binding_line names vars None parts = Err BadForm
+binding_line names vars (Some name) None = Err BadForm
+binding_line names vars (Some name) (Some p) = asked (Some name) (request_of names vars (subject_of names p.0) p.1 act.Create)
+
+-- What a first token says with those after it: `;` begins a note, `$` a variable to bind, and all else is a subject. (own)
+abbrev pub said_first : Names → List (List ℕ × ℕ) → List ℕ → List (List ℕ) → Result LineView LineFault
+said_first names vars [] rest = command_line names vars [] rest
+said_first names vars (b ∷ token) rest =
+    if b == 59 then Ok Blank
+    else if b == 36 then binding_line names vars (name_of token) (created_by rest)
+    else command_line names vars (b ∷ token) rest
 
 -- What tokens say. (own)
 abbrev pub said_of : Names → List (List ℕ × ℕ) → List (List ℕ) → Result LineView LineFault
 said_of names vars [] = Ok Blank
-said_of names vars (token ∷ rest) = if is_note token then Ok Blank else command_line names vars token rest
+said_of names vars (token ∷ rest) = said_first names vars token rest
 
 -- What a line says: at most 20,000 bytes, and then what its tokens say. (own)
 abbrev pub line_of : Names → List (List ℕ × ℕ) → List ℕ → Result LineView LineFault

@@ -3,8 +3,10 @@
 
 mod answer;
 mod ask;
+mod asking;
 mod bindings;
 mod fault;
+mod labels;
 mod line;
 mod lines;
 mod loaded;

@@ -1,116 +1,67 @@
 //! Reading one line of a script.
-ghost use Rattle.std.specs.Prelude.{◌≡◌};
-ghost use Rattle.mls_cli.specs.Tokens.{tokens_of, one_of, two_of, three_of};
-ghost use Rattle.mls_cli.specs.ScriptLine.{line_of, line_view, object_operand, mode_and_object, cell_operands, action_of, ask_of};
+ghost use Rattle.std.specs.Prelude.{◌≡◌, option_map};
+ghost use Rattle.mls_cli.specs.Tokens.{tokens_of, name_of};
+ghost use Rattle.mls_cli.specs.ScriptLine.{line_of, line_view, command_line, created_by, binding_line};
 
-use crate::ask::{Ask, Line};
-use crate::fault::{LineFault, both};
+use crate::ask::Line;
+use crate::asking::{read_ask, read_request};
+use crate::fault::LineFault;
 use crate::names::Names;
-use crate::operands::{read_object, read_subject};
-use crate::tokens::{next_token, one_token, three_tokens, two_tokens};
+use crate::operands::read_subject;
+use crate::tokens::{next_token, read_name};
 use crate::vars::Vars;
-use crate::words::{Act, Word, read_mode, read_word};
-use mls_rules::{Action, Request};
-use mls_tables::{Mode, ObjectId, SubjectId};
+use crate::words::{Act, read_word};
 use std::alloc::Allocator;
 
 /// The most bytes that a line may have, without its newline.
 pub const MAX_LINE: usize = 20_000;
 
-/// The operand of an action on one object.
-fn read_one<A: Allocator, B: Allocator>(
+/// Reads what stands after a subject: a word and its operands.
+fn read_command<'a, A: Allocator, B: Allocator>(
     names: &Names<A>,
     vars: &Vars<B>,
-    operands: &[u8],
-) -> Result<ObjectId, LineFault>
-    ensures { result ≡ object_operand names.now vars.now (one_of (tokens_of operands.now)) }
+    subject: &'a [u8],
+    rest: &'a [u8],
+) -> Result<Line<'a>, LineFault>
+    ensures { line_view result ≡ command_line names.now vars.now subject.now (tokens_of rest.now) }
 {
-    let object = one_token(operands).ok_or(LineFault::BadForm)?;
-    read_object(names, vars, object)
+    let (word, operands) = next_token(rest).ok_or(LineFault::BadForm)?;
+    let word = read_word(word).ok_or(LineFault::BadForm)?;
+    let ask = read_ask(names, vars, subject, word, operands)?;
+    Ok(Line::Ask { bind: None, ask })
 }
 
-/// The operands of an action on one object in a mode.
-fn read_mode_and_object<A: Allocator, B: Allocator>(
-    names: &Names<A>,
-    vars: &Vars<B>,
-    operands: &[u8],
-) -> Result<(Mode, ObjectId), LineFault>
-    ensures { result ≡ mode_and_object names.now vars.now (two_of (tokens_of operands.now)) }
+/// The subject and the operands of a line that binds, of which this stands after the variable.
+fn split_binding(rest: &[u8]) -> Option<(&[u8], &[u8])>
+    ensures { option_map (λ p. (p.0.now, tokens_of p.1.now)) result ≡ created_by (tokens_of rest.now) }
 {
-    let (mode, object) = two_tokens(operands).ok_or(LineFault::BadForm)?;
-    let mode = read_mode(mode).ok_or(LineFault::BadForm)?;
-    let object = read_object(names, vars, object)?;
-    Ok((mode, object))
-}
-
-/// The operands of an action on a cell of the matrix: a mode, a subject and an object.
-fn read_cell<A: Allocator, B: Allocator>(
-    names: &Names<A>,
-    vars: &Vars<B>,
-    operands: &[u8],
-) -> Result<(Mode, (SubjectId, ObjectId)), LineFault>
-    ensures { result ≡ cell_operands names.now vars.now (three_of (tokens_of operands.now)) }
-{
-    let (mode, subject, object) = three_tokens(operands).ok_or(LineFault::BadForm)?;
-    let mode = read_mode(mode).ok_or(LineFault::BadForm)?;
-    let cell = both(
-        read_subject(names, subject),
-        read_object(names, vars, object),
-    )?;
-    Ok((mode, cell))
-}
-
-/// The action that a word and its operands name.
-fn read_action<A: Allocator, B: Allocator>(
-    names: &Names<A>,
-    vars: &Vars<B>,
-    act: Act,
-    operands: &[u8],
-) -> Result<Action, LineFault>
-    ensures { result ≡ action_of names.now vars.now (tokens_of operands.now) act }
-{
-    match act {
-        Act::Get(mode) => {
-            let object = read_one(names, vars, operands)?;
-            Ok(Action::Get(mode, object))
-        }
-        Act::Release => {
-            let (mode, object) = read_mode_and_object(names, vars, operands)?;
-            Ok(Action::Release(mode, object))
-        }
-        Act::Give => {
-            let (mode, (subject, object)) = read_cell(names, vars, operands)?;
-            Ok(Action::Give(mode, subject, object))
-        }
-        Act::Rescind => {
-            let (mode, (subject, object)) = read_cell(names, vars, operands)?;
-            Ok(Action::Rescind(mode, subject, object))
-        }
+    let (equals, rest) = next_token(rest)?;
+    let (subject, rest) = next_token(rest)?;
+    let (word, operands) = next_token(rest)?;
+    if equals == b"=".as_slice() && word == b"create".as_slice() {
+        Some((subject, operands))
+    } else {
+        None
     }
 }
 
-/// What a subject, a word and its operands ask.
-fn read_ask<A: Allocator, B: Allocator>(
+/// Reads a line that begins with a variable, whose name is written without the `$`.
+fn read_binding<'a, A: Allocator, B: Allocator>(
     names: &Names<A>,
     vars: &Vars<B>,
-    subject: &[u8],
-    word: Word,
-    operands: &[u8],
-) -> Result<Ask, LineFault>
-    ensures { result ≡ ask_of names.now vars.now subject.now (tokens_of operands.now) word }
+    name: &'a [u8],
+    rest: &'a [u8],
+) -> Result<Line<'a>, LineFault>
+    ensures { line_view result ≡ binding_line names.now vars.now (name_of name.now) (created_by (tokens_of rest.now)) }
 {
+    let name = read_name(name).ok_or(LineFault::BadForm)?;
+    let (subject, operands) = split_binding(rest).ok_or(LineFault::BadForm)?;
     let subject = read_subject(names, subject);
-    match word {
-        Word::Check => {
-            let access = read_mode_and_object(names, vars, operands);
-            let (subject, (mode, object)) = both(subject, access)?;
-            Ok(Ask::Check(subject, object, mode))
-        }
-        Word::Act(act) => {
-            let (subject, action) = both(subject, read_action(names, vars, act, operands))?;
-            Ok(Ask::Submit(Request { subject, action }))
-        }
-    }
+    let ask = read_request(names, vars, subject, Act::Create, operands)?;
+    Ok(Line::Ask {
+        bind: Some(name),
+        ask,
+    })
 }
 
 /// Reads a line of a script, without its newline. It takes no memory.
@@ -127,14 +78,12 @@ pub fn read_line<'a, A: Allocator, B: Allocator>(
     if line.len() > MAX_LINE {
         return Err(LineFault::BadForm);
     }
-    let Some((subject, rest)) = next_token(line) else {
+    let Some((first, rest)) = next_token(line) else {
         return Ok(Line::Blank);
     };
-    if subject.first() == Some(&b';') {
-        return Ok(Line::Blank);
+    match first {
+        [b';', ..] => Ok(Line::Blank),
+        [b'$', name @ ..] => read_binding(names, vars, name, rest),
+        subject => read_command(names, vars, subject, rest),
     }
-    let (word, operands) = next_token(rest).ok_or(LineFault::BadForm)?;
-    let word = read_word(word).ok_or(LineFault::BadForm)?;
-    let ask = read_ask(names, vars, subject, word, operands)?;
-    Ok(Line::Ask { bind: None, ask })
 }

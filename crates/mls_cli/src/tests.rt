@@ -1,6 +1,6 @@
 //! Lines whose reading the format fixes, over the names of the standard start.
 use crate::{Ask, Line, LineFault, MAX_LINE, Names, Vars, read_line};
-use mls_labels::{CatSet, Label, LabelFault, Scheme};
+use mls_labels::{CatSet, IntLabel, Label, LabelFault, Scheme, SecLabel};
 use mls_rules::{Action, Request};
 use mls_tables::{Mode, ObjectId, SubjectId};
 use std::alloc::Global;
@@ -116,6 +116,132 @@ fn reads_what_lines_ask(rt: HostRuntime) -> Result<(), Fail> {
         b"  ;ann get-read \xff\x00".as_slice(),
     ] {
         assert_eq!(rt; read_line(&names, &vars, line), Ok(Line::Blank));
+    }
+    Ok(())
+}
+
+fn creates(subject: u16, parent: u16, security: Label, integrity: u8) -> Ask
+    requires { integrity < 16 }
+{
+    let integrity = IntLabel::of(Label::new(integrity, CatSet::empty()));
+    let security = SecLabel::of(security);
+    submits(
+        subject,
+        Action::Create(ObjectId(parent), security, integrity),
+    )
+}
+
+#[test]
+fn reads_lines_that_make_and_delete(rt: HostRuntime) -> Result<(), Fail> {
+    let names = standard_names(rt.alloc())?;
+    let mut vars = Vars::new(rt.alloc());
+    vars.bind("a-4", ObjectId(4))?;
+    let none = CatSet::empty();
+    let (low, both) = (Label::new(0, none), none.with(0).with(1));
+    let cases = [
+        (
+            b"sec create root U hi".as_slice(),
+            None,
+            creates(2, 0, low, 1),
+        ),
+        (
+            b"$x = sec create root S:B hi".as_slice(),
+            Some("x"),
+            creates(2, 0, Label::new(2, none.with(1)), 1),
+        ),
+        (
+            b" $A_1-b  =  #7 create  #9 T:B,A  lo ".as_slice(),
+            Some("A_1-b"),
+            creates(7, 9, Label::new(3, both), 0),
+        ),
+        (
+            b"$a-4 = sec create $a-4 C lo".as_slice(),
+            Some("a-4"),
+            creates(2, 4, Label::new(1, none), 0),
+        ),
+        (
+            b"sec delete $a-4".as_slice(),
+            None,
+            submits(2, Action::Delete(ObjectId(4))),
+        ),
+        (
+            b"ann get-read $a-4".as_slice(),
+            None,
+            submits(0, Action::Get(Mode::Read, ObjectId(4))),
+        ),
+        (
+            b"sec delete root".as_slice(),
+            None,
+            submits(2, Action::Delete(ObjectId(0))),
+        ),
+    ];
+    for (line, bind, ask) in cases {
+        assert_eq!(rt; read_line(&names, &vars, line), Ok(Line::Ask { bind, ask }));
+    }
+    Ok(())
+}
+
+#[test]
+fn names_the_first_fault_of_lines_that_make(rt: HostRuntime) -> Result<(), Fail> {
+    let names = standard_names(rt.alloc())?;
+    let vars = Vars::new(rt.alloc());
+    let cases = [
+        (b"sec create root Q hi".as_slice(), LineFault::BadLabel),
+        (b"sec create root U U".as_slice(), LineFault::BadLabel),
+        (b"sec create root hi hi".as_slice(), LineFault::BadLabel),
+        (b"sec create root U hi:A".as_slice(), LineFault::BadLabel),
+        (b"sec create root S:A,A hi".as_slice(), LineFault::BadLabel),
+        (b"sec create root S: hi".as_slice(), LineFault::BadLabel),
+        (b"sec create root ! ~".as_slice(), LineFault::BadLabel),
+        (b"sec create root $x #1".as_slice(), LineFault::BadLabel),
+        (b"$x = sec create root Q hi".as_slice(), LineFault::BadLabel),
+        (b"zoe create root Q hi".as_slice(), LineFault::UnknownName),
+        (b"sec create nil Q hi".as_slice(), LineFault::UnknownName),
+        (b"sec create $x U hi".as_slice(), LineFault::UnknownName),
+        (
+            b"$x = zoe create root Q hi".as_slice(),
+            LineFault::UnknownName,
+        ),
+        (
+            b"$x = sec create $x U hi".as_slice(),
+            LineFault::UnknownName,
+        ),
+        (b"sec delete nil".as_slice(), LineFault::UnknownName),
+        (b"ann create root U".as_slice(), LineFault::BadForm),
+        (b"ann create root U hi hi".as_slice(), LineFault::BadForm),
+        (b"zoe create root Q hi\x7f".as_slice(), LineFault::BadForm),
+        (b"zoe create nil \x80 Q".as_slice(), LineFault::BadForm),
+        (b"zoe create #07 Q Q".as_slice(), LineFault::BadForm),
+        (b"sec create root U\thi".as_slice(), LineFault::BadForm),
+        (b"sec delete".as_slice(), LineFault::BadForm),
+        (b"sec delete root root".as_slice(), LineFault::BadForm),
+        (b"$x = ann get-read plans".as_slice(), LineFault::BadForm),
+        (b"$x = sec delete root".as_slice(), LineFault::BadForm),
+        (
+            b"$x = $y = sec create root U hi".as_slice(),
+            LineFault::BadForm,
+        ),
+        (b"$x=sec create root U hi".as_slice(), LineFault::BadForm),
+        (b"$x= sec create root U hi".as_slice(), LineFault::BadForm),
+        (b"$x =sec create root U hi".as_slice(), LineFault::BadForm),
+        (b"$x sec create root U hi".as_slice(), LineFault::BadForm),
+        (b"x = sec create root U hi".as_slice(), LineFault::BadForm),
+        (b"= sec create root U hi".as_slice(), LineFault::BadForm),
+        (b"$ = sec create root U hi".as_slice(), LineFault::BadForm),
+        (
+            b"$x.y = zoe create root Q hi".as_slice(),
+            LineFault::BadForm,
+        ),
+        (b"$x =".as_slice(), LineFault::BadForm),
+        (b"$x = sec".as_slice(), LineFault::BadForm),
+        (b"$x".as_slice(), LineFault::BadForm),
+        (
+            b"$a12345678901234567890123456789012 = sec create root U hi".as_slice(),
+            LineFault::BadForm,
+        ),
+    ];
+    for (line, wanted) in cases {
+        assert_eq!(rt; read_line(&names, &vars, line), Err(wanted));
     }
     Ok(())
 }

@@ -11,6 +11,8 @@ pub enum Act {
     Release,
     Give,
     Rescind,
+    Create,
+    Delete,
 }
 
 /// What the word after the subject asks for.
@@ -55,6 +57,10 @@ fn read_act(token: &[u8]) -> Option<Act>
         Some(Act::Give)
     } else if token == b"rescind".as_slice() {
         Some(Act::Rescind)
+    } else if token == b"create".as_slice() {
+        Some(Act::Create)
+    } else if token == b"delete".as_slice() {
+        Some(Act::Delete)
     } else {
         None
     }

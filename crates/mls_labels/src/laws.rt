@@ -1,9 +1,10 @@
 //! What holds of all labels. The functions do nothing: each is a law, which its contract states.
-ghost use Rattle.std.specs.Prelude.{◌≡◌, ◌↔◌, IsTrue, List, ℕ};
+ghost use Rattle.std.specs.Prelude.{◌≡◌, ◌↔◌, IsTrue, List, ℕ, Ok, Err};
 ghost use Rattle.std.specs.Ordering.{nat_cmp};
 ghost use Rattle.std.specs.FinSet as set;
 ghost use Rattle.mls_labels.specs.Label.{Label, Bounds, dominates, has_label};
 ghost use Rattle.mls_labels.specs.LabelText.{Spells, IsRefused, written};
+ghost use Rattle.mls_labels.specs.Reading.{label_at};
 ghost use Rattle.mls_labels.specs.Same.{same_categories, same_label, same_bounds};
 ghost use Rattle.mls_labels.specs.Scheme.{Scheme, IsScheme, bounds_of};
 ghost use Rattle.mls_labels.specs.declared.label_fault.LabelFault.{LabelFault};
@@ -26,6 +27,12 @@ pub fn dominance_is_a_partial_order()
     ensures reflexive { (a : Label) → IsTrue (dominates a a) }
     ensures antisymmetric { (a b : Label) → IsTrue (dominates a b) → IsTrue (dominates b a) → a ≡ b }
     ensures transitive { (a b c : Label) → IsTrue (dominates a b) → IsTrue (dominates b c) → IsTrue (dominates a c) }
+{}
+
+/// What is read of a text step by step is the label that the text spells, or the fault for which it is refused, and nothing else is.
+pub fn a_text_is_read_as_it_is_spelled()
+    ensures label { (s : Scheme) (text : List ℕ) (l : Label) → IsScheme s → (label_at s text ≡ Ok l) ↔ Spells s text l }
+    ensures fault { (s : Scheme) (text : List ℕ) (f : LabelFault) → IsScheme s → (label_at s text ≡ Err f) ↔ IsRefused s text f }
 {}
 
 /// A text spells one label at most in a scheme, is refused for one fault at most, and not both.

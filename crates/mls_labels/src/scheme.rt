@@ -2,6 +2,7 @@
 ghost use Rattle.std.specs.Prelude.{◌≡◌, ◌++◌, IsTrue, IfSome, IfNone, IfOk, IfErr, OnOk, OnErr, Ok, Err, string_bytes};
 ghost use Rattle.mls_labels.specs.Label.{Label, has_label};
 ghost use Rattle.mls_labels.specs.LabelText.{Spells, IsRefused, written};
+ghost use Rattle.mls_labels.specs.Reading.{label_at};
 ghost use Rattle.mls_labels.specs.Scheme.{Scheme, IsScheme, bounds_of, scheme_fault, named};
 
 use crate::bounds::Bounds;
@@ -101,6 +102,7 @@ impl<A: Allocator> Scheme<A> {
         ensures only { (label : Label) → Spells self.now text.now label → result ≡ Ok label }
         ensures err { IfErr result (λ fault. IsRefused self.now text.now fault) }
         ensures exact { (fault : LabelFault) → IsRefused self.now text.now fault → result ≡ Err fault }
+        ensures steps { result ≡ label_at self.now text.now }
     {
         let _ = self.bounds();
         read_label(&self.levels, &self.categories, text)

@@ -33,3 +33,6 @@ returns-clause-within g c =
     let is = c.read_label.ensures ∙ ap (λ s. label_at s c.args.text.now) c.self.view_is in
     let facts = sound c.args.self.now c.bounds.ensures.sound in
     ok_within c.args.self.now c.args.text.now c.read_label.result (rw is (read_is c.args.self.now c.args.text.now (facts.levels_once, facts.categories_once)))
+
+pub returns-clause-steps : goal.returns-clause-steps
+returns-clause-steps g c = c.read_label.ensures ∙ ap (λ s. label_at s c.args.text.now) c.self.view_is
