@@ -99,6 +99,16 @@ create_operands names vars None = Err BadForm
 create_operands names vars (Some p) =
     both (object_of names vars p.0) (both (label_named names.security p.1) (label_named names.integrity p.2))
 
+-- The operand of `level`: `LABEL`, a security label. (own)
+abbrev pub level_operand : Names → Option (List ℕ) → Result Label LineFault
+level_operand names None = Err BadForm
+level_operand names (Some token) = label_named names.security token
+
+-- The operands of `relabel`: `OBJ LABEL`, a security label. (own)
+abbrev pub relabel_operands : Names → List (List ℕ × ℕ) → Option (List ℕ × List ℕ) → Result (ℕ × Label) LineFault
+relabel_operands names vars None = Err BadForm
+relabel_operands names vars (Some p) = both (object_of names vars p.0) (label_named names.security p.1)
+
 -- What a part without a fault makes. (own)
 abbrev pub made_of : {X Y : Type 0} → (X → Y) → Result X LineFault → Result Y LineFault
 made_of f (Ok x) = Ok (f x)
@@ -122,6 +132,10 @@ request_of names vars subject operands act.Create =
     made_of (λ p. submits p.0 (action.Create p.1.0 p.1.1.0 p.1.1.1)) (both subject (create_operands names vars (three_of operands)))
 request_of names vars subject operands act.Delete =
     made_of (λ p. submits p.0 (action.Delete p.1)) (both subject (object_operand names vars (one_of operands)))
+request_of names vars subject operands act.Level =
+    made_of (λ p. submits p.0 (action.SubjectLevel p.1)) (both subject (level_operand names (one_of operands)))
+request_of names vars subject operands act.Relabel =
+    made_of (λ p. submits p.0 (action.ObjectLevel p.1.0 p.1.1)) (both subject (relabel_operands names vars (two_of operands)))
 
 -- What a subject, a word and its operands ask. (own)
 abbrev pub ask_of : Names → List (List ℕ × ℕ) → List ℕ → List (List ℕ) → Word → Result Ask LineFault
@@ -129,20 +143,20 @@ ask_of names vars subject operands word.Check =
     made_of (λ p. ask.Check p.0 p.1.1 p.1.0) (both (subject_of names subject) (mode_and_object names vars (two_of operands)))
 ask_of names vars subject operands (word.Act a) = request_of names vars (subject_of names subject) operands a
 
--- The same, where the word is one. (own)
-abbrev pub command_of : Names → List (List ℕ × ℕ) → List ℕ → List (List ℕ) → Option Word → Result Ask LineFault
-command_of names vars subject operands None = Err BadForm
-command_of names vars subject operands (Some w) = ask_of names vars subject operands w
-
 -- What a line asks that binds this variable, or none. (own)
 abbrev pub asked : Option (List ℕ) → Result Ask LineFault → Result LineView LineFault
 asked bind (Ok a) = Ok (Asks bind a)
 asked bind (Err f) = Err f
 
+-- What a line asks that doesn't bind a variable, where the word is one. (own)
+abbrev pub command_of : Names → List (List ℕ × ℕ) → List ℕ → List (List ℕ) → Option Word → Result LineView LineFault
+command_of names vars subject operands None = Err BadForm
+command_of names vars subject operands (Some w) = asked None (ask_of names vars subject operands w)
+
 -- What stands after a subject: a word and its operands. (own)
 abbrev pub command_line : Names → List (List ℕ × ℕ) → List ℕ → List (List ℕ) → Result LineView LineFault
 command_line names vars subject [] = Err BadForm
-command_line names vars subject (w ∷ operands) = asked None (command_of names vars subject operands (word_of w))
+command_line names vars subject (w ∷ operands) = command_of names vars subject operands (word_of w)
 
 -- The subject and the operands of a line that binds: after its variable stand `= SUBJ create` and the operands. (own)
 abbrev pub created_by : List (List ℕ) → Option (List ℕ × List (List ℕ))

@@ -4,7 +4,7 @@ use Rattle.std.specs.Str.{bytes_eq}
 use Rattle.mls_tables.specs.declared.mode.Mode.{Mode}
 use Rattle.mls_tables.specs.declared.mode.Mode.TheVariants.{Execute, Read, Append, Write}
 use Rattle.mls_cli.specs.declared.words.Act.{Act}
-use Rattle.mls_cli.specs.declared.words.Act.TheVariants.{Get, Release, Give, Rescind, Create, Delete}
+use Rattle.mls_cli.specs.declared.words.Act.TheVariants.{Get, Release, Give, Rescind, Create, Delete, Level, Relabel}
 use Rattle.mls_cli.specs.declared.words.Word.{Word}
 use Rattle.mls_cli.specs.declared.words.Word.TheVariants as word
 
@@ -29,6 +29,8 @@ act_of token =
     else if bytes_eq token (codes "rescind") then Some Rescind
     else if bytes_eq token (codes "create") then Some Create
     else if bytes_eq token (codes "delete") then Some Delete
+    else if bytes_eq token (codes "level") then Some Level
+    else if bytes_eq token (codes "relabel") then Some Relabel
     else None
 
 -- What a word asks for: a check, or an action. (own)

@@ -1,154 +1,97 @@
 //! What a subject, a word and its operands ask.
-ghost use Rattle.std.specs.Prelude.{◌≡◌};
-ghost use Rattle.mls_cli.specs.Tokens.{tokens_of, one_of, two_of, three_of};
-ghost use Rattle.mls_cli.specs.ScriptLine.{object_operand, mode_and_object, cell_operands, create_operands, submits as submits_of, request_of, ask_of};
+ghost use Rattle.std.specs.Prelude.{◌≡◌, Some, Ok, option_map};
+ghost use Rattle.mls_cli.specs.Tokens.{tokens_of};
+ghost use Rattle.mls_cli.specs.ScriptLine.{line_view, submits as submits_of, asked, request_of, command_of};
 
-use crate::ask::Ask;
+use crate::ask::{Ask, Line};
 use crate::fault::{LineFault, both};
-use crate::labels::read_label;
 use crate::names::Names;
-use crate::operands::{read_object, read_subject};
-use crate::tokens::{one_token, three_tokens, two_tokens};
+use crate::operand_groups::{
+    read_access, read_cell, read_child, read_level, read_one, read_relabel,
+};
+use crate::operands::read_subject;
 use crate::vars::Vars;
-use crate::words::{Act, Word, read_mode};
-use mls_labels::{IntLabel, SecLabel};
+use crate::words::{Act, Word};
 use mls_rules::{Action, Request};
-use mls_tables::{Mode, ObjectId, SubjectId};
+use mls_tables::SubjectId;
 use std::alloc::Allocator;
 
-/// The operand of an action on one object.
-fn read_one<A: Allocator, B: Allocator>(
-    names: &Names<A>,
-    vars: &Vars<B>,
-    operands: &[u8],
-) -> Result<ObjectId, LineFault>
-    ensures { result ≡ object_operand names.now vars.now (one_of (tokens_of operands.now)) }
+/// A line that asks by a request.
+fn submits<'a>(
+    bind: Option<&'a str>,
+    subject: SubjectId,
+    action: Action,
+) -> Result<Line<'a>, LineFault>
+    ensures { line_view result ≡ asked (option_map (λ name. name.now) bind.entry) (Ok (submits_of subject action)) }
 {
-    let object = one_token(operands).ok_or(LineFault::BadForm)?;
-    read_object(names, vars, object)
+    let ask = Ask::Submit(Request { subject, action });
+    Ok(Line::Ask { bind, ask })
 }
 
-/// The operands of an action on one object in a mode.
-fn read_mode_and_object<A: Allocator, B: Allocator>(
+/// What a subject, an action's word and its operands ask, in a line that binds this variable or none.
+pub fn read_request<'a, A: Allocator, B: Allocator>(
     names: &Names<A>,
     vars: &Vars<B>,
-    operands: &[u8],
-) -> Result<(Mode, ObjectId), LineFault>
-    ensures { result ≡ mode_and_object names.now vars.now (two_of (tokens_of operands.now)) }
-{
-    let (mode, object) = two_tokens(operands).ok_or(LineFault::BadForm)?;
-    let mode = read_mode(mode).ok_or(LineFault::BadForm)?;
-    let object = read_object(names, vars, object)?;
-    Ok((mode, object))
-}
-
-/// The operands of an action on a cell of the matrix: a mode, a subject and an object.
-fn read_cell<A: Allocator, B: Allocator>(
-    names: &Names<A>,
-    vars: &Vars<B>,
-    operands: &[u8],
-) -> Result<(Mode, (SubjectId, ObjectId)), LineFault>
-    ensures { result ≡ cell_operands names.now vars.now (three_of (tokens_of operands.now)) }
-{
-    let (mode, subject, object) = three_tokens(operands).ok_or(LineFault::BadForm)?;
-    let mode = read_mode(mode).ok_or(LineFault::BadForm)?;
-    let cell = both(
-        read_subject(names, subject),
-        read_object(names, vars, object),
-    )?;
-    Ok((mode, cell))
-}
-
-/// The operands of an action that makes an object: its parent and its labels.
-fn read_create<A: Allocator, B: Allocator>(
-    names: &Names<A>,
-    vars: &Vars<B>,
-    operands: &[u8],
-) -> Result<(ObjectId, (SecLabel, IntLabel)), LineFault>
-    ensures { result ≡ create_operands names.now vars.now (three_of (tokens_of operands.now)) }
-{
-    let (parent, security, integrity) = three_tokens(operands).ok_or(LineFault::BadForm)?;
-    let labels = both(
-        read_label(names.security(), security),
-        read_label(names.integrity(), integrity),
-    );
-    let (parent, (security, integrity)) = both(read_object(names, vars, parent), labels)?;
-    Ok((parent, (SecLabel::of(security), IntLabel::of(integrity))))
-}
-
-/// The request of a subject for an action.
-fn submits(subject: SubjectId, action: Action) -> Ask
-    ensures { result ≡ submits_of subject action }
-{
-    Ask::Submit(Request { subject, action })
-}
-
-/// What a subject, an action's word and its operands ask.
-pub fn read_request<A: Allocator, B: Allocator>(
-    names: &Names<A>,
-    vars: &Vars<B>,
+    bind: Option<&'a str>,
     subject: Result<SubjectId, LineFault>,
     act: Act,
     operands: &[u8],
-) -> Result<Ask, LineFault>
-    ensures { result ≡ request_of names.now vars.now subject (tokens_of operands.now) act }
+) -> Result<Line<'a>, LineFault>
+    ensures { line_view result ≡ asked (option_map (λ name. name.now) bind.entry) (request_of names.now vars.now subject (tokens_of operands.now) act) }
 {
     match act {
         Act::Get(mode) => {
             let (subject, object) = both(subject, read_one(names, vars, operands))?;
-            Ok(submits(subject, Action::Get(mode, object)))
+            submits(bind, subject, Action::Get(mode, object))
         }
         Act::Release => {
-            let (subject, (mode, object)) = both(
-                subject,
-                read_mode_and_object(names, vars, operands),
-            )?;
-            Ok(submits(subject, Action::Release(mode, object)))
+            let (subject, (mode, object)) = both(subject, read_access(names, vars, operands))?;
+            submits(bind, subject, Action::Release(mode, object))
         }
         Act::Give => {
             let (subject, (mode, (to, object))) = both(subject, read_cell(names, vars, operands))?;
-            Ok(submits(subject, Action::Give(mode, to, object)))
+            submits(bind, subject, Action::Give(mode, to, object))
         }
         Act::Rescind => {
-            let (subject, (mode, (from, object))) = both(
-                subject,
-                read_cell(names, vars, operands),
-            )?;
-            Ok(submits(subject, Action::Rescind(mode, from, object)))
+            let (subject, (mode, (of, object))) = both(subject, read_cell(names, vars, operands))?;
+            submits(bind, subject, Action::Rescind(mode, of, object))
         }
         Act::Create => {
-            let (subject, (parent, (security, integrity))) = both(
-                subject,
-                read_create(names, vars, operands),
-            )?;
-            Ok(submits(subject, Action::Create(parent, security, integrity)))
+            let (subject, (parent, labels)) = both(subject, read_child(names, vars, operands))?;
+            submits(bind, subject, Action::Create(parent, labels.0, labels.1))
         }
         Act::Delete => {
             let (subject, object) = both(subject, read_one(names, vars, operands))?;
-            Ok(submits(subject, Action::Delete(object)))
+            submits(bind, subject, Action::Delete(object))
+        }
+        Act::Level => {
+            let (subject, label) = both(subject, read_level(names, operands))?;
+            submits(bind, subject, Action::SubjectLevel(label))
+        }
+        Act::Relabel => {
+            let (subject, (object, label)) = both(subject, read_relabel(names, vars, operands))?;
+            submits(bind, subject, Action::ObjectLevel(object, label))
         }
     }
 }
 
-/// What a subject, a word and its operands ask.
-pub fn read_ask<A: Allocator, B: Allocator>(
+/// What a subject, a word and its operands ask, in a line that binds no variable.
+pub fn read_ask<'a, A: Allocator, B: Allocator>(
     names: &Names<A>,
     vars: &Vars<B>,
-    subject: &[u8],
+    subject: &'a [u8],
     word: Word,
-    operands: &[u8],
-) -> Result<Ask, LineFault>
-    ensures { result ≡ ask_of names.now vars.now subject.now (tokens_of operands.now) word }
+    operands: &'a [u8],
+) -> Result<Line<'a>, LineFault>
+    ensures { line_view result ≡ command_of names.now vars.now subject.now (tokens_of operands.now) (Some word) }
 {
     let subject = read_subject(names, subject);
     match word {
         Word::Check => {
-            let (subject, (mode, object)) = both(
-                subject,
-                read_mode_and_object(names, vars, operands),
-            )?;
-            Ok(Ask::Check(subject, object, mode))
+            let (subject, (mode, object)) = both(subject, read_access(names, vars, operands))?;
+            let ask = Ask::Check(subject, object, mode);
+            Ok(Line::Ask { bind: None, ask })
         }
-        Word::Act(act) => read_request(names, vars, subject, act, operands),
+        Word::Act(act) => read_request(names, vars, None, subject, act, operands),
     }
 }

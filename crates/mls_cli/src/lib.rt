@@ -12,6 +12,7 @@ mod lines;
 mod loaded;
 mod names;
 mod numbers;
+mod operand_groups;
 mod operands;
 mod output;
 mod piece;

@@ -27,8 +27,7 @@ fn read_command<'a, A: Allocator, B: Allocator>(
 {
     let (word, operands) = next_token(rest).ok_or(LineFault::BadForm)?;
     let word = read_word(word).ok_or(LineFault::BadForm)?;
-    let ask = read_ask(names, vars, subject, word, operands)?;
-    Ok(Line::Ask { bind: None, ask })
+    read_ask(names, vars, subject, word, operands)
 }
 
 /// The subject and the operands of a line that binds, of which this stands after the variable.
@@ -57,11 +56,7 @@ fn read_binding<'a, A: Allocator, B: Allocator>(
     let name = read_name(name).ok_or(LineFault::BadForm)?;
     let (subject, operands) = split_binding(rest).ok_or(LineFault::BadForm)?;
     let subject = read_subject(names, subject);
-    let ask = read_request(names, vars, subject, Act::Create, operands)?;
-    Ok(Line::Ask {
-        bind: Some(name),
-        ask,
-    })
+    read_request(names, vars, Some(name), subject, Act::Create, operands)
 }
 
 /// Reads a line of a script, without its newline. It takes no memory.

@@ -174,6 +174,24 @@ fn reads_lines_that_make_and_delete(rt: HostRuntime) -> Result<(), Fail> {
             None,
             submits(2, Action::Delete(ObjectId(0))),
         ),
+        (
+            b"bob level C".as_slice(),
+            None,
+            submits(1, Action::SubjectLevel(SecLabel::of(Label::new(1, none)))),
+        ),
+        (
+            b"sec level T:A,B".as_slice(),
+            None,
+            submits(2, Action::SubjectLevel(SecLabel::of(Label::new(3, both)))),
+        ),
+        (
+            b"sec relabel plans C".as_slice(),
+            None,
+            submits(
+                2,
+                Action::ObjectLevel(ObjectId(1), SecLabel::of(Label::new(1, none))),
+            ),
+        ),
     ];
     for (line, bind, ask) in cases {
         assert_eq!(rt; read_line(&names, &vars, line), Ok(Line::Ask { bind, ask }));
@@ -207,6 +225,15 @@ fn names_the_first_fault_of_lines_that_make(rt: HostRuntime) -> Result<(), Fail>
             LineFault::UnknownName,
         ),
         (b"sec delete nil".as_slice(), LineFault::UnknownName),
+        (b"bob level hi".as_slice(), LineFault::BadLabel),
+        (b"zoe level hi".as_slice(), LineFault::UnknownName),
+        (b"sec relabel plans lo".as_slice(), LineFault::BadLabel),
+        (b"sec relabel nil lo".as_slice(), LineFault::UnknownName),
+        (b"sec level".as_slice(), LineFault::BadForm),
+        (b"sec level S A".as_slice(), LineFault::BadForm),
+        (b"sec level plans U".as_slice(), LineFault::BadForm),
+        (b"sec relabel U".as_slice(), LineFault::BadForm),
+        (b"$x = sec relabel root C".as_slice(), LineFault::BadForm),
         (b"ann create root U".as_slice(), LineFault::BadForm),
         (b"ann create root U hi hi".as_slice(), LineFault::BadForm),
         (b"zoe create root Q hi\x7f".as_slice(), LineFault::BadForm),

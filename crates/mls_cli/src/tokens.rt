@@ -77,7 +77,7 @@ pub fn three_tokens(line: &[u8]) -> Option<(&[u8], &[u8], &[u8])>
 fn is_name_byte(byte: u8) -> bool
     ensures { result ≡ name_byte byte }
 {
-    matches!(byte, b'0'..=b'9' | b'A'..=b'Z' | b'a'..=b'z' | b'-' | b'_')
+    matches!(byte, b'a'..=b'z') || matches!(byte, b'0'..=b'9' | b'A'..=b'Z' | b'-' | b'_')
 }
 
 /// Whether each byte of a token may stand in a name.

@@ -13,6 +13,8 @@ pub enum Act {
     Rescind,
     Create,
     Delete,
+    Level,
+    Relabel,
 }
 
 /// What the word after the subject asks for.
@@ -61,6 +63,10 @@ fn read_act(token: &[u8]) -> Option<Act>
         Some(Act::Create)
     } else if token == b"delete".as_slice() {
         Some(Act::Delete)
+    } else if token == b"level".as_slice() {
+        Some(Act::Level)
+    } else if token == b"relabel".as_slice() {
+        Some(Act::Relabel)
     } else {
         None
     }
