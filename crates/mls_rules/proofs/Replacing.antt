@@ -1,5 +1,5 @@
 -- A state with another current label of a subject or another security label of an object: what it stands for, and that its tables agree.
-use Rattle.std.proofs.Common.{◌≡◌, ℕ, ◌<◌, Bool, true, length, Some, refl, sym, ap, ◌∙◌, set, get_or}
+use Rattle.std.proofs.Common.{◌≡◌, ℕ, ◌<◌, true, length, Some, refl, sym, ap, ◌∙◌, set, get_or}
 use Rattle.std.specs.Prelude.{slice_get}
 use Rattle.std.proofs.lemmas.Option.{slice_get_read}
 use Rattle.std.specs.FinMap as map
@@ -18,7 +18,7 @@ use Rattle.mls_rules.specs.StateView.{state_of, Agrees}
 use Rattle.mls_rules.specs.Numbered.{numbered, places_of}
 use Rattle.mls_rules.proofs.Entries.{retain_keys-insert}
 use Rattle.mls_rules.proofs.NumberedSet.{length-set, numbered-set, numbered-kept, places-kept}
-use Rattle.mls_rules.proofs.Tables.{subject_row, label_place, in_tree, has_tree}
+use Rattle.mls_rules.proofs.Tables.{label_place, in_tree, has_tree}
 use Rattle.mls_rules.proofs.TreeKept.{relabel_tree}
 
 -- one subject with another current label
