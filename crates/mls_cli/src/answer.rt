@@ -91,3 +91,6 @@ fn submit_and_bind<A: Allocator, V: Allocator + Copy>(
     }
     Ok(reply)
 }
+
+#[cfg(test)]
+mod tests;

@@ -15,7 +15,7 @@ struct Row {
     held: usize,
 }
 
-fn rows() -> [Row; 8] {
+fn rows() -> [Row; 11] {
     [
         Row {
             name: "empty script",
@@ -74,6 +74,33 @@ fn rows() -> [Row; 8] {
             entries: 4,
             held: 1,
         },
+        Row {
+            name: "create, give and simple security",
+            script: b"sec get-write root\n$x = sec create root S:B hi\nsec give read ann $x\nann get-read $x\n",
+            answers: b"yes\ncreated 4\nyes\nno simple\n",
+            entries: 4,
+            held: 1,
+        },
+        Row {
+            name: "conditions of create",
+            script: b"sec get-write plans\nsec create plans C hi\nsec create plans S:A hi\nsec get-append memo\n\
+                sec create memo C hi\nsec create memo U hi\nsec create memo C lo\nann create root U hi\n",
+            answers: b"yes\nno compatibility\ncreated 4\nyes\nno integrity\nno compatibility\ncreated 5\nno authority\n",
+            entries: 8,
+            held: 2,
+        },
+        Row {
+            name: "delete takes all below",
+            script: b"sec get-write root\n$a = sec create root U hi\nsec give write sec $a\nsec get-write $a\n\
+                $b = sec create $a C hi\nsec give write sec $b\nsec get-write $b\n\
+                $c = sec create $b S:A hi\nsec give read ann $c\nann get-read $c\nsec delete $a\n\
+                ann get-read $c\nann release read #5\nann check read #6\nsec delete root\n\
+                sec create root U hi\nann delete plans\n",
+            answers: b"yes\ncreated 4\nyes\nyes\ncreated 5\nyes\nyes\ncreated 6\nyes\nyes\nyes\n\
+                undefined\nundefined\nnot held\nno root\ncreated 7\nno authority\n",
+            entries: 16,
+            held: 1,
+        },
     ]
 }
 
@@ -81,7 +108,7 @@ fn rows() -> [Row; 8] {
 fn held<A: Allocator>(monitor: &Monitor<A>) -> usize {
     let mut count = 0usize;
     for subject in 0..5 {
-        for object in 0..5 {
+        for object in 0..9 {
             for mode in [Mode::Execute, Mode::Read, Mode::Append, Mode::Write] {
                 if monitor.check(SubjectId(subject), ObjectId(object), mode) {
                     count = count.saturating_add(1);
@@ -116,5 +143,34 @@ fn scripts_are_answered(rt: HostRuntime) -> Result<(), Fail> {
             "{name}"
         );
     }
+    Ok(())
+}
+
+#[test]
+fn object_numbers_run_out(rt: HostRuntime) -> Result<(), Fail> {
+    let mut script = Vec::from_slice(rt.alloc(), b"sec get-write root\n")?;
+    let mut answers = Vec::from_slice(rt.alloc(), b"yes\n")?;
+    for number in 4..4096 {
+        script.extend_from_slice(b"sec create root U hi\n")?;
+        let answer = format!(in rt.alloc(); "created {number}\n")?;
+        answers.extend_from_slice(answer.as_bytes())?;
+    }
+    script.extend_from_slice(b"sec create root U hi\nbob create root U hi\n")?;
+    answers.extend_from_slice(b"no full\nno authority\n")?;
+    let loaded = standard_start(rt.alloc())?;
+    let mut monitor = Monitor::open(rt.alloc(), loaded.start).map_err(|_| AllocError)?;
+    let mut reader = script.as_slice();
+    let mut written = Vec::new(rt.alloc());
+    let served = serve(
+        rt.alloc(),
+        &loaded.names,
+        &mut monitor,
+        7,
+        &mut reader,
+        &mut written,
+    );
+    assert!(rt; served == Ok(4095));
+    assert!(rt; written.as_slice() == answers.as_slice());
+    assert!(rt; held(&monitor) == 1);
     Ok(())
 }

@@ -248,21 +248,25 @@ fn after_lines(bytes: &[u8], lines: usize) -> &[u8] {
     rest
 }
 
-/// A script of six lines, four of which ask for an entry.
-const SIX: &[u8] =
-    b"ann get-read plans\nbob get-read memo\nann check read plans\nfrob\nsec get-write plans\nann release read plans\n";
+/// A script of eight lines, six of which ask for an entry, and the last binds a variable.
+const EIGHT: &[u8] =
+    b"ann get-read plans\nbob get-read memo\nann check read plans\nfrob\nsec get-write plans\n\
+    ann release read plans\nsec get-write root\n$x = sec create root S:B hi\n";
 
 /// Its answers.
-const SIX_ANSWERS: &[u8] = b"yes\nno star\nheld\nbad form\nyes\nyes\n";
+const EIGHT_ANSWERS: &[u8] = b"yes\nno star\nheld\nbad form\nyes\nyes\nyes\ncreated 4\n";
 
-/// Serves what `written` doesn't answer yet of the script of six lines.
+/// How many entries stand after so many of its lines.
+const EIGHT_ENTRIES: [usize; 9] = [0, 1, 2, 2, 2, 3, 4, 5, 6];
+
+/// Serves what `written` doesn't answer yet of the script of eight lines.
 fn run_rest(
     heap: &Refusing<Global>,
     names: &Names,
     monitor: &mut Monitor<&Refusing<Global>>,
     written: &mut Vec<u8>,
 ) -> Left {
-    let mut reader = Pieces::new(after_lines(SIX, count_lines(written)), 11);
+    let mut reader = Pieces::new(after_lines(EIGHT, count_lines(written)), 11);
     let result = serve(heap, names, monitor, 7, &mut reader, written);
     let entries = entries_of_seven(monitor.entries());
     Left { result, entries }
@@ -286,20 +290,20 @@ fn refuses(alloc: Global, names: &Names, number: u64) -> (Asked, bool) {
     let mut written = Vec::new(alloc);
     let first = run_rest(&heap, names, &mut monitor, &mut written);
     if !heap.has_refused() {
-        let is_whole = first.result == Ok(4) && first.entries == 4;
+        let is_whole = first.result == Ok(6) && first.entries == 6;
         return (
             Asked::Nowhere,
-            is_whole && written.as_slice() == SIX_ANSWERS,
+            is_whole && written.as_slice() == EIGHT_ANSWERS,
         );
     }
-    let added = [0, 1, 2, 2, 2, 3, 4].get(count_lines(&written)).copied();
-    let is_front = SIX_ANSWERS.starts_with(&written) && added == Some(first.entries);
+    let added = EIGHT_ENTRIES.get(count_lines(&written)).copied();
+    let is_front = EIGHT_ANSWERS.starts_with(&written) && added == Some(first.entries);
     let second = run_rest(&heap, names, &mut monitor, &mut written);
-    let is_whole = second.result.is_ok() && second.entries == 4;
+    let is_whole = second.result.is_ok() && second.entries == 6;
     let is_right = first.result == Err(ServeFault::Memory) && is_front && is_whole;
     (
         Asked::Serving,
-        is_right && written.as_slice() == SIX_ANSWERS,
+        is_right && written.as_slice() == EIGHT_ANSWERS,
     )
 }
 
@@ -314,7 +318,7 @@ fn each_allocation_refused_in_turn(rt: HostRuntime) -> Result<(), Fail> {
             Asked::Opening => {}
             Asked::Serving => refusals = refusals.saturating_add(1),
             Asked::Nowhere => {
-                assert!(rt; refusals >= 3);
+                assert!(rt; refusals >= 8);
                 return Ok(());
             }
         }
