@@ -11,8 +11,8 @@ use Rattle.mls_cli.specs.declared.ask.Line.{Line}
 use Rattle.mls_cli.specs.declared.ask.Line.TheVariants as line
 use Rattle.mls_cli.specs.declared.fault.LineFault.{LineFault}
 use Rattle.mls_cli.specs.declared.fault.LineFault.TheVariants.{BadForm, UnknownName}
-use Rattle.mls_cli.specs.declared.words.Act.{Act}
-use Rattle.mls_cli.specs.declared.words.Act.TheVariants as act
+use Rattle.mls_cli.specs.declared.words.Change.{Change}
+use Rattle.mls_cli.specs.declared.words.Change.TheVariants as change
 use Rattle.mls_cli.specs.declared.words.Word.{Word}
 use Rattle.mls_cli.specs.declared.words.Word.TheVariants as word
 use Rattle.mls_cli.specs.Fault.{both}
@@ -118,30 +118,30 @@ made_of f (Err fault) = Err fault
 abbrev pub submits : ℕ → Action → Ask
 submits s a = ask.Submit (record { subject = s; action = a })
 
--- What a subject, an action's word and its operands ask. (own)
-abbrev pub request_of : Names → List (List ℕ × ℕ) → Result ℕ LineFault → List (List ℕ) → Act → Result Ask LineFault
-request_of names vars subject operands (act.Get x) =
-    made_of (λ p. submits p.0 (action.Get x p.1)) (both subject (object_operand names vars (one_of operands)))
-request_of names vars subject operands act.Release =
-    made_of (λ p. submits p.0 (action.Release p.1.0 p.1.1)) (both subject (mode_and_object names vars (two_of operands)))
-request_of names vars subject operands act.Give =
+-- What a subject, a change's word and its operands ask. (own)
+abbrev pub change_asked : Names → List (List ℕ × ℕ) → Result ℕ LineFault → List (List ℕ) → Change → Result Ask LineFault
+change_asked names vars subject operands change.Give =
     made_of (λ p. submits p.0 (action.Give p.1.0 p.1.1.0 p.1.1.1)) (both subject (cell_operands names vars (three_of operands)))
-request_of names vars subject operands act.Rescind =
+change_asked names vars subject operands change.Rescind =
     made_of (λ p. submits p.0 (action.Rescind p.1.0 p.1.1.0 p.1.1.1)) (both subject (cell_operands names vars (three_of operands)))
-request_of names vars subject operands act.Create =
+change_asked names vars subject operands change.Create =
     made_of (λ p. submits p.0 (action.Create p.1.0 p.1.1.0 p.1.1.1)) (both subject (create_operands names vars (three_of operands)))
-request_of names vars subject operands act.Delete =
+change_asked names vars subject operands change.Delete =
     made_of (λ p. submits p.0 (action.Delete p.1)) (both subject (object_operand names vars (one_of operands)))
-request_of names vars subject operands act.Level =
+change_asked names vars subject operands change.Level =
     made_of (λ p. submits p.0 (action.SubjectLevel p.1)) (both subject (level_operand names (one_of operands)))
-request_of names vars subject operands act.Relabel =
+change_asked names vars subject operands change.Relabel =
     made_of (λ p. submits p.0 (action.ObjectLevel p.1.0 p.1.1)) (both subject (relabel_operands names vars (two_of operands)))
 
 -- What a subject, a word and its operands ask. (own)
-abbrev pub ask_of : Names → List (List ℕ × ℕ) → List ℕ → List (List ℕ) → Word → Result Ask LineFault
+abbrev pub ask_of : Names → List (List ℕ × ℕ) → Result ℕ LineFault → List (List ℕ) → Word → Result Ask LineFault
 ask_of names vars subject operands word.Check =
-    made_of (λ p. ask.Check p.0 p.1.1 p.1.0) (both (subject_of names subject) (mode_and_object names vars (two_of operands)))
-ask_of names vars subject operands (word.Act a) = request_of names vars (subject_of names subject) operands a
+    made_of (λ p. ask.Check p.0 p.1.1 p.1.0) (both subject (mode_and_object names vars (two_of operands)))
+ask_of names vars subject operands (word.Get x) =
+    made_of (λ p. submits p.0 (action.Get x p.1)) (both subject (object_operand names vars (one_of operands)))
+ask_of names vars subject operands word.Release =
+    made_of (λ p. submits p.0 (action.Release p.1.0 p.1.1)) (both subject (mode_and_object names vars (two_of operands)))
+ask_of names vars subject operands (word.Change c) = change_asked names vars subject operands c
 
 -- What a line asks that binds this variable, or none. (own)
 abbrev pub asked : Option (List ℕ) → Result Ask LineFault → Result LineView LineFault
@@ -151,7 +151,7 @@ asked bind (Err f) = Err f
 -- What a line asks that doesn't bind a variable, where the word is one. (own)
 abbrev pub command_of : Names → List (List ℕ × ℕ) → List ℕ → List (List ℕ) → Option Word → Result LineView LineFault
 command_of names vars subject operands None = Err BadForm
-command_of names vars subject operands (Some w) = asked None (ask_of names vars subject operands w)
+command_of names vars subject operands (Some w) = asked None (ask_of names vars (subject_of names subject) operands w)
 
 -- What stands after a subject: a word and its operands. (own)
 abbrev pub command_line : Names → List (List ℕ × ℕ) → List ℕ → List (List ℕ) → Result LineView LineFault
@@ -170,7 +170,7 @@ created_by (e ∷ subject ∷ w ∷ operands) =
 abbrev pub binding_line : Names → List (List ℕ × ℕ) → Option (List ℕ) → Option (List ℕ × List (List ℕ)) → Result LineView LineFault
 binding_line names vars None parts = Err BadForm
 binding_line names vars (Some name) None = Err BadForm
-binding_line names vars (Some name) (Some p) = asked (Some name) (request_of names vars (subject_of names p.0) p.1 act.Create)
+binding_line names vars (Some name) (Some p) = asked (Some name) (change_asked names vars (subject_of names p.0) p.1 change.Create)
 
 -- What a first token says with those after it: `;` begins a note, `$` a variable to bind, and all else is a subject. (own)
 abbrev pub said_first : Names → List (List ℕ × ℕ) → List ℕ → List (List ℕ) → Result LineView LineFault

@@ -3,8 +3,8 @@ use Rattle.std.specs.Prelude.{ℕ, List, codes, if◌then◌else◌, Option, Som
 use Rattle.std.specs.Str.{bytes_eq}
 use Rattle.mls_tables.specs.declared.mode.Mode.{Mode}
 use Rattle.mls_tables.specs.declared.mode.Mode.TheVariants.{Execute, Read, Append, Write}
-use Rattle.mls_cli.specs.declared.words.Act.{Act}
-use Rattle.mls_cli.specs.declared.words.Act.TheVariants.{Get, Release, Give, Rescind, Create, Delete, Level, Relabel}
+use Rattle.mls_cli.specs.declared.words.Change.{Change}
+use Rattle.mls_cli.specs.declared.words.Change.TheVariants.{Give, Rescind, Create, Delete, Level, Relabel}
 use Rattle.mls_cli.specs.declared.words.Word.{Word}
 use Rattle.mls_cli.specs.declared.words.Word.TheVariants as word
 
@@ -17,15 +17,10 @@ mode_of token =
     else if bytes_eq token (codes "write") then Some Write
     else None
 
--- The action that a word names. (own)
-abbrev pub act_of : List ℕ → Option Act
-act_of token =
-    if bytes_eq token (codes "get-execute") then Some (Get Execute)
-    else if bytes_eq token (codes "get-read") then Some (Get Read)
-    else if bytes_eq token (codes "get-append") then Some (Get Append)
-    else if bytes_eq token (codes "get-write") then Some (Get Write)
-    else if bytes_eq token (codes "release") then Some Release
-    else if bytes_eq token (codes "give") then Some Give
+-- The change that a word names: of the matrix, of the objects or of a label. (own)
+abbrev pub change_of : List ℕ → Option Change
+change_of token =
+    if bytes_eq token (codes "give") then Some Give
     else if bytes_eq token (codes "rescind") then Some Rescind
     else if bytes_eq token (codes "create") then Some Create
     else if bytes_eq token (codes "delete") then Some Delete
@@ -33,6 +28,13 @@ act_of token =
     else if bytes_eq token (codes "relabel") then Some Relabel
     else None
 
--- What a word asks for: a check, or an action. (own)
+-- What a word asks for: whether there is an access, an access, the end of one, or a change. (own)
 abbrev pub word_of : List ℕ → Option Word
-word_of token = if bytes_eq token (codes "check") then Some word.Check else option_map word.Act (act_of token)
+word_of token =
+    if bytes_eq token (codes "check") then Some word.Check
+    else if bytes_eq token (codes "get-execute") then Some (word.Get Execute)
+    else if bytes_eq token (codes "get-read") then Some (word.Get Read)
+    else if bytes_eq token (codes "get-append") then Some (word.Get Append)
+    else if bytes_eq token (codes "get-write") then Some (word.Get Write)
+    else if bytes_eq token (codes "release") then Some word.Release
+    else option_map word.Change (change_of token)

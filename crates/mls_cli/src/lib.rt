@@ -3,8 +3,8 @@
 
 mod answer;
 mod ask;
-mod asking;
 mod bindings;
+mod changes;
 mod fault;
 mod labels;
 mod line;

@@ -3,14 +3,16 @@ ghost use Rattle.std.specs.Prelude.{◌≡◌, option_map};
 ghost use Rattle.mls_cli.specs.Tokens.{tokens_of, name_of};
 ghost use Rattle.mls_cli.specs.ScriptLine.{line_of, line_view, command_line, created_by, binding_line};
 
-use crate::ask::Line;
-use crate::asking::{read_ask, read_request};
-use crate::fault::LineFault;
+use crate::ask::{Ask, Line};
+use crate::changes::{read_change, submits};
+use crate::fault::{LineFault, both};
 use crate::names::Names;
+use crate::operand_groups::{read_access, read_one};
 use crate::operands::read_subject;
 use crate::tokens::{next_token, read_name};
 use crate::vars::Vars;
-use crate::words::{Act, read_word};
+use crate::words::{Change, Word, read_word};
+use mls_rules::Action;
 use std::alloc::Allocator;
 
 /// The most bytes that a line may have, without its newline.
@@ -27,7 +29,23 @@ fn read_command<'a, A: Allocator, B: Allocator>(
 {
     let (word, operands) = next_token(rest).ok_or(LineFault::BadForm)?;
     let word = read_word(word).ok_or(LineFault::BadForm)?;
-    read_ask(names, vars, subject, word, operands)
+    let subject = read_subject(names, subject);
+    match word {
+        Word::Check => {
+            let (subject, (mode, object)) = both(subject, read_access(names, vars, operands))?;
+            let ask = Ask::Check(subject, object, mode);
+            Ok(Line::Ask { bind: None, ask })
+        }
+        Word::Get(mode) => {
+            let (subject, object) = both(subject, read_one(names, vars, operands))?;
+            submits(None, subject, Action::Get(mode, object))
+        }
+        Word::Release => {
+            let (subject, (mode, object)) = both(subject, read_access(names, vars, operands))?;
+            submits(None, subject, Action::Release(mode, object))
+        }
+        Word::Change(change) => read_change(names, vars, None, subject, change, operands),
+    }
 }
 
 /// The subject and the operands of a line that binds, of which this stands after the variable.
@@ -56,7 +74,7 @@ fn read_binding<'a, A: Allocator, B: Allocator>(
     let name = read_name(name).ok_or(LineFault::BadForm)?;
     let (subject, operands) = split_binding(rest).ok_or(LineFault::BadForm)?;
     let subject = read_subject(names, subject);
-    read_request(names, vars, Some(name), subject, Act::Create, operands)
+    read_change(names, vars, Some(name), subject, Change::Create, operands)
 }
 
 /// Reads a line of a script, without its newline. It takes no memory.

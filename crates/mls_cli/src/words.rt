@@ -1,14 +1,12 @@
 //! The words of a line: modes and actions.
 ghost use Rattle.std.specs.Prelude.{◌≡◌};
-ghost use Rattle.mls_cli.specs.Words.{mode_of, act_of, word_of};
+ghost use Rattle.mls_cli.specs.Words.{mode_of, change_of, word_of};
 
 use mls_tables::Mode;
 
-/// An action, without what it is about.
+/// A change of the matrix, of the objects or of a label, without what it is about.
 #[derive(Clone, Copy, Debug, PartialEq, Eq)]
-pub enum Act {
-    Get(Mode),
-    Release,
+pub enum Change {
     Give,
     Rescind,
     Create,
@@ -20,8 +18,10 @@ pub enum Act {
 /// What the word after the subject asks for.
 #[derive(Clone, Copy, Debug, PartialEq, Eq)]
 pub enum Word {
-    Act(Act),
     Check,
+    Get(Mode),
+    Release,
+    Change(Change),
 }
 
 /// The mode that a token names.
@@ -41,32 +41,22 @@ pub fn read_mode(token: &[u8]) -> Option<Mode>
     }
 }
 
-/// The action that a token names.
-fn read_act(token: &[u8]) -> Option<Act>
-    ensures { result ≡ act_of token.now }
+/// The change that a token names.
+fn read_change(token: &[u8]) -> Option<Change>
+    ensures { result ≡ change_of token.now }
 {
-    if token == b"get-execute".as_slice() {
-        Some(Act::Get(Mode::Execute))
-    } else if token == b"get-read".as_slice() {
-        Some(Act::Get(Mode::Read))
-    } else if token == b"get-append".as_slice() {
-        Some(Act::Get(Mode::Append))
-    } else if token == b"get-write".as_slice() {
-        Some(Act::Get(Mode::Write))
-    } else if token == b"release".as_slice() {
-        Some(Act::Release)
-    } else if token == b"give".as_slice() {
-        Some(Act::Give)
+    if token == b"give".as_slice() {
+        Some(Change::Give)
     } else if token == b"rescind".as_slice() {
-        Some(Act::Rescind)
+        Some(Change::Rescind)
     } else if token == b"create".as_slice() {
-        Some(Act::Create)
+        Some(Change::Create)
     } else if token == b"delete".as_slice() {
-        Some(Act::Delete)
+        Some(Change::Delete)
     } else if token == b"level".as_slice() {
-        Some(Act::Level)
+        Some(Change::Level)
     } else if token == b"relabel".as_slice() {
-        Some(Act::Relabel)
+        Some(Change::Relabel)
     } else {
         None
     }
@@ -77,8 +67,19 @@ pub fn read_word(token: &[u8]) -> Option<Word>
     ensures { result ≡ word_of token.now }
 {
     if token == b"check".as_slice() {
-        return Some(Word::Check);
+        Some(Word::Check)
+    } else if token == b"get-execute".as_slice() {
+        Some(Word::Get(Mode::Execute))
+    } else if token == b"get-read".as_slice() {
+        Some(Word::Get(Mode::Read))
+    } else if token == b"get-append".as_slice() {
+        Some(Word::Get(Mode::Append))
+    } else if token == b"get-write".as_slice() {
+        Some(Word::Get(Mode::Write))
+    } else if token == b"release".as_slice() {
+        Some(Word::Release)
+    } else {
+        let change = read_change(token)?;
+        Some(Word::Change(change))
     }
-    let act = read_act(token)?;
-    Some(Word::Act(act))
 }
