@@ -2,7 +2,7 @@
 use mls_cli::{serve, standard_start};
 use mls_monitor::Monitor;
 use mls_tables::{Mode, ObjectId, SubjectId};
-use std::alloc::{AllocError, Allocator};
+use std::alloc::{AllocError, Allocator, Global};
 use std::test::Fail;
 
 /// A script, its answers, the entries that it adds, and how many accesses are held after it.
@@ -33,9 +33,9 @@ fn rows() -> [Row; 11] {
         },
         Row {
             name: "denials",
-            script: b"bob get-append plans\nann get-read memo\nann get-append plans\nbob get-read memo\n",
-            answers: b"no integrity\nno integrity\nno discretionary\nno star\n",
-            entries: 4,
+            script: b"bob level S\nbob get-append plans\nann get-read memo\nann get-append plans\nbob get-read memo\n",
+            answers: b"no ceiling\nno integrity\nno integrity\nno discretionary\nno star\n",
+            entries: 5,
             held: 0,
         },
         Row {
@@ -47,9 +47,9 @@ fn rows() -> [Row; 11] {
         },
         Row {
             name: "trusted and integrity",
-            script: b"sec get-write plans\nsec get-write memo\n",
-            answers: b"yes\nno integrity\n",
-            entries: 2,
+            script: b"sec get-write plans\nsec get-write memo\nsec level T:A,B\n",
+            answers: b"yes\nno integrity\nyes\n",
+            entries: 3,
             held: 1,
         },
         Row {
@@ -104,6 +104,59 @@ fn rows() -> [Row; 11] {
     ]
 }
 
+fn rows_on_levels_and_faults() -> [Row; 6] {
+    [
+        Row {
+            name: "levels",
+            script: b"bob get-read memo\nbob level C\nbob get-read memo\nbob level U\nbob release read memo\n\
+                bob level U\n",
+            answers: b"no star\nyes\nyes\nno star\nyes\nyes\n",
+            entries: 6,
+            held: 0,
+        },
+        Row {
+            name: "relabel beside a reader",
+            script: b"ann get-read plans\nsec relabel plans T:A\nsec relabel root C\nsec relabel plans C\n\
+                ann get-write plans\n",
+            answers: b"yes\nno simple\nno compatibility\nyes\nno star\n",
+            entries: 5,
+            held: 1,
+        },
+        Row {
+            name: "relabel beside a writer",
+            script: b"ann get-write plans\nsec relabel plans C\n",
+            answers: b"yes\nno star\n",
+            entries: 2,
+            held: 1,
+        },
+        Row {
+            name: "relabel beside a trusted reader",
+            script: b"aud get-read plans\nsec relabel plans T:A\nsec relabel plans C\n",
+            answers: b"yes\nno simple\nyes\n",
+            entries: 3,
+            held: 1,
+        },
+        Row {
+            name: "relabel by authority",
+            script: b"ann get-write plans\n$x = ann create plans S:A hi\nann relabel $x T:A\n\
+                ann relabel $x S:A\nann relabel plans T:A\nann level C\n",
+            answers: b"yes\ncreated 4\nyes\nno authority\nno authority\nno star\n",
+            entries: 6,
+            held: 1,
+        },
+        Row {
+            name: "bad lines",
+            script: b"ann frob plans\nzoe get-read plans\nann get-read $x\nann create root Q hi\n\
+                zoe create root Q hi\n#9 get-read plans\nann get-read #77\nann get-read #65536\n\
+                ann get-read\n$x = ann get-read plans\n; note\n",
+            answers: b"bad form\nbad name\nbad name\nbad label\nbad name\nundefined\nundefined\nbad form\n\
+                bad form\nbad form\n",
+            entries: 2,
+            held: 0,
+        },
+    ]
+}
+
 /// How many accesses are held, unknown subjects and objects among those that are asked for.
 fn held<A: Allocator>(monitor: &Monitor<A>) -> usize {
     let mut count = 0usize;
@@ -119,58 +172,43 @@ fn held<A: Allocator>(monitor: &Monitor<A>) -> usize {
     count
 }
 
-#[test]
-fn scripts_are_answered(rt: HostRuntime) -> Result<(), Fail> {
-    for row in rows() {
-        let name = row.name;
-        let loaded = standard_start(rt.alloc())?;
-        let mut monitor = Monitor::open(rt.alloc(), loaded.start).map_err(|_| AllocError)?;
-        let mut reader = row.script;
-        let mut written = Vec::new(rt.alloc());
-        let served = serve(
-            rt.alloc(),
-            &loaded.names,
-            &mut monitor,
-            7,
-            &mut reader,
-            &mut written,
-        );
-        assert!(rt; served == Ok(row.entries), "{name}");
-        assert!(rt; written.as_slice() == row.answers, "{name}");
-        assert!(rt; held(&monitor) == row.held, "{name}");
-        assert!(rt;
-            monitor.entries().iter().all(|entry| entry.session == 7),
-            "{name}"
-        );
-    }
-    Ok(())
-}
-
-#[test]
-fn object_numbers_run_out(rt: HostRuntime) -> Result<(), Fail> {
-    let mut script = Vec::from_slice(rt.alloc(), b"sec get-write root\n")?;
-    let mut answers = Vec::from_slice(rt.alloc(), b"yes\n")?;
-    for number in 4..4096 {
-        script.extend_from_slice(b"sec create root U hi\n")?;
-        let answer = format!(in rt.alloc(); "created {number}\n")?;
-        answers.extend_from_slice(answer.as_bytes())?;
-    }
-    script.extend_from_slice(b"sec create root U hi\nbob create root U hi\n")?;
-    answers.extend_from_slice(b"no full\nno authority\n")?;
-    let loaded = standard_start(rt.alloc())?;
-    let mut monitor = Monitor::open(rt.alloc(), loaded.start).map_err(|_| AllocError)?;
-    let mut reader = script.as_slice();
-    let mut written = Vec::new(rt.alloc());
+/// Whether a script leaves what its row says.
+fn is_answered(alloc: Global, row: Row) -> Result<bool, Fail> {
+    let loaded = standard_start(alloc)?;
+    let mut monitor = Monitor::open(alloc, loaded.start).map_err(|_| AllocError)?;
+    let mut reader = row.script;
+    let mut written = Vec::new(alloc);
     let served = serve(
-        rt.alloc(),
+        alloc,
         &loaded.names,
         &mut monitor,
         7,
         &mut reader,
         &mut written,
     );
-    assert!(rt; served == Ok(4095));
-    assert!(rt; written.as_slice() == answers.as_slice());
-    assert!(rt; held(&monitor) == 1);
+    let in_session = monitor.entries().iter().all(|entry| entry.session == 7);
+    Ok(
+        served == Ok(row.entries)
+            && written.as_slice() == row.answers
+            && held(&monitor) == row.held
+            && in_session,
+    )
+}
+
+#[test]
+fn scripts_are_answered(rt: HostRuntime) -> Result<(), Fail> {
+    for row in rows() {
+        let name = row.name;
+        assert!(rt; is_answered(rt.alloc(), row)?, "{name}");
+    }
+    Ok(())
+}
+
+#[test]
+fn scripts_on_levels_and_faults_are_answered(rt: HostRuntime) -> Result<(), Fail> {
+    for row in rows_on_levels_and_faults() {
+        let name = row.name;
+        assert!(rt; is_answered(rt.alloc(), row)?, "{name}");
+    }
     Ok(())
 }
