@@ -1,3 +1,5 @@
+pub mod GrammarReads
+pub mod GrammarSays
 pub mod Kept
 pub mod LabelBytes
 pub mod LineLemmas

@@ -1,4 +1,5 @@
 pub mod Fault
+pub mod Grammar
 pub mod Labels
 pub mod Lines
 pub mod Loading

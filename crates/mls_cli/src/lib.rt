@@ -6,6 +6,7 @@ mod ask;
 mod bindings;
 mod changes;
 mod fault;
+mod grammar;
 mod labels;
 mod line;
 mod lines;
@@ -23,6 +24,7 @@ mod words;
 
 pub use ask::{Ask, Line};
 pub use fault::LineFault;
+pub use grammar::lines_law;
 pub use line::{MAX_LINE, read_line};
 pub use loaded::{LoadFault, Loaded, standard_start};
 pub use names::Names;
