@@ -120,15 +120,77 @@ fn reads_what_lines_ask(rt: HostRuntime) -> Result<(), Fail> {
     Ok(())
 }
 
-fn creates(subject: u16, parent: u16, security: Label, integrity: u8) -> Ask
-    requires { integrity < 16 }
-{
-    let integrity = IntLabel::of(Label::new(integrity, CatSet::empty()));
-    let security = SecLabel::of(security);
+/// A label of a level of the standard start and some categories.
+fn at_level(level: u8, cats: CatSet) -> SecLabel {
+    SecLabel::of(Label::new(level % 4, cats))
+}
+
+fn creates(subject: u16, parent: u16, security: SecLabel, integrity: u8) -> Ask {
+    let integrity = IntLabel::of(Label::new(integrity % 2, CatSet::empty()));
     submits(
         subject,
         Action::Create(ObjectId(parent), security, integrity),
     )
+}
+
+/// Lines that make an object, what each binds, and what it asks, where `$a-4` stands for object 4.
+fn making() -> [(&'static [u8], Option<&'static str>, Ask); 4] {
+    let none = CatSet::empty();
+    let second = none.with(1);
+    let both = second.with(0);
+    [
+        (
+            b"sec create root U hi".as_slice(),
+            None,
+            creates(2, 0, at_level(0, none), 1),
+        ),
+        (
+            b"$x = sec create root S:B hi".as_slice(),
+            Some("x"),
+            creates(2, 0, at_level(2, second), 1),
+        ),
+        (
+            b" $A_1-b  =  #7 create  #9 T:B,A  lo ".as_slice(),
+            Some("A_1-b"),
+            creates(7, 9, at_level(3, both), 0),
+        ),
+        (
+            b"$a-4 = sec create $a-4 C lo".as_slice(),
+            Some("a-4"),
+            creates(2, 4, at_level(1, none), 0),
+        ),
+    ]
+}
+
+/// Lines that delete, access, and change levels, and what they ask.
+fn changing() -> [(&'static [u8], Ask); 6] {
+    let none = CatSet::empty();
+    let confidential = at_level(1, none);
+    let top = at_level(3, none.with(0).with(1));
+    let relabel = Action::ObjectLevel(ObjectId(1), confidential);
+    [
+        (
+            b"sec delete $a-4".as_slice(),
+            submits(2, Action::Delete(ObjectId(4))),
+        ),
+        (
+            b"ann get-read $a-4".as_slice(),
+            submits(0, Action::Get(Mode::Read, ObjectId(4))),
+        ),
+        (
+            b"sec delete root".as_slice(),
+            submits(2, Action::Delete(ObjectId(0))),
+        ),
+        (
+            b"bob level C".as_slice(),
+            submits(1, Action::SubjectLevel(confidential)),
+        ),
+        (
+            b"sec level T:A,B".as_slice(),
+            submits(2, Action::SubjectLevel(top)),
+        ),
+        (b"sec relabel plans C".as_slice(), submits(2, relabel)),
+    ]
 }
 
 #[test]
@@ -136,65 +198,14 @@ fn reads_lines_that_make_and_delete(rt: HostRuntime) -> Result<(), Fail> {
     let names = standard_names(rt.alloc())?;
     let mut vars = Vars::new(rt.alloc());
     vars.bind("a-4", ObjectId(4))?;
-    let none = CatSet::empty();
-    let (low, both) = (Label::new(0, none), none.with(0).with(1));
-    let cases = [
-        (
-            b"sec create root U hi".as_slice(),
-            None,
-            creates(2, 0, low, 1),
-        ),
-        (
-            b"$x = sec create root S:B hi".as_slice(),
-            Some("x"),
-            creates(2, 0, Label::new(2, none.with(1)), 1),
-        ),
-        (
-            b" $A_1-b  =  #7 create  #9 T:B,A  lo ".as_slice(),
-            Some("A_1-b"),
-            creates(7, 9, Label::new(3, both), 0),
-        ),
-        (
-            b"$a-4 = sec create $a-4 C lo".as_slice(),
-            Some("a-4"),
-            creates(2, 4, Label::new(1, none), 0),
-        ),
-        (
-            b"sec delete $a-4".as_slice(),
-            None,
-            submits(2, Action::Delete(ObjectId(4))),
-        ),
-        (
-            b"ann get-read $a-4".as_slice(),
-            None,
-            submits(0, Action::Get(Mode::Read, ObjectId(4))),
-        ),
-        (
-            b"sec delete root".as_slice(),
-            None,
-            submits(2, Action::Delete(ObjectId(0))),
-        ),
-        (
-            b"bob level C".as_slice(),
-            None,
-            submits(1, Action::SubjectLevel(SecLabel::of(Label::new(1, none)))),
-        ),
-        (
-            b"sec level T:A,B".as_slice(),
-            None,
-            submits(2, Action::SubjectLevel(SecLabel::of(Label::new(3, both)))),
-        ),
-        (
-            b"sec relabel plans C".as_slice(),
-            None,
-            submits(
-                2,
-                Action::ObjectLevel(ObjectId(1), SecLabel::of(Label::new(1, none))),
-            ),
-        ),
-    ];
-    for (line, bind, ask) in cases {
+    for (line, bind, ask) in making() {
         assert_eq!(rt; read_line(&names, &vars, line), Ok(Line::Ask { bind, ask }));
+    }
+    for (line, ask) in changing() {
+        assert_eq!(rt;
+            read_line(&names, &vars, line),
+            Ok(Line::Ask { bind: None, ask })
+        );
     }
     Ok(())
 }
