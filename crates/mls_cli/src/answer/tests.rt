@@ -5,7 +5,8 @@ use mls_monitor::Monitor;
 use mls_rules::{Reason, Reply, Start};
 use mls_tables::ObjectId;
 use refusing::Refusing;
-use std::alloc::{AllocError, Allocator};
+use std::alloc::{AllocError, Allocator, Global};
+use std::process::Abort;
 use std::test::Fail;
 
 /// A line, its reply, and what `$x` stands for after it.
@@ -52,6 +53,65 @@ fn standard_monitor<A: Allocator + Copy>(alloc: A) -> Result<Monitor<A>, AllocEr
     Monitor::open(alloc, Start::standard(alloc)?).map_err(|_| AllocError)
 }
 
+/// Answers a line, again where memory was refused, and says whether it was.
+fn answered<A: Allocator + Copy>(
+    rt: &impl Abort,
+    script: &Script<'_, Global>,
+    vars: &mut Vars<A>,
+    monitor: &mut Monitor<A>,
+    line: &[u8],
+    reply: Reply,
+) -> bool {
+    let before = (monitor.entries().len(), vars.get("x"));
+    let mut answer = script.answer(vars, monitor, line);
+    let refused = answer.is_err();
+    if refused {
+        assert!(rt; (monitor.entries().len(), vars.get("x")) == before);
+        answer = script.answer(vars, monitor, line);
+    }
+    assert!(rt; answer == Ok(Answer::Replied(reply)));
+    refused
+}
+
+/// Answers the lines, and says how often memory was refused.
+fn all_answered<A: Allocator + Copy>(
+    rt: &impl Abort,
+    script: &Script<'_, Global>,
+    vars: &mut Vars<A>,
+    monitor: &mut Monitor<A>,
+) -> u32 {
+    let mut refusals = 0u32;
+    for (line, reply, bound) in LINES {
+        if answered(rt, script, vars, monitor, line, reply) {
+            refusals = refusals.saturating_add(1);
+        }
+        assert!(rt; vars.get("x") == bound);
+    }
+    refusals
+}
+
+/// Answers the lines over a new monitor, and says how often memory was refused: not at all where it was refused to the opening.
+fn run(rt: &impl Abort, script: &Script<'_, Global>, heap: &Refusing<Global>) -> u32 {
+    let Ok(mut monitor) = standard_monitor(heap) else {
+        return 0;
+    };
+    let mut vars = Vars::new(heap);
+    all_answered(rt, script, &mut vars, &mut monitor)
+}
+
+/// Answers the lines with each allocation refused in turn, and says how often one of a line was.
+fn refusals_in_turn(rt: &impl Abort, alloc: Global, script: &Script<'_, Global>) -> Option<u32> {
+    let mut refusals = 0u32;
+    for number in 1..1000 {
+        let heap = Refusing::new(alloc, number);
+        refusals = refusals.saturating_add(run(rt, script, &heap));
+        if !heap.has_refused() {
+            return Some(refusals);
+        }
+    }
+    None
+}
+
 #[test]
 fn binds_what_was_made_whatever_allocation_is_refused(rt: HostRuntime) -> Result<(), Fail> {
     let loaded = standard_start(rt.alloc()).map_err(|_| AllocError)?;
@@ -59,32 +119,6 @@ fn binds_what_was_made_whatever_allocation_is_refused(rt: HostRuntime) -> Result
         names: &loaded.names,
         session: 7,
     };
-    let mut refusals = 0u32;
-    for number in 1..1000 {
-        let heap = Refusing::new(rt.alloc(), number);
-        let Ok(mut monitor) = standard_monitor(&heap) else {
-            continue;
-        };
-        let mut vars = Vars::new(&heap);
-        for (line, reply, bound) in LINES {
-            let before = (monitor.entries().len(), vars.get("x"));
-            let mut answer = script.answer(&mut vars, &mut monitor, line);
-            if answer.is_err() {
-                refusals = refusals.saturating_add(1);
-                assert!(rt;
-                    (monitor.entries().len(), vars.get("x")) == before,
-                    "at {number}"
-                );
-                answer = script.answer(&mut vars, &mut monitor, line);
-            }
-            assert!(rt; answer == Ok(Answer::Replied(reply)), "at {number}");
-            assert!(rt; vars.get("x") == bound, "at {number}");
-        }
-        if !heap.has_refused() {
-            assert!(rt; refusals >= 12);
-            return Ok(());
-        }
-    }
-    assert!(rt; false, "an allocation was refused in each run");
+    assert!(rt; refusals_in_turn(&rt, rt.alloc(), &script) >= Some(12));
     Ok(())
 }

@@ -40,12 +40,12 @@ struct Left {
 /// Serves over a standard monitor that is new.
 fn run<R: Read, W: Write>(
     alloc: Global,
+    names: &Names<Global>,
     reader: &mut R,
     writer: &mut W,
 ) -> Result<Left, AllocError> {
-    let names = standard_names(alloc)?;
     let mut monitor = standard_monitor(alloc)?;
-    let result = serve(alloc, &names, &mut monitor, 7, reader, writer);
+    let result = serve(alloc, names, &mut monitor, 7, reader, writer);
     let entries = entries_of_seven(monitor.entries());
     Ok(Left { result, entries })
 }
@@ -54,131 +54,170 @@ fn entries_of_seven(entries: &[Entry]) -> usize {
     entries.iter().filter(|entry| entry.session == 7).count()
 }
 
+/// A script or a line, its answers, and how many entries it adds.
+type Case = (&'static [u8], &'static [u8], usize);
+
 /// Whether a script that comes in pieces of at most `most` bytes is answered so, with so many entries.
 fn is_answered(
     alloc: Global,
+    names: &Names<Global>,
     script: &[u8],
     most: usize,
     answers: &[u8],
     entries: usize,
-) -> Result<bool, AllocError> {
+) -> bool {
     let mut written = Vec::new(alloc);
-    let left = run(alloc, &mut Pieces::new(script, most), &mut written)?;
+    let left = run(alloc, names, &mut Pieces::new(script, most), &mut written);
     let result = Ok(entries as u64);
-    Ok(left == Left { result, entries } && written.as_slice() == answers)
+    left == Ok(Left { result, entries }) && written.as_slice() == answers
 }
+
+const SCRIPTS: [Case; 10] = [
+    (b"", b"", 0),
+    (SHORT, SHORT_ANSWERS, 2),
+    (
+        b"bob get-append plans\nann get-read memo\nann get-append plans\nbob get-read memo\n",
+        b"no integrity\nno integrity\nno discretionary\nno star\n",
+        4,
+    ),
+    (
+        b"ann get-execute tool\nbob get-execute tool\n",
+        b"no integrity\nyes\n",
+        2,
+    ),
+    (
+        b"sec get-write plans\nsec get-write memo\n",
+        b"yes\nno integrity\n",
+        2,
+    ),
+    (
+        b"ann release write plans\nann check write plans\n",
+        b"yes\nnot held\n",
+        1,
+    ),
+    (
+        b"ann frob plans\nzoe get-read plans\nann get-read\n; note\n\n",
+        b"bad form\nbad name\nbad form\n",
+        0,
+    ),
+    (
+        b"ann get-read pl\0ns\nann\tget-read plans\nann get-read plans\r\n",
+        b"bad form\nbad form\nbad form\n",
+        0,
+    ),
+    (
+        b"ann get-read plans\nann get-read pla",
+        b"yes\nbad name\n",
+        1,
+    ),
+    (b"ann get-read plans\nann get-read plans", b"yes\nyes\n", 2),
+];
 
 #[test]
 fn answers_scripts(rt: HostRuntime) -> Result<(), Fail> {
-    let cases: [(&[u8], &[u8], usize); 10] = [
-        (b"", b"", 0),
-        (SHORT, SHORT_ANSWERS, 2),
-        (
-            b"bob get-append plans\nann get-read memo\nann get-append plans\nbob get-read memo\n",
-            b"no integrity\nno integrity\nno discretionary\nno star\n",
-            4,
-        ),
-        (
-            b"ann get-execute tool\nbob get-execute tool\n",
-            b"no integrity\nyes\n",
-            2,
-        ),
-        (
-            b"sec get-write plans\nsec get-write memo\n",
-            b"yes\nno integrity\n",
-            2,
-        ),
-        (
-            b"ann release write plans\nann check write plans\n",
-            b"yes\nnot held\n",
-            1,
-        ),
-        (
-            b"ann frob plans\nzoe get-read plans\nann get-read\n; note\n\n",
-            b"bad form\nbad name\nbad form\n",
-            0,
-        ),
-        (
-            b"ann get-read pl\0ns\nann\tget-read plans\nann get-read plans\r\n",
-            b"bad form\nbad form\nbad form\n",
-            0,
-        ),
-        (
-            b"ann get-read plans\nann get-read pla",
-            b"yes\nbad name\n",
-            1,
-        ),
-        (b"ann get-read plans\nann get-read plans", b"yes\nyes\n", 2),
-    ];
-    for (script, answers, entries) in cases {
+    let names = standard_names(rt.alloc())?;
+    for (script, answers, entries) in SCRIPTS {
         for most in [1, 7, 65_536] {
-            assert!(rt; is_answered(rt.alloc(), script, most, answers, entries)?);
+            let is_right = is_answered(rt.alloc(), &names, script, most, answers, entries);
+            assert!(rt; is_right, "in pieces of {most}");
         }
     }
     Ok(())
 }
 
+/// A text, filled up with spaces to so many bytes, and what stands after it.
+fn filled(alloc: Global, text: &[u8], count: usize, after: &[u8]) -> Result<Vec<u8>, AllocError> {
+    let mut script = Vec::from_slice(alloc, text)?;
+    script.resize(count, b' ')?;
+    script.extend_from_slice(after)?;
+    Ok(script)
+}
+
+/// Whether a text that is filled up with spaces to so many bytes, and what stands after it, is answered so.
+fn is_answered_at(
+    alloc: Global,
+    names: &Names<Global>,
+    text: &[u8],
+    count: usize,
+    after: Case,
+) -> Result<bool, AllocError> {
+    let (more, answers, entries) = after;
+    let script = filled(alloc, text, count, more)?;
+    let in_small = is_answered(alloc, names, &script, 6_000, answers, entries);
+    let at_once = is_answered(alloc, names, &script, 65_536, answers, entries);
+    Ok(in_small && at_once)
+}
+
+/// Texts of lines, their answers and entries.
+const LINES: [Case; 3] = [
+    (b"", b"", 0),
+    (b";", b"", 0),
+    (b"ann get-read plans", b"yes\n", 1),
+];
+
 #[test]
 fn lines_at_the_bounds(rt: HostRuntime) -> Result<(), Fail> {
-    let cases: [(&[u8], &[u8], usize); 3] = [
-        (b"", b"", 0),
-        (b";", b"", 0),
-        (b"ann get-read plans", b"yes\n", 1),
-    ];
-    for (text, answers, entries) in cases {
-        for most in [6_000, 65_536] {
-            let mut line = Vec::from_slice(rt.alloc(), text)?;
-            line.resize(MAX_LINE, b' ')?;
-            assert!(rt; is_answered(rt.alloc(), &line, most, answers, entries)?);
-            line.push(b' ')?;
-            assert!(rt; is_answered(rt.alloc(), &line, most, b"bad form\n", 0)?);
-            line.resize(100_000, b' ')?;
-            line.extend_from_slice(b"\nann check read plans\n")?;
-            assert!(rt; is_answered(rt.alloc(), &line, most, b"bad form\nnot held\n", 0)?);
-        }
+    let names = standard_names(rt.alloc())?;
+    let too_long: Case = (b"", b"bad form\n", 0);
+    let far_too_long: Case = (b"\nann check read plans\n", b"bad form\nnot held\n", 0);
+    for (text, answers, entries) in LINES {
+        let within = is_answered_at(rt.alloc(), &names, text, 20_000, (b"", answers, entries));
+        assert!(rt; within == Ok(true), "after {answers:?}");
+        let past = is_answered_at(rt.alloc(), &names, text, 20_001, too_long);
+        assert!(rt; past == Ok(true));
+        let far_past = is_answered_at(rt.alloc(), &names, text, 100_000, far_too_long);
+        assert!(rt; far_past == Ok(true));
     }
     Ok(())
 }
 
 /// Serves so many newlines one by one, and tells how often the reader was called.
-fn newlines(alloc: Global, count: usize) -> Result<(Left, usize), AllocError> {
+fn newlines(
+    alloc: Global,
+    names: &Names<Global>,
+    count: usize,
+) -> Result<(Left, usize), AllocError> {
     let script = Vec::from_elem(alloc, b'\n', count)?;
     let mut reader = Pieces::new(&script, 1);
-    let left = run(alloc, &mut reader, &mut Narrow::new(alloc, 0, None))?;
-    Ok((left, reader.calls))
+    let mut writer = Narrow::new(alloc, 0, None);
+    match run(alloc, names, &mut reader, &mut writer) {
+        Ok(left) => Ok((left, reader.calls)),
+        Err(fault) => Err(fault),
+    }
 }
 
 #[test]
 fn a_script_at_its_limit(rt: HostRuntime) -> Result<(), Fail> {
+    let names = standard_names(rt.alloc())?;
     for (count, result) in [
         (SCRIPT_LIMIT, Ok(0)),
         (SCRIPT_LIMIT + 1, Err(ServeFault::TooLong)),
     ] {
-        let (left, calls) = newlines(rt.alloc(), count)?;
-        assert_eq!(rt; left, Left { result, entries: 0 });
-        assert_eq!(rt; calls, SCRIPT_LIMIT + 1);
+        let left = Left { result, entries: 0 };
+        let served = newlines(rt.alloc(), &names, count);
+        assert!(rt; served == Ok((left, SCRIPT_LIMIT + 1)), "of {count}");
     }
     Ok(())
 }
 
+/// A script that a person types, who waits after each of its pieces for the answers of the steps below.
+const TYPED: &[u8] =
+    b"ann get-read plans\n\n; note\nann check read plans\nann get-write plans\nbob get-read memo";
+
 #[test]
 fn answers_before_it_reads_on(rt: HostRuntime) -> Result<(), Fail> {
+    let names = standard_names(rt.alloc())?;
     let flushed = Cell::new(0);
     let mut reader = Waiting {
-        bytes: b"ann get-read plans\n\n; note\nann check read plans\nann get-write plans\nbob get-read memo",
+        bytes: TYPED,
         steps: &[(19, 0), (8, 4), (12, 4), (32, 4), (14, 13)],
         step: 0,
         flushed: &flushed,
     };
-    let left = run(rt.alloc(), &mut reader, &mut Telling::new(&flushed))?;
-    assert_eq!(rt;
-        left,
-        Left {
-            result: Ok(3),
-            entries: 3
-        }
-    );
-    assert_eq!(rt; flushed.get(), 21);
+    let left = run(rt.alloc(), &names, &mut reader, &mut Telling::new(&flushed));
+    let (result, entries) = (Ok(3), 3);
+    assert!(rt; left == Ok(Left { result, entries }));
+    assert!(rt; flushed.get() == 21);
     Ok(())
 }
 
@@ -187,17 +226,32 @@ fn count_lines(bytes: &[u8]) -> usize {
     bytes.iter().filter(|byte| **byte == b'\n').count()
 }
 
+/// Whether a reader that fails after so many bytes of the short script leaves the answers and the entries of the lines that end within them.
+fn reader_fails(alloc: Global, names: &Names<Global>, count: usize, most: usize) -> bool {
+    let front = SHORT.get(..count).unwrap_or(SHORT);
+    let lines = count_lines(front);
+    let mut written = Vec::new(alloc);
+    let left = run(
+        alloc,
+        names,
+        &mut Pieces::failing(front, most),
+        &mut written,
+    );
+    let (result, entries) = (Err(ServeFault::Read), lines.min(2));
+    left == Ok(Left { result, entries })
+        && SHORT_ANSWERS.starts_with(&written)
+        && count_lines(&written) == lines
+}
+
 #[test]
 fn reader_fails_after_each_byte(rt: HostRuntime) -> Result<(), Fail> {
+    let names = standard_names(rt.alloc())?;
     for count in 0..60 {
-        let front = SHORT.get(..count).unwrap_or(SHORT);
-        let lines = count_lines(front);
         for most in [1, 65_536] {
-            let mut written = Vec::new(rt.alloc());
-            let left = run(rt.alloc(), &mut Pieces::failing(front, most), &mut written)?;
-            let (result, entries) = (Err(ServeFault::Read), lines.min(2));
-            assert_eq!(rt; left, Left { result, entries });
-            assert!(rt; SHORT_ANSWERS.starts_with(&written) && count_lines(&written) == lines);
+            assert!(rt;
+                reader_fails(rt.alloc(), &names, count, most),
+                "after {count}"
+            );
         }
     }
     Ok(())
@@ -206,13 +260,14 @@ fn reader_fails_after_each_byte(rt: HostRuntime) -> Result<(), Fail> {
 /// Whether the short script into a writer that breaks off after `room` bytes ends so, with no entry after the line whose answer broke off.
 fn breaks_off<W: Write>(
     alloc: Global,
+    names: &Names<Global>,
     writer: &mut W,
     room: usize,
     most: usize,
-) -> Result<bool, AllocError> {
-    let left = run(alloc, &mut Pieces::new(SHORT, most), writer)?;
+) -> bool {
+    let left = run(alloc, names, &mut Pieces::new(SHORT, most), writer);
     let (result, entries) = (Err(ServeFault::Write), if room < 4 { 1 } else { 2 });
-    Ok(left == Left { result, entries })
+    left == Ok(Left { result, entries })
 }
 
 /// Whether just the first `room` bytes of the short script's answers were taken.
@@ -220,18 +275,37 @@ fn took(writer: &Narrow, room: usize) -> bool {
     SHORT_ANSWERS.starts_with(&writer.taken) && writer.taken.len() == room
 }
 
+/// Whether a writer with so much room, which then fails so, takes just the answers that fit.
+fn narrow_takes(
+    alloc: Global,
+    names: &Names<Global>,
+    room: usize,
+    fails: Option<ErrorKind>,
+) -> bool {
+    let mut writer = Narrow::new(alloc, room, fails);
+    breaks_off(alloc, names, &mut writer, room, 65_536) && took(&writer, room)
+}
+
+/// Whether such a writer takes just the answers that fit when it is buffered.
+fn buffered_takes(alloc: Global, names: &Names<Global>, room: usize) -> bool {
+    let narrow = Narrow::new(alloc, room, Some(ErrorKind::Other));
+    let Ok(mut writer) = BufWriter::new(alloc, narrow) else {
+        return false;
+    };
+    breaks_off(alloc, names, &mut writer, room, 19) && took(writer.get_ref(), room)
+}
+
 #[test]
 fn writer_fails_after_each_byte(rt: HostRuntime) -> Result<(), Fail> {
+    let names = standard_names(rt.alloc())?;
     for room in 0..13 {
-        for fails in [None, Some(ErrorKind::Interrupted)] {
-            let mut writer = Narrow::new(rt.alloc(), room, fails);
-            assert!(rt; breaks_off(rt.alloc(), &mut writer, room, 65_536)?);
-            assert!(rt; took(&writer, room));
-        }
-        let narrow = Narrow::new(rt.alloc(), room, Some(ErrorKind::Other));
-        let mut writer = BufWriter::new(rt.alloc(), narrow)?;
-        assert!(rt; breaks_off(rt.alloc(), &mut writer, room, 19)?);
-        assert!(rt; took(writer.get_ref(), room));
+        assert!(rt; narrow_takes(rt.alloc(), &names, room, None), "{room}");
+        let interrupted = Some(ErrorKind::Interrupted);
+        assert!(rt;
+            narrow_takes(rt.alloc(), &names, room, interrupted),
+            "{room}"
+        );
+        assert!(rt; buffered_takes(rt.alloc(), &names, room), "{room}");
     }
     Ok(())
 }
@@ -262,7 +336,7 @@ const EIGHT_ENTRIES: [usize; 9] = [0, 1, 2, 2, 2, 3, 4, 5, 6];
 /// Serves what `written` doesn't answer yet of the script of eight lines.
 fn run_rest(
     heap: &Refusing<Global>,
-    names: &Names,
+    names: &Names<Global>,
     monitor: &mut Monitor<&Refusing<Global>>,
     written: &mut Vec<u8>,
 ) -> Left {
@@ -280,15 +354,16 @@ enum Asked {
     Nowhere,
 }
 
-/// Where the allocation of this number is asked for, and whether all is as it must be: written just the answers of the lines before, entries
-/// just theirs, and the rest of the script then answered as in a run that met no refusal.
-fn refuses(alloc: Global, names: &Names, number: u64) -> (Asked, bool) {
-    let heap = Refusing::new(alloc, number);
-    let Ok(mut monitor) = standard_monitor(&heap) else {
-        return (Asked::Opening, true);
-    };
-    let mut written = Vec::new(alloc);
-    let first = run_rest(&heap, names, &mut monitor, &mut written);
+/// Serves the script over a monitor, whatever is refused, and then what isn't answered: says whether one of these allocations was refused,
+/// and whether all is as it must be. Where none was, the script is answered whole. Else just the answers of the lines before were written,
+/// the entries are just theirs, and the rest is then answered as in a run that met no refusal.
+fn serves(
+    heap: &Refusing<Global>,
+    names: &Names<Global>,
+    monitor: &mut Monitor<&Refusing<Global>>,
+    written: &mut Vec<u8>,
+) -> (Asked, bool) {
+    let first = run_rest(heap, names, monitor, written);
     if !heap.has_refused() {
         let is_whole = first.result == Ok(6) && first.entries == 6;
         return (
@@ -296,9 +371,9 @@ fn refuses(alloc: Global, names: &Names, number: u64) -> (Asked, bool) {
             is_whole && written.as_slice() == EIGHT_ANSWERS,
         );
     }
-    let added = EIGHT_ENTRIES.get(count_lines(&written)).copied();
-    let is_front = EIGHT_ANSWERS.starts_with(&written) && added == Some(first.entries);
-    let second = run_rest(&heap, names, &mut monitor, &mut written);
+    let added = EIGHT_ENTRIES.get(count_lines(written)).copied();
+    let is_front = EIGHT_ANSWERS.starts_with(written) && added == Some(first.entries);
+    let second = run_rest(heap, names, monitor, written);
     let is_whole = second.result.is_ok() && second.entries == 6;
     let is_right = first.result == Err(ServeFault::Memory) && is_front && is_whole;
     (
@@ -307,22 +382,34 @@ fn refuses(alloc: Global, names: &Names, number: u64) -> (Asked, bool) {
     )
 }
 
-#[test]
-fn each_allocation_refused_in_turn(rt: HostRuntime) -> Result<(), Fail> {
-    let names = standard_names(rt.alloc())?;
+/// Where the allocation of this number is asked for, and whether all is as it must be.
+fn refuses(alloc: Global, names: &Names<Global>, number: u64) -> (Asked, bool) {
+    let heap = Refusing::new(alloc, number);
+    let Ok(mut monitor) = standard_monitor(&heap) else {
+        return (Asked::Opening, true);
+    };
+    let mut written = Vec::new(alloc);
+    serves(&heap, names, &mut monitor, &mut written)
+}
+
+/// Refuses each allocation in turn, asserts that all is as it must be, and says how often one of serving was refused.
+fn refusals_in_turn(rt: &impl Abort, alloc: Global, names: &Names<Global>) -> Option<u32> {
     let mut refusals = 0u32;
     for number in 1..1000 {
-        let (asked, is_right) = refuses(rt.alloc(), &names, number);
+        let (asked, is_right) = refuses(alloc, names, number);
         assert!(rt; is_right, "at {number}");
         match asked {
             Asked::Opening => {}
             Asked::Serving => refusals = refusals.saturating_add(1),
-            Asked::Nowhere => {
-                assert!(rt; refusals >= 8);
-                return Ok(());
-            }
+            Asked::Nowhere => return Some(refusals),
         }
     }
-    assert!(rt; false, "an allocation was refused in each run");
+    None
+}
+
+#[test]
+fn each_allocation_refused_in_turn(rt: HostRuntime) -> Result<(), Fail> {
+    let names = standard_names(rt.alloc())?;
+    assert!(rt; refusals_in_turn(&rt, rt.alloc(), &names) >= Some(8));
     Ok(())
 }

@@ -2,7 +2,8 @@
 use crate::Vars;
 use mls_tables::ObjectId;
 use refusing::Refusing;
-use std::test::Fail;
+use std::alloc::{Allocator, Global};
+use std::process::Abort;
 
 /// Variables and objects, in the order in which they are bound. Two variables are bound twice.
 const BINDS: [(&str, u16); 12] = [
@@ -31,33 +32,53 @@ const BOUND: [(&str, Option<ObjectId>); 7] = [
     ("ab", None),
 ];
 
+/// Binds a variable, again where memory was refused, and says whether it was.
+fn bind<A: Allocator + Copy>(
+    rt: &impl Abort,
+    vars: &mut Vars<A>,
+    name: &str,
+    object: ObjectId,
+) -> bool {
+    let before = vars.get(name);
+    let refused = vars.bind(name, object).is_err();
+    if refused {
+        assert!(rt; vars.get(name) == before, "{name} was {before:?}");
+        assert!(rt; vars.bind(name, object).is_ok());
+    }
+    assert!(rt; vars.get(name) == Some(object), "{name} is {object:?}");
+    refused
+}
+
+/// Binds the variables in their order, and says how often memory was refused.
+fn bind_all<A: Allocator + Copy>(rt: &impl Abort, vars: &mut Vars<A>) -> u32 {
+    let mut refusals = 0u32;
+    for (name, object) in BINDS {
+        if bind(rt, vars, name, ObjectId(object)) {
+            refusals = refusals.saturating_add(1);
+        }
+    }
+    for (name, object) in BOUND {
+        assert!(rt; vars.get(name) == object, "{name} in the end");
+    }
+    refusals
+}
+
+/// Binds new variables over an allocator, and says how often memory was refused.
+fn run(rt: &impl Abort, heap: &Refusing<Global>) -> u32 {
+    let mut vars = Vars::new(heap);
+    bind_all(rt, &mut vars)
+}
+
 #[test]
-fn binds_and_binds_again_whatever_allocation_is_refused(rt: HostRuntime) -> Result<(), Fail> {
+fn binds_and_binds_again_whatever_allocation_is_refused(rt: HostRuntime) {
     let mut refusals = 0u32;
     for number in 1..100 {
         let heap = Refusing::new(rt.alloc(), number);
-        let mut vars = Vars::new(&heap);
-        for (name, object) in BINDS {
-            let before = vars.get(name);
-            if vars.bind(name, ObjectId(object)).is_err() {
-                refusals = refusals.saturating_add(1);
-                assert_eq!(rt; vars.get(name), before, "{name} at {number}");
-                vars.bind(name, ObjectId(object))?;
-            }
-            assert_eq!(rt;
-                vars.get(name),
-                Some(ObjectId(object)),
-                "{name} at {number}"
-            );
-        }
-        for (name, object) in BOUND {
-            assert_eq!(rt; vars.get(name), object, "{name} at {number}");
-        }
+        refusals = refusals.saturating_add(run(&rt, &heap));
         if !heap.has_refused() {
             assert!(rt; refusals >= 13);
-            return Ok(());
+            return;
         }
     }
     assert!(rt; false, "an allocation was refused in each run");
-    Ok(())
 }

@@ -28,7 +28,7 @@ fn create_rows() -> [(Request, Reply); 12] {
 #[test]
 fn creations(rt: HostRuntime) -> Result<(), Fail> {
     let mut state = opened(rt.alloc())?;
-    are_answered(&rt, &mut state, &create_rows())?;
+    are_answered(&rt, &mut state, &create_rows());
     let made = ObjectId(4);
     assert!(rt; state.is_active(made) && state.is_active(PLANS) && state.is_active(ROOT));
     assert!(rt; state.parent(made) == Some(PLANS) && state.next() == 7);
@@ -68,7 +68,7 @@ fn branch_rows() -> [(Request, Reply); 16] {
 #[test]
 fn a_branch_is_deleted(rt: HostRuntime) -> Result<(), Fail> {
     let mut state = opened(rt.alloc())?;
-    are_answered(&rt, &mut state, &branch_rows())?;
+    are_answered(&rt, &mut state, &branch_rows());
     let last = ObjectId(7);
     assert!(rt; !state.has_access(ANN, ObjectId(6), Mode::Read));
     assert!(rt; !state.is_active(ObjectId(4)) && !state.is_active(ObjectId(6)));

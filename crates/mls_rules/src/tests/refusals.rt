@@ -14,37 +14,27 @@ fn answered<A: Allocator>(
     state: &mut State<A>,
     ample: &mut State<A>,
     request: &Request,
-) -> Result<(), AllocError> {
-    let first = apply(state, request);
-    let reply = match first {
-        Ok(reply) => reply,
-        Err(_) => {
-            are_alike(rt, state, ample);
-            apply(state, request)?
-        }
-    };
-    assert!(rt; reply == apply(ample, request)?);
-    assert!(rt; reply != Reply::Undefined);
-    Ok(())
+) {
+    let mut reply = apply(state, request);
+    if reply.is_err() {
+        are_alike(rt, state, ample);
+        reply = apply(state, request);
+    }
+    assert!(rt; reply.is_ok() && reply != Ok(Reply::Undefined));
+    assert!(rt; reply == apply(ample, request));
 }
 
-/// Puts an access into both states, into the first again where memory was refused.
-fn put<A: Allocator>(
-    rt: &impl Abort,
-    state: &mut State<A>,
-    ample: &mut State<A>,
-) -> Result<(), AllocError> {
+/// Puts an access into a state, again where memory was refused, beside a state like it.
+fn put<A: Allocator>(rt: &impl Abort, state: &mut State<A>, alike: &State<A>) {
     assert!(rt; state.is_subject(BOB) && state.is_active(PLANS));
-    if state.put_access(BOB, PLANS, Mode::Read).is_err() {
-        are_alike(rt, state, ample);
-        assert!(rt; is_secure(state));
-        assert!(rt; state.is_subject(BOB) && state.is_active(PLANS));
-        assert!(rt; state.put_access(BOB, PLANS, Mode::Read)?);
+    let mut is_new = state.put_access(BOB, PLANS, Mode::Read);
+    if is_new.is_err() {
+        are_alike(rt, state, alike);
+        assert!(rt; is_secure(state) && state.is_subject(BOB) && state.is_active(PLANS));
+        is_new = state.put_access(BOB, PLANS, Mode::Read);
     }
-    assert!(rt; ample.is_subject(BOB) && ample.is_active(PLANS));
-    assert!(rt; ample.put_access(BOB, PLANS, Mode::Read)?);
-    assert!(rt; !is_secure(state));
-    Ok(())
+    assert!(rt; is_new == Ok(true));
+    assert!(rt; state.has_access(BOB, PLANS, Mode::Read) && !is_secure(state));
 }
 
 /// What is asked for, the objects 4 and 5 and their accesses among it.
@@ -76,22 +66,35 @@ fn opened_again(heap: &Refusing<Global>) -> Result<State<&Refusing<Global>>, All
     }
 }
 
-/// Opens a state, again where memory was refused, makes the requests of it and puts an access into it, beside a state
-/// that has ample memory.
-fn run(
+/// Makes the requests of both states, and puts an access into the first.
+fn ask_both<A: Allocator>(rt: &impl Abort, state: &mut State<A>, ample: &mut State<A>) {
+    are_alike(rt, state, ample);
+    for request in requests() {
+        answered(rt, state, ample, &request);
+    }
+    are_alike(rt, state, ample);
+    put(rt, state, ample);
+}
+
+/// Opens a state, again where memory was refused, beside a state that has ample memory, and makes the requests of both.
+fn run<'a>(
     rt: &impl Abort,
-    heap: &Refusing<Global>,
-    ample: &Refusing<Global>,
+    heap: &'a Refusing<Global>,
+    ample: &mut State<&'a Refusing<Global>>,
+) -> Result<(), AllocError> {
+    let mut state = opened_again(heap)?;
+    ask_both(rt, &mut state, ample);
+    Ok(())
+}
+
+/// Runs beside a new state that has ample memory.
+fn run_beside<'a>(
+    rt: &impl Abort,
+    heap: &'a Refusing<Global>,
+    ample: &'a Refusing<Global>,
 ) -> Result<(), AllocError> {
     let mut plenty = opened(ample)?;
-    let mut state = opened_again(heap)?;
-    are_alike(rt, &state, &plenty);
-    for request in requests() {
-        answered(rt, &mut state, &mut plenty, &request)?;
-    }
-    put(rt, &mut state, &mut plenty)?;
-    are_alike(rt, &state, &plenty);
-    Ok(())
+    run(rt, heap, &mut plenty)
 }
 
 #[test]
@@ -99,7 +102,7 @@ fn each_allocation_is_refused_once(rt: HostRuntime) -> Result<(), Fail> {
     let ample = Refusing::new(rt.alloc(), 0);
     for number in 1..200 {
         let heap = Refusing::new(rt.alloc(), number);
-        run(&rt, &heap, &ample)?;
+        run_beside(&rt, &heap, &ample)?;
         if !heap.has_refused() {
             // the tables of the start and of its opening, and the growths for requests
             assert!(rt; number > 20, "only {number}");
@@ -110,34 +113,47 @@ fn each_allocation_is_refused_once(rt: HostRuntime) -> Result<(), Fail> {
     Ok(())
 }
 
-/// A state in which all numbers but three are given out.
-fn nearly_full<A: Allocator + Clone>(alloc: A) -> Result<State<A>, AllocError> {
-    let mut state = opened(alloc)?;
-    apply(&mut state, &get(SEC, Mode::Write, ROOT))?;
-    for _ in 4..4093u16 {
-        apply(&mut state, &create(SEC, ROOT, 0, 1))?;
+/// Gives out all numbers but three to children of the root.
+fn nearly_fill<A: Allocator>(rt: &impl Abort, state: &mut State<A>) {
+    assert!(rt; apply(state, &get(SEC, Mode::Write, ROOT)) == Ok(Reply::Yes));
+    for n in 4..4093u16 {
+        let made = Reply::Created(ObjectId(n));
+        assert!(rt; apply(state, &create(SEC, ROOT, 0, 1)) == Ok(made));
     }
-    Ok(state)
 }
 
-/// Creates the last three objects, and is denied a fourth, in a copy whose tables have no room to spare, beside a state
-/// that has ample memory.
-fn run_last(
-    rt: &impl Abort,
-    heap: &Refusing<Global>,
-    ample: &Refusing<Global>,
-) -> Result<(), AllocError> {
-    let mut plenty = nearly_full(ample)?;
-    let mut state = match plenty.duplicate(heap) {
-        Ok(state) => state,
-        Err(_) => plenty.duplicate(heap)?,
-    };
+/// Creates the last three objects, and is denied a fourth.
+fn create_last<A: Allocator>(rt: &impl Abort, state: &mut State<A>, ample: &mut State<A>) {
     for _ in 0..4 {
-        answered(rt, &mut state, &mut plenty, &create(SEC, ROOT, 0, 1))?;
+        answered(rt, state, ample, &create(SEC, ROOT, 0, 1));
     }
-    are_alike(rt, &state, &plenty);
-    assert!(rt; state.next() == 4096 && is_secure(&state));
+    are_alike(rt, state, ample);
+    assert!(rt; state.next() == 4096 && is_secure(state));
+}
+
+/// Creates the last objects in a copy whose tables have no room to spare, beside the state that was copied.
+fn run_last<'a>(
+    rt: &impl Abort,
+    heap: &'a Refusing<Global>,
+    ample: &mut State<&'a Refusing<Global>>,
+) -> Result<(), AllocError> {
+    let mut state = match ample.duplicate(heap) {
+        Ok(state) => state,
+        Err(_) => ample.duplicate(heap)?,
+    };
+    create_last(rt, &mut state, ample);
     Ok(())
+}
+
+/// Creates the last objects beside a new state that has ample memory.
+fn run_last_beside<'a>(
+    rt: &impl Abort,
+    heap: &'a Refusing<Global>,
+    ample: &'a Refusing<Global>,
+) -> Result<(), AllocError> {
+    let mut plenty = opened(ample)?;
+    nearly_fill(rt, &mut plenty);
+    run_last(rt, heap, &mut plenty)
 }
 
 #[test]
@@ -145,7 +161,7 @@ fn the_last_numbers_are_refused_once(rt: HostRuntime) -> Result<(), Fail> {
     let ample = Refusing::new(rt.alloc(), 0);
     for number in 1..200 {
         let heap = Refusing::new(rt.alloc(), number);
-        run_last(&rt, &heap, &ample)?;
+        run_last_beside(&rt, &heap, &ample)?;
         if !heap.has_refused() {
             // the tables of the copy, and the growth of each
             assert!(rt; number > 10, "only {number}");
