@@ -1,5 +1,5 @@
 //! Scripts over the standard start: their answers, their entries and the accesses that they leave.
-use mls_cli::{serve, standard_start};
+use mls_cli::{Names, serve, standard_start};
 use mls_monitor::Monitor;
 use mls_tables::{Mode, ObjectId, SubjectId};
 use std::alloc::{AllocError, Allocator, Global};
@@ -172,27 +172,36 @@ fn held<A: Allocator>(monitor: &Monitor<A>) -> usize {
     count
 }
 
-/// Whether a script leaves what its row says.
+/// Serves a script as session 7, and says how many entries it added.
+fn entries_added(
+    alloc: Global,
+    names: &Names<Global>,
+    monitor: &mut Monitor<Global>,
+    script: &[u8],
+    written: &mut Vec<u8>,
+) -> Option<u64> {
+    let mut reader = script;
+    match serve(alloc, names, monitor, 7, &mut reader, written) {
+        Ok(added) => Some(added),
+        Err(_) => None,
+    }
+}
+
+/// Whether a script, served over a monitor that is new, leaves what its row says.
+fn leaves(alloc: Global, names: &Names<Global>, monitor: &mut Monitor<Global>, row: Row) -> bool {
+    let mut written = Vec::new(alloc);
+    let added = entries_added(alloc, names, monitor, row.script, &mut written);
+    added == Some(row.entries)
+        && written.as_slice() == row.answers
+        && held(monitor) == row.held
+        && monitor.entries().iter().all(|entry| entry.session == 7)
+}
+
+/// Whether a script over the standard start leaves what its row says.
 fn is_answered(alloc: Global, row: Row) -> Result<bool, Fail> {
     let loaded = standard_start(alloc)?;
     let mut monitor = Monitor::open(alloc, loaded.start).map_err(|_| AllocError)?;
-    let mut reader = row.script;
-    let mut written = Vec::new(alloc);
-    let served = serve(
-        alloc,
-        &loaded.names,
-        &mut monitor,
-        7,
-        &mut reader,
-        &mut written,
-    );
-    let in_session = monitor.entries().iter().all(|entry| entry.session == 7);
-    Ok(
-        served == Ok(row.entries)
-            && written.as_slice() == row.answers
-            && held(&monitor) == row.held
-            && in_session,
-    )
+    Ok(leaves(alloc, &loaded.names, &mut monitor, row))
 }
 
 #[test]
