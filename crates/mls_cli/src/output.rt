@@ -1,5 +1,5 @@
 //! Writing answers.
-ghost use Rattle.std.specs.Prelude.{◌≡◌, ◌++◌, ◌∷◌, ◌⊎◌, [], List, ℕ, codes, Err};
+ghost use Rattle.std.specs.Prelude.{◌≡◌, ◌++◌, ◌∷◌, ◌⊎◌, [], List, ℕ, codes, Err, false};
 ghost use Rattle.std.specs.Fmt.{decimal};
 ghost use Rattle.std.specs.Io.KnownBytes.{Keeps};
 ghost use Rattle.mls_cli.specs.Script.{reason_word, reply_text, answer_bytes};
@@ -90,6 +90,7 @@ pub fn settle<W: Write>(
 ) -> Result<(), ServeFault>
     ensures same { Keeps (W.contents writer.old) (W.contents writer.new) }
     ensures outcome { (result ≡ outcome) ⊎ (result ≡ Err ServeFault.Write) }
+    ensures quiet { wrote ≡ false → result ≡ outcome }
 {
     if wrote && outcome != Err(ServeFault::Write) && writer.flush().is_err() {
         return Err(ServeFault::Write);
