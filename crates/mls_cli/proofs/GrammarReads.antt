@@ -15,7 +15,6 @@ use Rattle.mls_rules.specs.declared.request.Action.TheVariants as action
 use Rattle.mls_cli.specs.declared.ask.Ask.{Ask}
 use Rattle.mls_cli.specs.declared.ask.Ask.TheVariants as ask
 use Rattle.mls_cli.specs.declared.words.Word.TheVariants as word
-use Rattle.mls_cli.specs.declared.words.Change.TheVariants as change
 use Rattle.mls_cli.specs.Labels.{label_named}
 use Rattle.mls_cli.specs.Names.{Names}
 use Rattle.mls_cli.specs.Tokens.{is_name, is_name_byte}

@@ -14,7 +14,6 @@ use Rattle.mls_tables.specs.declared.mode.Mode.{Mode}
 use Rattle.mls_tables.specs.declared.mode.Mode.TheVariants.{Execute, Read, Append, Write}
 use Rattle.mls_rules.specs.declared.request.Action.TheVariants as action
 use Rattle.mls_cli.specs.declared.ask.Ask.{Ask}
-use Rattle.mls_cli.specs.declared.ask.Ask.TheVariants as ask
 use Rattle.mls_cli.specs.declared.fault.LineFault.{LineFault}
 use Rattle.mls_cli.specs.declared.fault.LineFault.TheVariants.{BadForm}
 use Rattle.mls_cli.specs.declared.words.Word.{Word}
