@@ -2,4 +2,8 @@
 #![tactic(auto)]
 
 #[cfg(test)]
+mod all_numbers;
+#[cfg(test)]
+mod rows;
+#[cfg(test)]
 mod scripts;

@@ -1,0 +1,55 @@
+//! A script that is given all object numbers.
+use crate::scripts::entries_added;
+use mls_cli::{Names, standard_start};
+use mls_monitor::Monitor;
+use std::alloc::{AllocError, Allocator, Global};
+use std::test::Fail;
+
+/// What is asked after the last number was given out: by a subject that may create there, by one that may not, and with no label.
+const PAST_THE_LAST: &[u8] = b"sec create root U hi\nbob create root U hi\nsec create root Q hi\n";
+
+/// What that is answered.
+const PAST_THE_LAST_ANSWERS: &[u8] = b"no full\nno authority\nbad label\n";
+
+/// A script that creates 4,092 objects below the root, and what is asked after that.
+fn script(alloc: Global) -> Result<Vec<u8>, AllocError> {
+    let mut script = Vec::from_slice(alloc, b"sec get-write root\n")?;
+    for _ in 4..4096u16 {
+        script.extend_from_slice(b"sec create root U hi\n")?;
+    }
+    script.extend_from_slice(PAST_THE_LAST)?;
+    Ok(script)
+}
+
+/// Its answers.
+fn answers(alloc: Global) -> Result<Vec<u8>, AllocError> {
+    let mut answers = Vec::from_slice(alloc, b"yes\n")?;
+    for number in 4..4096u16 {
+        let line = format!(in alloc; "created {number}\n")?;
+        answers.extend_from_slice(line.as_bytes())?;
+    }
+    answers.extend_from_slice(PAST_THE_LAST_ANSWERS)?;
+    Ok(answers)
+}
+
+/// Whether the script, served over a monitor that is new, is answered so, with an entry for each line but the last.
+fn gives_out_all(
+    alloc: Global,
+    names: &Names<Global>,
+    monitor: &mut Monitor<Global>,
+) -> Result<bool, AllocError> {
+    let script = script(alloc)?;
+    let answers = answers(alloc)?;
+    let mut written = Vec::new(alloc);
+    let added = entries_added(alloc, names, monitor, &script, &mut written);
+    Ok(added == Some(4095) && written.as_slice() == answers.as_slice())
+}
+
+#[test]
+fn all_numbers_are_given_out_once(rt: HostRuntime) -> Result<(), Fail> {
+    let loaded = standard_start(rt.alloc())?;
+    let mut monitor = Monitor::open(rt.alloc(), loaded.start).map_err(|_| AllocError)?;
+    assert!(rt; gives_out_all(rt.alloc(), &loaded.names, &mut monitor) == Ok(true));
+    assert!(rt; monitor.state().next() == 4096);
+    Ok(())
+}
