@@ -1,9 +1,10 @@
 //! The program `mls`: without words it answers the script on standard input over the standard start.
 #![tactic(auto)]
 
-use mls_cli::{LoadFault, ServeFault, serve, standard_start};
+use mls_cli::{LoadFault, Names, ServeFault, serve, standard_start};
 use mls_labels::SchemeFault;
 use mls_monitor::Monitor;
+use std::alloc::Global;
 use std::env::FillError;
 use std::io::BufWriter;
 use std::process::ExitCode;
@@ -46,28 +47,24 @@ fn serve_line(fault: ServeFault) -> &'static str {
 }
 
 /// Answers the script on standard input as session 0, and gives the number of entries, or the line that tells of a fault.
-fn serve_input(rt: &HostRuntime) -> Result<u64, &'static str> {
-    let loaded = match standard_start(rt.alloc()) {
-        Ok(loaded) => loaded,
-        Err(fault) => return Err(start_line(fault)),
-    };
-    let Ok(mut monitor) = Monitor::open(rt.alloc(), loaded.start) else {
-        return Err(NO_MEMORY);
-    };
+fn serve_input(
+    rt: &HostRuntime,
+    names: &Names<Global>,
+    monitor: &mut Monitor<Global>,
+) -> Result<u64, &'static str> {
     let Ok(mut writer) = BufWriter::new(rt.alloc(), rt.stdout()) else {
         return Err(NO_MEMORY);
     };
     let mut reader = rt.stdin();
-    match serve(
-        rt.alloc(),
-        &loaded.names,
-        &mut monitor,
-        0,
-        &mut reader,
-        &mut writer,
-    ) {
-        Ok(count) => Ok(count),
-        Err(fault) => Err(serve_line(fault)),
+    serve(rt.alloc(), names, monitor, 0, &mut reader, &mut writer).map_err(serve_line)
+}
+
+/// Opens a monitor over the standard start, and answers the script over it.
+fn serve_standard(rt: &HostRuntime) -> Result<u64, &'static str> {
+    let loaded = standard_start(rt.alloc()).map_err(start_line)?;
+    match Monitor::open(rt.alloc(), loaded.start) {
+        Ok(mut monitor) => serve_input(rt, &loaded.names, &mut monitor),
+        Err(_) => Err(NO_MEMORY),
     }
 }
 
@@ -81,7 +78,7 @@ fn main(rt: HostRuntime) -> ExitCode {
     if has_words(&rt) {
         return refused(&rt, "usage: mls < SCRIPT", 2);
     }
-    match serve_input(&rt) {
+    match serve_standard(&rt) {
         Ok(_) => ExitCode::SUCCESS,
         Err(line) => refused(&rt, line, 1),
     }
