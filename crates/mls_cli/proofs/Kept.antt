@@ -6,8 +6,8 @@ use Rattle.std.proofs.lemmas.Bool.Decides.{nat_tests}
 use Rattle.std.proofs.Math.Dec.{eqb-suc-zero}
 use Rattle.std.proofs.Math.Seq.{take-append-add}
 use Rattle.mls_cli.specs.Lines.{kept_of}
-use Rattle.mls_cli.specs.Names.{Names}
-use Rattle.mls_cli.specs.ScriptLine.{line_of}
+use Rattle.mls_lines.specs.Names.{Names}
+use Rattle.mls_lines.specs.ScriptLine.{line_of}
 use Rattle.mls_cli.specs.Script.{Standing, answer_bytes, said_to, left_by, answer_to, after_line}
 
 take-joined : (n : ℕ) (l m : List ℕ) → take n (take n l ++ m) ≡ take n (l ++ m)

@@ -1,15 +1,6 @@
-pub mod GrammarReads
-pub mod GrammarSays
 pub mod Kept
-pub mod LabelBytes
 pub mod LineLemmas
-pub mod NameLemmas
-pub mod NumberLemmas
-pub mod NumbersLaw
 pub mod Pieces
 pub mod Progress
 pub mod Runs
 pub mod Texts
-pub mod TokenLemmas
-pub mod TokensLaw
-pub mod VarLemmas

@@ -2,7 +2,7 @@
 use Rattle.std.proofs.Common.{◌≡◌, ℕ, List, [], ◌∷◌, ◌++◌, Option, Result, Ok, Err, OnOk, IfErr, false, true, length, sym, refl, ap, ◌∙◌, subst, append_assoc, append-nil, eqb, inl, inr, ◌⊎◌}
 use Rattle.std.specs.Io.KnownBytes.{Keeps}
 use Rattle.mls_cli.specs.Lines.{lines_of, closed_lines, open_part, has_newline, kept_of, Cuts}
-use Rattle.mls_cli.specs.Names.{Names}
+use Rattle.mls_lines.specs.Names.{Names}
 use Rattle.mls_cli.specs.Script.{Standing, answer_to, after_line}
 use Rattle.mls_cli.specs.Serve.{Answers, Stops, AnswersOrStops, Replies, Feeds}
 use Rattle.mls_cli.specs.declared.serving.ServeFault.{ServeFault}

@@ -3,7 +3,7 @@ use Rattle.std.proofs.Common.{◌≡◌, ℕ, List, [], ◌∷◌, ◌++◌, Opt
 use Rattle.std.proofs.KnownBytes.{Appends-trans, Appends-nil, Appends-kept}
 use Rattle.std.specs.Io.KnownBytes.{Appends, Keeps}
 use Rattle.mls_cli.specs.Lines.{lines_of, closed_part, open_part, closed_lines}
-use Rattle.mls_cli.specs.Names.{Names}
+use Rattle.mls_lines.specs.Names.{Names}
 use Rattle.mls_cli.specs.Script.{Standing, answer_to, after_line, answers, after_lines}
 use Rattle.mls_cli.specs.Serve.{Answers, AnswersFront, BreaksOff, Stops, AnswersOrStops, Replies}
 use Rattle.mls_cli.specs.declared.serving.ServeFault.{ServeFault}

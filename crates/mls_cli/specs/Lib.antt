@@ -1,14 +1,5 @@
-pub mod Fault
-pub mod Grammar
-pub mod Labels
 pub mod Lines
 pub mod Loading
-pub mod Names
-pub mod Numbers
 pub mod Script
-pub mod ScriptLine
 pub mod Serve
 pub mod Standard
-pub mod Tokens
-pub mod Vars
-pub mod Words

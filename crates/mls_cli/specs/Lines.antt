@@ -1,6 +1,6 @@
 -- The lines of a script, and how they are cut out of bytes that come in pieces.
 use Rattle.std.specs.Prelude.{◌≡◌, ℕ, ◌+◌, Bool, false, ◌||◌, List, [], ◌∷◌, ◌++◌, ◌==◌, take, if◌then◌else◌}
-use Rattle.mls_cli.specs.declared.line.TheConstants.{MAX_LINE}
+use Rattle.mls_lines.specs.declared.line.TheConstants.{MAX_LINE}
 
 -- A byte stands before the first line. (own)
 abbrev pub onto_first : ℕ → List (List ℕ) → List (List ℕ)

@@ -12,14 +12,14 @@ use Rattle.mls_rules.specs.declared.request.Reply.{Reply}
 use Rattle.mls_rules.specs.declared.request.Reply.TheVariants.{Yes, Created, No, Undefined}
 use Rattle.mls_monitor.specs.declared.entry.Entry.{Entry}
 use Rattle.mls_monitor.specs.Journal.{Monitor, fold}
-use Rattle.mls_cli.specs.declared.ask.Ask.TheVariants.{Submit, Check}
-use Rattle.mls_cli.specs.declared.fault.LineFault.{LineFault}
-use Rattle.mls_cli.specs.declared.fault.LineFault.TheVariants.{BadForm, UnknownName, BadLabel}
+use Rattle.mls_lines.specs.declared.ask.Ask.TheVariants.{Submit, Check}
+use Rattle.mls_lines.specs.declared.fault.LineFault.{LineFault}
+use Rattle.mls_lines.specs.declared.fault.LineFault.TheVariants.{BadForm, UnknownName, BadLabel}
 use Rattle.mls_cli.specs.declared.answer.Answer.{Answer}
 use Rattle.mls_cli.specs.declared.answer.Answer.TheVariants.{Nothing, Fault, Held, Replied}
-use Rattle.mls_cli.specs.Names.{Names}
-use Rattle.mls_cli.specs.ScriptLine.{LineView, Blank, Asks, line_of}
-use Rattle.mls_cli.specs.Vars.{with_binding}
+use Rattle.mls_lines.specs.Names.{Names}
+use Rattle.mls_lines.specs.ScriptLine.{LineView, Blank, Asks, line_of}
+use Rattle.mls_lines.specs.Vars.{with_binding}
 
 -- The word of a reason. (own)
 abbrev pub reason_word : Reason → List ℕ

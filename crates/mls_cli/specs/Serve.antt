@@ -3,7 +3,7 @@ use Rattle.std.specs.Prelude.{◌≡◌, ℕ, ◌+◌, ◌<◌, ◌≤◌, ◌�
 use Rattle.std.specs.Io.KnownBytes.{Appends, Consumes}
 use Rattle.mls_monitor.specs.Journal.{Monitor}
 use Rattle.mls_cli.specs.Lines.{lines_of, closed_lines, open_part, has_newline, kept_of}
-use Rattle.mls_cli.specs.Names.{Names}
+use Rattle.mls_lines.specs.Names.{Names}
 use Rattle.mls_cli.specs.Script.{Standing, standing_of, answers, after_lines}
 use Rattle.mls_cli.specs.declared.serving.TheConstants.{SCRIPT_LIMIT}
 use Rattle.mls_cli.specs.declared.serving.ServeFault.{ServeFault}

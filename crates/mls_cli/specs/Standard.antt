@@ -1,7 +1,7 @@
 -- The names of the standard start.
 use Rattle.std.specs.Prelude.{[], ◌∷◌, codes}
 use Rattle.mls_labels.specs.Scheme.{Scheme}
-use Rattle.mls_cli.specs.Names.{Names}
+use Rattle.mls_lines.specs.Names.{Names}
 
 -- The standard start's levels and categories of security, from the lowest level up. (own)
 abbrev pub standard_security : Scheme

@@ -1,15 +1,11 @@
 //! The step of one line of a script: what it asks of the monitor, and what it is answered.
-ghost use Rattle.std.specs.Prelude.{◌≡◌, ◌++◌, ◌∷◌, [], Some, IfOk, OnOk, OnErr};
+ghost use Rattle.std.specs.Prelude.{◌≡◌, ◌++◌, ◌∷◌, [], option_map, IfOk, OnOk, OnErr};
 ghost use Rattle.mls_rules.specs.Rules.{reply};
 ghost use Rattle.mls_monitor.specs.Journal.{state_of};
-ghost use Rattle.mls_cli.specs.ScriptLine.{line_of};
+ghost use Rattle.mls_lines.specs.ScriptLine.{line_of};
 ghost use Rattle.mls_cli.specs.Script.{standing_of, said_to, left_by, vars_after, entry_for};
 
-use crate::ask::{Ask, Line};
-use crate::fault::LineFault;
-use crate::line::read_line;
-use crate::names::Names;
-use crate::vars::Vars;
+use mls_lines::{Ask, Line, LineFault, Names, Vars, read_line};
 use mls_monitor::Monitor;
 use mls_rules::{Reply, Request};
 use std::alloc::{AllocError, Allocator};
@@ -42,12 +38,12 @@ impl<N: Allocator> Script<'_, N> {
         monitor: &mut Monitor<A>,
         line: &[u8],
     ) -> Result<Answer, AllocError>
-        ensures answer { let before = standing_of vars.old monitor.old in
+        ensures answer { let before = standing_of vars.old.bound monitor.old in
             IfOk result (λ a. a ≡ said_to before (line_of self.now.names.now before.vars line.now)) }
-        ensures stands { let before = standing_of vars.old monitor.old in
-            OnOk result (standing_of vars.new monitor.new
+        ensures stands { let before = standing_of vars.old.bound monitor.old in
+            OnOk result (standing_of vars.new.bound monitor.new
             ≡ left_by self.now.session before (line_of self.now.names.now before.vars line.now)) }
-        ensures err { OnErr result (standing_of vars.new monitor.new ≡ standing_of vars.old monitor.old) }
+        ensures err { OnErr result (standing_of vars.new.bound monitor.new ≡ standing_of vars.old.bound monitor.old) }
     {
         match read_line(self.names, vars, line) {
             Err(fault) => Ok(Answer::Fault(fault)),
@@ -57,39 +53,39 @@ impl<N: Allocator> Script<'_, N> {
                     Ok(Answer::Held(monitor.check(subject, object, mode)))
                 }
                 Ask::Submit(request) => {
-                    let reply = match bind {
-                        None => monitor.submit(self.session, request)?.reply,
-                        Some(name) => submit_and_bind(vars, name, monitor, self.session, &request)?,
-                    };
+                    let reply = self.submit(vars, bind, monitor, request)?;
                     Ok(Answer::Replied(reply))
                 }
             },
         }
     }
-}
 
-/// Asks a request, and binds a variable to the object that it made. The room for the variable is made first, so that an object that
-/// was made is always bound. Want of memory leaves the variables and the monitor as they were.
-fn submit_and_bind<A: Allocator, V: Allocator + Copy>(
-    vars: &mut Vars<V>,
-    name: &str,
-    monitor: &mut Monitor<A>,
-    session: u32,
-    request: &Request,
-) -> Result<Reply, AllocError>
-    ensures reply { IfOk result (λ r. r ≡ reply (state_of monitor.old) request.now) }
-    ensures bound { IfOk result (λ r. vars.new ≡ vars_after vars.old (Some name.now) r) }
-    ensures start { monitor.new.start ≡ monitor.old.start }
-    ensures entries { OnOk result (monitor.new.entries
-        ≡ monitor.old.entries ++ entry_for session (standing_of vars.old monitor.old) request.now ∷ []) }
-    ensures err { OnErr result (standing_of vars.new monitor.new ≡ standing_of vars.old monitor.old) }
-{
-    let copy = vars.bindings.reserve(name)?;
-    let reply = monitor.submit(session, *request)?.reply;
-    if let Reply::Created(object) = reply {
-        vars.bindings.bind(copy, object);
+    /// Asks a request, and binds the variable of its line, where it has one, to the object that it made. The room for the variable is
+    /// made first, so that an object that was made is always bound. Want of memory leaves the variables and the monitor as they were.
+    fn submit<A: Allocator, V: Allocator + Copy>(
+        &self,
+        vars: &mut Vars<V>,
+        bind: Option<&str>,
+        monitor: &mut Monitor<A>,
+        request: Request,
+    ) -> Result<Reply, AllocError>
+        ensures reply { IfOk result (λ r. r ≡ reply (state_of monitor.old) request) }
+        ensures bound { IfOk result (λ r. vars.new.bound ≡ vars_after vars.old.bound (option_map (λ name. name.now) bind.entry) r) }
+        ensures start { monitor.new.start ≡ monitor.old.start }
+        ensures entries { OnOk result (monitor.new.entries
+            ≡ monitor.old.entries ++ entry_for self.now.session (standing_of vars.old.bound monitor.old) request ∷ []) }
+        ensures err { OnErr result (standing_of vars.new.bound monitor.new ≡ standing_of vars.old.bound monitor.old) }
+    {
+        let room = match bind {
+            None => None,
+            Some(name) => Some(vars.reserve(name)?),
+        };
+        let reply = monitor.submit(self.session, request)?.reply;
+        if let (Some(name), Reply::Created(object)) = (room, reply) {
+            vars.bind_reserved(name, object);
+        }
+        Ok(reply)
     }
-    Ok(reply)
 }
 
 #[cfg(test)]

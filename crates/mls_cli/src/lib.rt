@@ -1,37 +1,15 @@
-//! The room where bytes become requests and replies become bytes: names, the lines of scripts, and serving a script.
+//! The room where a script's bytes are served: lines are cut out, answered by the monitor, and the answers written.
 #![tactic(auto)]
 
 mod answer;
-mod ask;
-mod bindings;
-mod changes;
-mod fault;
-mod grammar;
-mod labels;
-mod line;
 mod lines;
 mod loaded;
-mod names;
-mod numbers;
-mod operand_groups;
-mod operands;
 mod output;
 mod piece;
 mod serving;
-mod tokens;
-mod vars;
-mod words;
 
-pub use ask::{Ask, Line};
-pub use fault::LineFault;
-pub use grammar::lines_law;
-pub use line::{MAX_LINE, read_line};
 pub use loaded::{LoadFault, Loaded, standard_start};
-pub use names::Names;
-pub use numbers::numbers_law;
+pub use mls_lines::{
+    Ask, Line, LineFault, MAX_LINE, Names, Vars, lines_law, numbers_law, read_line, tokens_law,
+};
 pub use serving::{SCRIPT_LIMIT, ServeFault, serve};
-pub use tokens::tokens_law;
-pub use vars::Vars;
-
-#[cfg(test)]
-mod tests;

@@ -3,8 +3,8 @@ ghost use Rattle.std.specs.Prelude.{◌≡◌, IfOk, IfErr};
 ghost use Rattle.mls_rules.specs.Standard as rules;
 ghost use Rattle.mls_cli.specs.Standard.{standard_names};
 
-use crate::names::Names;
 use mls_labels::{Scheme, SchemeFault};
+use mls_lines::Names;
 use mls_rules::Start;
 use std::alloc::{AllocError, Allocator, Global};
 

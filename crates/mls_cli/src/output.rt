@@ -6,9 +6,9 @@ ghost use Rattle.mls_cli.specs.Script.{reason_word, reply_text, answer_bytes};
 ghost use Rattle.mls_cli.specs.Serve.{Writes};
 
 use crate::answer::Answer;
-use crate::fault::LineFault;
 use crate::serving::ServeFault;
 use itoa::Buffer;
+use mls_lines::LineFault;
 use mls_rules::{Reason, Reply};
 use mls_tables::ObjectId;
 use std::io::Write;

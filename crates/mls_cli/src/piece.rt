@@ -5,11 +5,10 @@ ghost use Rattle.mls_cli.specs.Script.{standing_of, answer_to, after_line};
 ghost use Rattle.mls_cli.specs.Serve.{Replies, AnswersOrStops, Feeds};
 
 use crate::answer::{Answer, Script};
-use crate::line::MAX_LINE;
 use crate::lines::{cut_line, keep};
 use crate::output::{settle, write_answer};
 use crate::serving::ServeFault;
-use crate::vars::Vars;
+use mls_lines::{MAX_LINE, Vars};
 use mls_monitor::Monitor;
 use std::alloc::Allocator;
 use std::io::Write;
@@ -23,8 +22,8 @@ fn reply<W: Write, A: Allocator, N: Allocator, V: Allocator + Copy>(
     writer: &mut W,
     wrote: &mut bool,
 ) -> Result<(), ServeFault>
-    ensures { let before = standing_of vars.old monitor.old in
-        let after = standing_of vars.new monitor.new in
+    ensures { let before = standing_of vars.old.bound monitor.old in
+        let after = standing_of vars.new.bound monitor.new in
         Replies (W.contents writer.old) (W.contents writer.new) before after
         (answer_to script.now.names.now before line.now)
         (after_line script.now.names.now script.now.session before line.now) result }
@@ -46,7 +45,7 @@ fn answer_lines<'p, W: Write, A: Allocator, N: Allocator, V: Allocator + Copy>(
     wrote: &mut bool,
 ) -> Result<&'p [u8], ServeFault>
     ensures answered { AnswersOrStops script.now.names.now script.now.session (W.contents writer.old) (W.contents writer.new)
-        (standing_of vars.old monitor.old) (standing_of vars.new monitor.new) (closed_lines piece.now) result }
+        (standing_of vars.old.bound monitor.old) (standing_of vars.new.bound monitor.new) (closed_lines piece.now) result }
     ensures left { IfOk result (λ left. left.now ≡ open_part piece.now) }
 {
     let mut rest = piece;
@@ -68,8 +67,8 @@ fn end_line<W: Write, A: Allocator, N: Allocator, V: Allocator + Copy, L: Alloca
     wrote: &mut bool,
 ) -> Result<(), ServeFault>
     requires { vec_len line.old ≤ MAX_LINE + 1 }
-    ensures answered { let before = standing_of vars.old monitor.old in
-        let after = standing_of vars.new monitor.new in
+    ensures answered { let before = standing_of vars.old.bound monitor.old in
+        let after = standing_of vars.new.bound monitor.new in
         let asked = kept_of (line.old.items ++ last.now) in
         Replies (W.contents writer.old) (W.contents writer.new) before after
         (answer_to script.now.names.now before asked)
@@ -94,7 +93,7 @@ fn answer_and_keep<W: Write, A: Allocator, N: Allocator, V: Allocator + Copy, L:
 ) -> Result<(), ServeFault>
     requires { line.old.items ≡ [] }
     ensures answered { AnswersOrStops script.now.names.now script.now.session (W.contents writer.old) (W.contents writer.new)
-        (standing_of vars.old monitor.old) (standing_of vars.new monitor.new) (closed_lines piece.now) result }
+        (standing_of vars.old.bound monitor.old) (standing_of vars.new.bound monitor.new) (closed_lines piece.now) result }
     ensures line { OnOk result (line.new.items ≡ kept_of (open_part piece.now)) }
 {
     let left = answer_lines(script, vars, monitor, piece, writer, wrote)?;
@@ -113,7 +112,7 @@ fn answer_piece<W: Write, A: Allocator, N: Allocator, V: Allocator + Copy, L: Al
 ) -> Result<(), ServeFault>
     requires { vec_len line.old ≤ MAX_LINE + 1 }
     ensures { Feeds script.now.names.now script.now.session (W.contents writer.old) (W.contents writer.new)
-        (standing_of vars.old monitor.old) (standing_of vars.new monitor.new)
+        (standing_of vars.old.bound monitor.old) (standing_of vars.new.bound monitor.new)
         line.old.items line.new.items piece.now result }
 {
     if line.is_empty() {
@@ -137,7 +136,7 @@ pub fn take_piece<W: Write, A: Allocator, N: Allocator, V: Allocator + Copy, L: 
 ) -> Result<(), ServeFault>
     requires { vec_len line.old ≤ MAX_LINE + 1 }
     ensures { Feeds script.now.names.now script.now.session (W.contents writer.old) (W.contents writer.new)
-        (standing_of vars.old monitor.old) (standing_of vars.new monitor.new)
+        (standing_of vars.old.bound monitor.old) (standing_of vars.new.bound monitor.new)
         line.old.items line.new.items piece.now result }
 {
     let mut wrote = false;
@@ -155,7 +154,7 @@ pub fn take_end<W: Write, A: Allocator, N: Allocator, V: Allocator + Copy>(
 ) -> Result<(), ServeFault>
     ensures { (open_line : List ℕ) → has_newline open_line ≡ false → line.now ≡ kept_of open_line →
         AnswersOrStops script.now.names.now script.now.session (W.contents writer.old) (W.contents writer.new)
-        (standing_of vars.old monitor.old) (standing_of vars.new monitor.new) (lines_of open_line) result }
+        (standing_of vars.old.bound monitor.old) (standing_of vars.new.bound monitor.new) (lines_of open_line) result }
 {
     if line.is_empty() {
         return Ok(());

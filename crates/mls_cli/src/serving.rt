@@ -4,9 +4,8 @@ ghost use Rattle.mls_cli.specs.Script.{standing_of};
 ghost use Rattle.mls_cli.specs.Serve.{Ends, Serves};
 
 use crate::answer::Script;
-use crate::names::Names;
 use crate::piece::{take_end, take_piece};
-use crate::vars::Vars;
+use mls_lines::{Names, Vars};
 use mls_monitor::Monitor;
 use std::alloc::Allocator;
 use std::io::{Read, Write};
@@ -44,7 +43,7 @@ fn serve_pieces<R: Read, W: Write, A: Allocator, N: Allocator, V: Allocator + Co
     requires line { line.old.items ≡ [] }
     ensures { Ends script.now.names.now script.now.session (R.remaining reader.old) (R.remaining reader.new)
         (W.contents writer.old) (W.contents writer.new)
-        (standing_of vars.old monitor.old) (standing_of vars.new monitor.new) result }
+        (standing_of vars.old.bound monitor.old) (standing_of vars.new.bound monitor.new) result }
 {
     let before = monitor.entries().len();
     let mut room = SCRIPT_LIMIT;
@@ -111,6 +110,3 @@ pub fn serve<R: Read, W: Write, A: Allocator, B: Allocator, N: Allocator>(
         writer,
     )
 }
-
-#[cfg(test)]
-mod tests;

@@ -24,6 +24,7 @@ pub use laws::{
     a_text_has_one_meaning, a_text_is_read_as_it_is_spelled, a_written_label_is_spelled,
     dominance_is_a_partial_order, equal_labels_dominate_each_other, equality_is_of_values,
 };
+pub use name_set::NameSet;
 pub use names::is_name;
 pub use scheme::Scheme;
 pub use scheme_fault::SchemeFault;

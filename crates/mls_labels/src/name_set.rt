@@ -4,13 +4,13 @@ ghost use Rattle.mls_labels.specs.Names.{has_twice};
 ghost use Rattle.mls_labels.specs.Reading.{place_of};
 
 use indexmap::IndexSet;
-use std::alloc::{AllocError, Allocator};
+use std::alloc::{AllocError, Allocator, Global};
 use std::hash::{BuildHasherDefault, FoldHasher};
 use std::marker::Model;
 
-/// Names, each once, in the order in which they came.
+/// Names, each once, in the order in which they came. Contracts see the list of their bytes. Any text can be a name here.
 #[derive(Drop)]
-pub(crate) struct NameSet<A: Allocator> {
+pub struct NameSet<A: Allocator = Global> {
     names: IndexSet<String<A>, BuildHasherDefault<FoldHasher>, A>,
 }
 
@@ -23,8 +23,11 @@ impl<A: Allocator> Model for NameSet<A> {
 }
 
 impl<A: Allocator + Copy> NameSet<A> {
-    /// The set of these names, in their order.
-    pub(crate) fn from_names(alloc: A, names: &[&str]) -> Result<NameSet<A>, AllocError>
+    /// The set of these names, in their order, none of which stands twice.
+    ///
+    /// # Errors
+    /// `AllocError` where a growth was refused.
+    pub fn from_names(alloc: A, names: &[&str]) -> Result<NameSet<A>, AllocError>
         requires { has_twice (map (λ name. name.now) names.now) ≡ false }
         ensures { IfOk result (λ s. s ≡ map (λ name. name.now) names.now) }
     {
@@ -39,14 +42,14 @@ impl<A: Allocator + Copy> NameSet<A> {
 
 impl<A: Allocator> NameSet<A> {
     /// How many names there are.
-    pub(crate) fn len(&self) -> usize
+    pub fn len(&self) -> usize
         ensures { result ≡ length self.now }
     {
         self.names.len()
     }
 
-    /// The place of a name.
-    pub(crate) fn place(&self, name: &str) -> Option<usize>
+    /// The place of a name, from 0 on. `None` where it isn't one of them.
+    pub fn place(&self, name: &str) -> Option<usize>
         ensures place { result ≡ place_of self.now name.now }
         ensures within { IfSome result (λ place. place < length self.now) }
     {
@@ -54,7 +57,7 @@ impl<A: Allocator> NameSet<A> {
     }
 
     /// The name in a place.
-    pub(crate) fn name(&self, place: usize) -> &str
+    pub fn name(&self, place: usize) -> &str
         requires { place < length self.now }
         ensures { slice_get self.now place ≡ Some result.now }
     {

@@ -8,7 +8,7 @@ ghost use Rattle.mls_labels.specs.Names.{is_name, is_name_byte, is_name_len, has
 fn is_name_byte(byte: u8) -> bool
     ensures { result ≡ is_name_byte byte }
 {
-    matches!(byte, b'a'..=b'z' | b'A'..=b'Z' | b'0'..=b'9' | b'-' | b'_')
+    matches!(byte, b'a'..=b'z') || matches!(byte, b'A'..=b'Z' | b'0'..=b'9' | b'-' | b'_')
 }
 
 /// How many bytes of a name stand at the front.
@@ -32,11 +32,18 @@ pub(crate) fn is_name_len(len: usize) -> bool
     1 <= len && len <= 32
 }
 
+/// Whether each of the bytes may stand in a name.
+fn has_name_bytes(bytes: &[u8]) -> bool
+    ensures { result ≡ list_all is_name_byte bytes.now }
+{
+    bytes.iter().all(|byte| is_name_byte(*byte))
+}
+
 /// Whether the bytes are a name: 1 to 32 of the ASCII letters, digits, `-` and `_`.
 pub fn is_name(bytes: &[u8]) -> bool
     ensures { result ≡ is_name bytes.now }
 {
-    is_name_len(bytes.len()) && front_len(bytes) == bytes.len()
+    is_name_len(bytes.len()) && has_name_bytes(bytes)
 }
 
 /// Whether each of the texts is a name.

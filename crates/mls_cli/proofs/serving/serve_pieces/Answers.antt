@@ -27,7 +27,7 @@ overflow_sub-result g c =
       ap length c.entries-before.ensures.entries,
       ap length c.entries.ensures.entries,
       so_far_grows _ _ _ _ _ _ _ _ _ _ c.loop-count.invariant,
-      end_grows _ _ _ _ _ _ _ _ _ (standing_of c.take_end.new.vars c.take_end.new.monitor) _ _ c.loop-count.invariant (λ line is_open is. c.in_ok-take_end.ensures line is_open (c.deref.ensures.value ∙ is)),
+      end_grows _ _ _ _ _ _ _ _ _ (standing_of c.take_end.new.vars.bound c.take_end.new.monitor) _ _ c.loop-count.invariant (λ line is_open is. c.in_ok-take_end.ensures line is_open (c.deref.ensures.value ∙ is)),
     )
 
 pub returns-then-count-eq0 : goal.returns-then-count-eq0
@@ -39,9 +39,9 @@ returns-then-count-eq0 g c =
       ap length c.entries-before.ensures.entries,
       ap length c.entries.ensures.entries,
       so_far_grows _ _ _ _ _ _ _ _ _ _ c.loop-count.invariant,
-      end_grows _ _ _ _ _ _ _ _ _ (standing_of c.take_end.new.vars c.take_end.new.monitor) _ _ c.loop-count.invariant (λ line is_open is. c.in_ok-take_end.ensures line is_open (c.deref.ensures.value ∙ is)),
+      end_grows _ _ _ _ _ _ _ _ _ (standing_of c.take_end.new.vars.bound c.take_end.new.monitor) _ _ c.loop-count.invariant (λ line is_open is. c.in_ok-take_end.ensures line is_open (c.deref.ensures.value ∙ is)),
     ) in
-    serves_all _ _ _ _ _ _ _ _ _ _ (standing_of c.take_end.new.vars c.take_end.new.monitor) _ _ _ c.loop-count.invariant (rw none at c.in-Ok.ensures.bytes.0) (c.in-Ok.ensures.bytes.1 none (search rules))
+    serves_all _ _ _ _ _ _ _ _ _ _ (standing_of c.take_end.new.vars.bound c.take_end.new.monitor) _ _ _ c.loop-count.invariant (rw none at c.in-Ok.ensures.bytes.0) (c.in-Ok.ensures.bytes.1 none (search rules))
     (λ line is_open is. c.in_ok-take_end.ensures line is_open (c.deref.ensures.value ∙ is)) added
 
 pub take_piece-requires : goal.take_piece-requires
@@ -59,7 +59,7 @@ pub returns-then-count-room : goal.returns-then-count-room
 returns-then-count-room g c =
     let n = c.min.result in
     let full : n ≡ c.loop-count.room = omega (arith, c.min.ensures) in
-    serves_too_long _ _ _ _ _ _ _ _ _ _ (standing_of c.take_piece.new.vars c.take_piece.new.monitor) _ c.take_piece.new.line.items (take n c.read.new.buf) (drop n (take c.in-Ok.count c.read.new.buf)) _ c.loop-count.invariant
+    serves_too_long _ _ _ _ _ _ _ _ _ _ (standing_of c.take_piece.new.vars.bound c.take_piece.new.monitor) _ c.take_piece.new.line.items (take n c.read.new.buf) (drop n (take c.in-Ok.count c.read.new.buf)) _ c.loop-count.invariant
     (subst (Consumes _ _) (cut_at n c.in-Ok.count c.read.new.buf (omega (arith, c.min.ensures))) c.in-Ok.ensures.bytes.0)
     (length-take-le n c.read.new.buf (omega (arith, c.in-Ok.ensures.bound.0)) ∙ full)
     (beyond n c.in-Ok.count c.read.new.buf (omega arith) c.in-Ok.ensures.bound.0)
@@ -69,6 +69,6 @@ pub loop-count-preserved : goal.loop-count-preserved
 loop-count-preserved g c =
     let n = c.min.result in
     let all : n ≡ c.in-Ok.count = omega (arith, c.min.ensures) in
-    so_far_more _ _ _ _ _ _ _ _ _ _ (standing_of c.take_piece.new.vars c.take_piece.new.monitor) _ _ (take n c.read.new.buf) _ c.in-Ok.count c.loop-count.invariant
+    so_far_more _ _ _ _ _ _ _ _ _ _ (standing_of c.take_piece.new.vars.bound c.take_piece.new.monitor) _ _ (take n c.read.new.buf) _ c.in-Ok.count c.loop-count.invariant
     (subst (λ k. Consumes (g.R.Read.remaining c.loop-count.reader) (g.R.Read.remaining c.read.new.self) (take k c.read.new.buf)) (sym all) c.in-Ok.ensures.bytes.0)
     (length-take-le n c.read.new.buf (omega (arith, c.in-Ok.ensures.bound.0)) ∙ all) (omega arith) c.in_ok-take_piece.ensures

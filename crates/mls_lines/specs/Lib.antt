@@ -1,0 +1,9 @@
+pub mod Fault
+pub mod Grammar
+pub mod Labels
+pub mod Names
+pub mod Numbers
+pub mod ScriptLine
+pub mod Tokens
+pub mod Vars
+pub mod Words

@@ -1,0 +1,92 @@
+//! Names of the standard start, and lines whose reading the format fixes.
+use mls_cli::{Line, LineFault, Names, Vars, read_line};
+use mls_labels::{CatSet, Label, LabelFault, Scheme};
+use mls_tables::{ObjectId, SubjectId};
+use std::alloc::{AllocError, Global};
+use std::process::Abort;
+use std::test::Fail;
+
+mod asking;
+mod faults;
+mod making;
+mod vars;
+
+fn standard_names(alloc: Global) -> Result<Names, Fail> {
+    let security = Scheme::new(alloc, &["U", "C", "S", "T"], &["A", "B"])?;
+    let integrity = Scheme::new(alloc, &["lo", "hi"], &[])?;
+    let subjects = ["ann", "bob", "sec", "aud"];
+    let objects = ["root", "plans", "memo", "tool"];
+    Ok(Names::new(alloc, &subjects, &objects, security, integrity)?)
+}
+
+/// The names of the standard start, and variables of which `$a-4` stands for object 4.
+fn standard(alloc: Global) -> Result<(Names<Global>, Vars<Global>), Fail> {
+    let names = standard_names(alloc)?;
+    let mut vars = Vars::new(alloc);
+    vars.bind("a-4", ObjectId(4))?;
+    Ok((names, vars))
+}
+
+/// Whether a line asks nothing.
+fn is_blank(names: &Names<Global>, vars: &Vars<Global>, line: &[u8]) -> bool {
+    match read_line(names, vars, line) {
+        Ok(Line::Blank) => true,
+        _ => false,
+    }
+}
+
+/// The fault of a line.
+fn fault_of(names: &Names<Global>, vars: &Vars<Global>, line: &[u8]) -> Option<LineFault> {
+    match read_line(names, vars, line) {
+        Ok(_) => None,
+        Err(fault) => Some(fault),
+    }
+}
+
+/// Asserts the numbers of names.
+fn are_numbered(rt: &impl Abort, names: &Names<Global>) {
+    assert!(rt; names.subject("ann") == Some(SubjectId(0)));
+    assert!(rt; names.subject("aud") == Some(SubjectId(3)));
+    assert!(rt; names.subject("plans").is_none());
+    assert!(rt; names.object("tool") == Some(ObjectId(3)));
+    assert!(rt; names.object("ann").is_none());
+}
+
+/// Asserts that each kind of label is read by its own scheme.
+fn read_their_labels(rt: &impl Abort, names: &Names<Global>) {
+    let plain = CatSet::empty();
+    let high = Label::new(1, plain);
+    let secret = Label::new(2, plain.with(0));
+    let unknown = LabelFault::UnknownLevel;
+    assert!(rt; names.security().read("S:A") == Ok(secret));
+    assert!(rt; names.security().read("hi") == Err(unknown));
+    assert!(rt; names.integrity().read("hi") == Ok(high));
+    assert!(rt; names.integrity().read("S") == Err(unknown));
+}
+
+#[test]
+fn names_have_their_numbers_and_schemes(rt: HostRuntime) -> Result<(), Fail> {
+    let names = standard_names(rt.alloc())?;
+    are_numbered(&rt, &names);
+    read_their_labels(&rt, &names);
+    Ok(())
+}
+
+/// The text, filled up with spaces to so many bytes.
+fn filled(alloc: Global, text: &[u8], count: usize) -> Result<Vec<u8>, AllocError> {
+    let mut line = Vec::from_slice(alloc, text)?;
+    line.resize(count, b' ')?;
+    Ok(line)
+}
+
+#[test]
+fn a_line_has_at_most_twenty_thousand_bytes(rt: HostRuntime) -> Result<(), Fail> {
+    for text in [b"".as_slice(), b";".as_slice()] {
+        let within = filled(rt.alloc(), text, 20_000)?;
+        let past = filled(rt.alloc(), text, 20_001)?;
+        let (names, vars) = standard(rt.alloc())?;
+        assert!(rt; is_blank(&names, &vars, &within));
+        assert!(rt; fault_of(&names, &vars, &past) == Some(LineFault::BadForm));
+    }
+    Ok(())
+}

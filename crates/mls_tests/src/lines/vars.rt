@@ -1,0 +1,84 @@
+//! Variables that are bound, bound again, and refused memory.
+use mls_cli::Vars;
+use mls_tables::ObjectId;
+use refusing::Refusing;
+use std::alloc::{Allocator, Global};
+use std::process::Abort;
+
+/// Variables and objects, in the order in which they are bound. Two variables are bound twice.
+const BINDS: [(&str, u16); 12] = [
+    ("a", 4),
+    ("b", 4095),
+    ("a", 5),
+    ("A", 6),
+    ("-", 7),
+    ("b", 0),
+    ("c", 8),
+    ("d", 9),
+    ("e", 10),
+    ("f", 11),
+    ("g", 12),
+    ("h", 13),
+];
+
+/// What variables stand for in the end.
+const BOUND: [(&str, Option<ObjectId>); 7] = [
+    ("a", Some(ObjectId(5))),
+    ("b", Some(ObjectId(0))),
+    ("A", Some(ObjectId(6))),
+    ("-", Some(ObjectId(7))),
+    ("h", Some(ObjectId(13))),
+    ("i", None),
+    ("ab", None),
+];
+
+/// Binds a variable, again where memory was refused, and says whether it was.
+fn bind<A: Allocator + Copy>(
+    rt: &impl Abort,
+    vars: &mut Vars<A>,
+    name: &str,
+    object: ObjectId,
+) -> bool {
+    let before = vars.get(name);
+    let refused = vars.bind(name, object).is_err();
+    if refused {
+        assert!(rt; vars.get(name) == before, "{name} was {before:?}");
+        assert!(rt; vars.bind(name, object).is_ok());
+    }
+    assert!(rt; vars.get(name) == Some(object), "{name} is {object:?}");
+    refused
+}
+
+/// Binds the variables in their order, and says how often memory was refused.
+fn bind_all<A: Allocator + Copy>(rt: &impl Abort, vars: &mut Vars<A>) -> u32 {
+    let mut refusals = 0u32;
+    for (name, object) in BINDS {
+        if bind(rt, vars, name, ObjectId(object)) {
+            refusals = refusals.saturating_add(1);
+        }
+    }
+    for (name, object) in BOUND {
+        assert!(rt; vars.get(name) == object, "{name} in the end");
+    }
+    refusals
+}
+
+/// Binds new variables over an allocator, and says how often memory was refused.
+fn run(rt: &impl Abort, heap: &Refusing<Global>) -> u32 {
+    let mut vars = Vars::new(heap);
+    bind_all(rt, &mut vars)
+}
+
+#[test]
+fn binds_and_binds_again_whatever_allocation_is_refused(rt: HostRuntime) {
+    let mut refusals = 0u32;
+    for number in 1..100 {
+        let heap = Refusing::new(rt.alloc(), number);
+        refusals = refusals.saturating_add(run(&rt, &heap));
+        if !heap.has_refused() {
+            assert!(rt; refusals >= 13);
+            return;
+        }
+    }
+    assert!(rt; false, "an allocation was refused in each run");
+}

@@ -1,0 +1,114 @@
+//! Each allocation refused in turn: the lines before are answered, and the rest of the script then as ever.
+use super::failures::count_lines;
+use super::streams::Pieces;
+use super::{Left, entries_of_seven, standard_monitor, standard_names};
+use mls_cli::{Names, ServeFault, serve};
+use mls_monitor::Monitor;
+use refusing::Refusing;
+use std::alloc::Global;
+use std::process::Abort;
+use std::test::Fail;
+
+/// The bytes after so many lines.
+fn after_lines(bytes: &[u8], lines: usize) -> &[u8] {
+    let mut rest = bytes;
+    for _ in 0..lines {
+        let Some(end) = rest.iter().position(|byte| *byte == b'\n') else {
+            return &[];
+        };
+        rest = rest.get(end.saturating_add(1)..).unwrap_or(&[]);
+    }
+    rest
+}
+
+/// A script of eight lines, six of which ask for an entry, and the last binds a variable.
+const EIGHT: &[u8] =
+    b"ann get-read plans\nbob get-read memo\nann check read plans\nfrob\nsec get-write plans\n\
+    ann release read plans\nsec get-write root\n$x = sec create root S:B hi\n";
+
+/// Its answers.
+const EIGHT_ANSWERS: &[u8] = b"yes\nno star\nheld\nbad form\nyes\nyes\nyes\ncreated 4\n";
+
+/// How many entries stand after so many of its lines.
+const EIGHT_ENTRIES: [usize; 9] = [0, 1, 2, 2, 2, 3, 4, 5, 6];
+
+/// Serves what `written` doesn't answer yet of the script of eight lines.
+fn run_rest(
+    heap: &Refusing<Global>,
+    names: &Names<Global>,
+    monitor: &mut Monitor<&Refusing<Global>>,
+    written: &mut Vec<u8>,
+) -> Left {
+    let mut reader = Pieces::new(after_lines(EIGHT, count_lines(written)), 11);
+    let result = serve(heap, names, monitor, 7, &mut reader, written);
+    let entries = entries_of_seven(monitor.entries());
+    Left { result, entries }
+}
+
+/// Where the refused allocation was asked for.
+#[derive(Clone, Copy, Debug, PartialEq, Eq)]
+enum Asked {
+    Opening,
+    Serving,
+    Nowhere,
+}
+
+/// Serves the script over a monitor, whatever is refused, and then what isn't answered: says whether one of these allocations was refused,
+/// and whether all is as it must be. Where none was, the script is answered whole. Else just the answers of the lines before were written,
+/// the entries are just theirs, and the rest is then answered as in a run that met no refusal.
+fn serves(
+    heap: &Refusing<Global>,
+    names: &Names<Global>,
+    monitor: &mut Monitor<&Refusing<Global>>,
+    written: &mut Vec<u8>,
+) -> (Asked, bool) {
+    let first = run_rest(heap, names, monitor, written);
+    if !heap.has_refused() {
+        let is_whole = first.result == Ok(6) && first.entries == 6;
+        return (
+            Asked::Nowhere,
+            is_whole && written.as_slice() == EIGHT_ANSWERS,
+        );
+    }
+    let added = EIGHT_ENTRIES.get(count_lines(written)).copied();
+    let is_front = EIGHT_ANSWERS.starts_with(written) && added == Some(first.entries);
+    let second = run_rest(heap, names, monitor, written);
+    let is_whole = second.result.is_ok() && second.entries == 6;
+    let is_right = first.result == Err(ServeFault::Memory) && is_front && is_whole;
+    (
+        Asked::Serving,
+        is_right && written.as_slice() == EIGHT_ANSWERS,
+    )
+}
+
+/// Where the allocation of this number is asked for, and whether all is as it must be.
+fn refuses(alloc: Global, names: &Names<Global>, number: u64) -> (Asked, bool) {
+    let heap = Refusing::new(alloc, number);
+    let Ok(mut monitor) = standard_monitor(&heap) else {
+        return (Asked::Opening, true);
+    };
+    let mut written = Vec::new(alloc);
+    serves(&heap, names, &mut monitor, &mut written)
+}
+
+/// Refuses each allocation in turn, asserts that all is as it must be, and says how often one of serving was refused.
+fn refusals_in_turn(rt: &impl Abort, alloc: Global, names: &Names<Global>) -> Option<u32> {
+    let mut refusals = 0u32;
+    for number in 1..1000 {
+        let (asked, is_right) = refuses(alloc, names, number);
+        assert!(rt; is_right, "at {number}");
+        match asked {
+            Asked::Opening => {}
+            Asked::Serving => refusals = refusals.saturating_add(1),
+            Asked::Nowhere => return Some(refusals),
+        }
+    }
+    None
+}
+
+#[test]
+fn each_allocation_refused_in_turn(rt: HostRuntime) -> Result<(), Fail> {
+    let names = standard_names(rt.alloc())?;
+    assert!(rt; refusals_in_turn(&rt, rt.alloc(), &names) >= Some(8));
+    Ok(())
+}
