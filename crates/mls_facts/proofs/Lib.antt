@@ -1,0 +1,4 @@
+pub mod Bits
+pub mod Each
+pub mod Numbered
+pub mod Passing
