@@ -23,7 +23,8 @@ take-joined n l m =
 pub kept_of-joined : (line more : List ℕ) → kept_of (kept_of line ++ more) ≡ kept_of (line ++ more)
 kept_of-joined line more = take-joined 20001 line more
 
-same_front : (m : List ℕ) (c k : ℕ) → c ≡ min (length m) k → take c m ≡ take k m
+-- as many as there are, or as there is room for
+pub same_front : (m : List ℕ) (c k : ℕ) → c ≡ min (length m) k → take c m ≡ take k m
 same_front m c k is =
     elim (cases_lt k (length m)) [
       | inl long ↦ ap (λ n. take n m) (let e : c ≡ k = omega arith in e)

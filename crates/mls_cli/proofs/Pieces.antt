@@ -1,15 +1,20 @@
 -- What the lines of one piece of a script come to.
-use Rattle.std.proofs.Common.{◌≡◌, ℕ, List, [], ◌∷◌, ◌++◌, Option, Result, Ok, Err, OnOk, IfErr, false, true, length, sym, refl, ap, ◌∙◌, subst, append_assoc, append-nil, eqb, inl, inr, ◌⊎◌}
+use Rattle.std.proofs.Math.Dec.{eqb-suc-zero}
+use Rattle.std.proofs.Common.{◌≡◌, ℕ, ◌<◌, arith, List, [], ◌∷◌, ◌++◌, Option, Result, Ok, Err, OnOk, IfErr, false, true, length, sym, refl, ap, ◌∙◌, subst, append_assoc, append-nil, eqb, inl, inr, ◌⊎◌}
 use Rattle.std.specs.Io.KnownBytes.{Keeps}
 use Rattle.mls_cli.specs.Lines.{lines_of, closed_lines, open_part, has_newline, kept_of, Cuts}
 use Rattle.mls_lines.specs.Names.{Names}
 use Rattle.mls_cli.specs.Script.{Standing, answer_to, after_line}
-use Rattle.mls_cli.specs.Serve.{Answers, Stops, AnswersOrStops, Replies, Feeds}
+use Rattle.mls_cli.specs.Serve.{Answers, Stops, AnswersOrStops, AnswersOrFails, Replies, Feeds, Takes}
 use Rattle.mls_cli.specs.declared.serving.ServeFault.{ServeFault}
 use Rattle.mls_cli.specs.declared.serving.ServeFault.TheVariants.{Write, Memory}
 use Rattle.mls_cli.proofs.LineLemmas.{closed_lines-cuts, open_part-cuts, closed_lines-open, open_none, has_newline-joined, last_line}
 use Rattle.mls_cli.proofs.Kept.{kept_of-joined, kept_nothing, kept_something, answer_to-kept, after_line-kept}
-use Rattle.mls_cli.proofs.Runs.{answered_none, answered_all, stopped_before, replied_one, Answers-trans, Answers-kept, Stops-front, Stops-after, Stops-kept, settled, flush_failed}
+use Rattle.mls_cli.proofs.Runs.{answered_none, replied_one, Answers-trans, Answers-kept, Stops-front, Stops-after, Stops-flushed, settled, flush_failed}
+
+some_byte : (kept : List ℕ) → 0 < length kept → false ≡ eqb (length kept) 0
+some_byte [] some = absurd (omega (arith, some))
+some_byte (b ∷ kept) some = sym (eqb-suc-zero (length kept))
 
 module _ (names : Names) (session : ℕ) where
   -- how far a piece is answered: the lines before what is left of it
@@ -27,25 +32,36 @@ module _ (names : Names) (session : ℕ) where
   cut_lines lines piece rest line next whole cuts =
       whole ∙ ap (λ ls. lines ++ ls) (closed_lines-cuts [] rest line next refl cuts) ∙ sym (append_assoc lines (line ∷ []) (closed_lines next))
 
-  -- one line more
-  pub cut_more : (held holds kept : Option (List ℕ)) (before after later : Standing) (piece rest line next : List ℕ)
-      → Cut held holds before after piece rest → Cuts rest line next
-      → Replies {X = Unit {0}} holds kept after later (answer_to names after line) (after_line names session after line) (Ok tt)
+  -- a reply, by the names and the session that are the same
+  same_reply : {X : Type 0} (held holds : Option (List ℕ)) (before after : Standing) (line : List ℕ) (names_now : Names) (session_now : ℕ) (result : Result X ServeFault) → names_now ≡ names → session_now ≡ session
+      → Replies held holds before after (answer_to names_now before line) (after_line names_now session_now before line) result
+      → Replies held holds before after (answer_to names before line) (after_line names session before line) result
+  same_reply held holds before after line names_now session_now result same_names same_session reply =
+      subst (λ text. Replies held holds before after text (after_line names session before line) result) (ap (λ n. answer_to n before line) same_names)
+      (subst (λ next. Replies held holds before after (answer_to names_now before line) next result)
+      (ap (λ n. after_line n session_now before line) same_names ∙ ap (λ s. after_line names s before line) same_session) reply)
+
+  -- one line more, by the names and the session that are the same
+  pub cut_more : (held holds kept : Option (List ℕ)) (before after later : Standing) (piece rest line next : List ℕ) (names_now : Names) (session_now : ℕ)
+      → Cut held holds before after piece rest → Cuts rest line next → names_now ≡ names → session_now ≡ session
+      → Replies {X = Unit {0}} holds kept after later (answer_to names_now after line) (after_line names_now session_now after line) (Ok tt)
       → Cut held kept before later piece next
-  cut_more held holds kept before after later piece rest line next cut cuts reply = record {
+  cut_more held holds kept before after later piece rest line next names_now session_now cut cuts same_names same_session reply = record {
     lines = cut.lines ++ line ∷ [];
     whole = cut_lines cut.lines piece rest line next cut.whole cuts;
     left = cut.left ∙ open_part-cuts [] rest line next cuts;
-    answered = Answers-trans names session held holds kept before after later cut.lines (line ∷ []) cut.answered (replied_one names session {X = Unit {0}} holds kept after later line (Ok tt) reply);
+    answered = Answers-trans names session held holds kept before after later cut.lines (line ∷ []) cut.answered
+        (replied_one names session {X = Unit {0}} holds kept after later line (Ok tt) (same_reply {X = Unit {0}} holds kept after later line names_now session_now (Ok tt) same_names same_session reply));
   }
 
   -- a stop at the next line
-  pub cut_stop : (held holds kept : Option (List ℕ)) (before after later : Standing) (piece rest line next : List ℕ) (fault : ServeFault)
-      → Cut held holds before after piece rest → Cuts rest line next
-      → Replies {X = Unit {0}} holds kept after later (answer_to names after line) (after_line names session after line) (Err fault)
+  pub cut_stop : (held holds kept : Option (List ℕ)) (before after later : Standing) (piece rest line next : List ℕ) (names_now : Names) (session_now : ℕ) (fault : ServeFault)
+      → Cut held holds before after piece rest → Cuts rest line next → names_now ≡ names → session_now ≡ session
+      → Replies {X = Unit {0}} holds kept after later (answer_to names_now after line) (after_line names_now session_now after line) (Err fault)
       → Stops names session held kept before later (closed_lines piece) fault
-  cut_stop held holds kept before after later piece rest line next fault cut cuts reply =
-      let here : Stops names session holds kept after later (line ∷ []) fault = replied_one names session {X = Unit {0}} holds kept after later line (Err fault) reply in
+  cut_stop held holds kept before after later piece rest line next names_now session_now fault cut cuts same_names same_session reply =
+      let here : Stops names session holds kept after later (line ∷ []) fault =
+      replied_one names session {X = Unit {0}} holds kept after later line (Err fault) (same_reply {X = Unit {0}} holds kept after later line names_now session_now (Err fault) same_names same_session reply) in
       subst (λ ls. Stops names session held kept before later ls fault) (sym (cut_lines cut.lines piece rest line next cut.whole cuts))
       (Stops-front names session held kept before later (cut.lines ++ line ∷ []) (closed_lines next) fault
       (Stops-after names session held holds kept before after later cut.lines (line ∷ []) fault cut.answered here))
@@ -72,7 +88,12 @@ module _ (names : Names) (session : ℕ) where
   pub answered_then_kept : {X : Type 0} (held holds : Option (List ℕ)) (before after : Standing) (lines : List (List ℕ)) (kept : Result X ServeFault)
       → Answers names session held holds before after lines → IfErr kept (λ fault. fault ≡ Memory) → AnswersOrStops names session held holds before after lines kept
   answered_then_kept held holds before after lines (Ok x) a e = a
-  answered_then_kept held holds before after lines (Err fault) a e = rw e (answered_all names session held holds before after lines a)
+  answered_then_kept held holds before after lines (Err fault) a e = rw e (inl a)
+
+  none_closed : (held : Option (List ℕ)) (before : Standing) (line piece : List ℕ) → has_newline line ≡ false → has_newline piece ≡ false
+      → Answers names session held held before before (closed_lines (line ++ piece))
+  none_closed held before line piece none no_more =
+      subst (Answers names session held held before before) (sym (closed_lines-open (line ++ piece) (has_newline-joined line piece none no_more))) (answered_none names session held before)
 
   -- a piece that ends no line
   pub feeds_open : (held : Option (List ℕ)) (before : Standing) (kept keeps piece : List ℕ) (result : Result (Unit {0}) ServeFault)
@@ -80,10 +101,10 @@ module _ (names : Names) (session : ℕ) where
       → Feeds names session held held before before kept keeps piece result
   feeds_open held before kept keeps piece (Ok x) no_more k e line none is =
       let still : has_newline (line ++ piece) ≡ false = has_newline-joined line piece none no_more in (
-        subst (Answers names session held held before before) (sym (closed_lines-open (line ++ piece) still)) (answered_none names session held before),
+        none_closed held before line piece none no_more,
         k ∙ ap (λ l. kept_of (l ++ piece)) is ∙ kept_of-joined line piece ∙ ap kept_of (sym (open_none (line ++ piece) still)),
       )
-  feeds_open held before kept keeps piece (Err fault) no_more k e line none is = rw e (stopped_before names session held before (closed_lines (line ++ piece)))
+  feeds_open held before kept keeps piece (Err fault) no_more k e line none is = rw e (inl (none_closed held before line piece none no_more))
 
   -- the kept line with its end is answered as the line is
   ended : {X : Type 0} (held holds : Option (List ℕ)) (before after : Standing) (kept line last : List ℕ) (result : Result X ServeFault) → kept ≡ kept_of line
@@ -106,54 +127,64 @@ module _ (names : Names) (session : ℕ) where
       (Stops-front names session held holds before after ((line ++ last) ∷ []) (closed_lines rest) fault
       (ended {X = Unit {0}} held holds before after kept line last (Err fault) is reply))
 
-  -- the line that the piece ends, and then the others
-  pub feeds_on : (held holds later_holds : Option (List ℕ)) (before after later : Standing) (kept keeps piece last rest : List ℕ) (result : Result (Unit {0}) ServeFault)
+  feeds_rest : (held holds later_holds : Option (List ℕ)) (before after later : Standing) (kept keeps piece last rest : List ℕ) (result : Result (Unit {0}) ServeFault)
       → Cuts piece last rest
       → Replies {X = Unit {0}} held holds before after (answer_to names before (kept_of (kept ++ last))) (after_line names session before (kept_of (kept ++ last))) (Ok tt)
       → AnswersOrStops names session holds later_holds after later (closed_lines rest) result → OnOk result (keeps ≡ kept_of (open_part rest))
       → Feeds names session held later_holds before later kept keeps piece result
-  feeds_on held holds later_holds before after later kept keeps piece last rest (Ok y) cuts reply a k line none is =
+  feeds_rest held holds later_holds before after later kept keeps piece last rest (Ok y) cuts reply a k line none is =
       let first : Answers names session held holds before after ((line ++ last) ∷ []) = ended {X = Unit {0}} held holds before after kept line last (Ok tt) is reply in (
         subst (Answers names session held later_holds before later) (sym (closed_lines-cuts line piece last rest none cuts))
             (Answers-trans names session held holds later_holds before after later ((line ++ last) ∷ []) (closed_lines rest) first a),
         k ∙ ap kept_of (sym (open_part-cuts line piece last rest cuts)),
       )
-  feeds_on held holds later_holds before after later kept keeps piece last rest (Err fault) cuts reply a k line none is =
+  feeds_rest held holds later_holds before after later kept keeps piece last rest (Err fault) cuts reply a k line none is =
       let first : Answers names session held holds before after ((line ++ last) ∷ []) = ended {X = Unit {0}} held holds before after kept line last (Ok tt) is reply in
       subst (λ ls. Stops names session held later_holds before later ls fault) (sym (closed_lines-cuts line piece last rest none cuts))
       (Stops-after names session held holds later_holds before after later ((line ++ last) ∷ []) (closed_lines rest) fault first a)
 
+  -- the line that the piece ends, and then the others, by the names and the session that are the same
+  pub feeds_on : (held holds later_holds : Option (List ℕ)) (before after later : Standing) (kept keeps piece last rest : List ℕ) (names_now : Names) (session_now : ℕ) (result : Result (Unit {0}) ServeFault)
+      → Cuts piece last rest
+      → Replies {X = Unit {0}} held holds before after (answer_to names before (kept_of (kept ++ last))) (after_line names session before (kept_of (kept ++ last))) (Ok tt)
+      → names_now ≡ names → session_now ≡ session
+      → AnswersOrStops names_now session_now holds later_holds after later (closed_lines rest) result → OnOk result (keeps ≡ kept_of (open_part rest))
+      → Feeds names session held later_holds before later kept keeps piece result
+  feeds_on held holds later_holds before after later kept keeps piece last rest names_now session_now result cuts reply same_names same_session a k =
+      feeds_rest held holds later_holds before after later kept keeps piece last rest result cuts reply
+      (subst (λ n. AnswersOrStops n session holds later_holds after later (closed_lines rest) result) same_names (subst (λ s. AnswersOrStops names_now s holds later_holds after later (closed_lines rest) result) same_session a)) k
+
   -- a piece, once the writer was flushed
   pub feeds_settled : (held holds flushed : Option (List ℕ)) (before after : Standing) (kept keeps piece : List ℕ) (outcome result : Result (Unit {0}) ServeFault)
       → Feeds names session held holds before after kept keeps piece outcome → Keeps holds flushed → (result ≡ outcome) ⊎ (result ≡ Err Write)
-      → Feeds names session held flushed before after kept keeps piece result
+      → Takes names session held flushed before after kept keeps piece result
   feeds_settled held holds flushed before after kept keeps piece (Ok x) result f k (inl same) line none is =
       rw same (Answers-kept names session held holds flushed before after (closed_lines (line ++ piece)) (f line none is).0 k, (f line none is).1)
   feeds_settled held holds flushed before after kept keeps piece (Err fault) result f k (inl same) line none is =
-      rw same (Stops-kept names session held holds flushed before after (closed_lines (line ++ piece)) fault (f line none is) k)
+      rw same (Stops-flushed names session held holds flushed before after (closed_lines (line ++ piece)) fault (f line none is) k)
   feeds_settled held holds flushed before after kept keeps piece (Ok x) result f k (inr failed) line none is =
       rw failed (flush_failed names session held holds flushed before after (closed_lines (line ++ piece)) (Ok x) (f line none is).0 k)
   feeds_settled held holds flushed before after kept keeps piece (Err fault) result f k (inr failed) line none is =
       rw failed (flush_failed names session {X = Unit {0}} held holds flushed before after (closed_lines (line ++ piece)) (Err fault) (f line none is) k)
 
   -- the end of a script that has no unfinished line
-  pub ends_empty : (held : Option (List ℕ)) (before : Standing) (kept line : List ℕ) → true ≡ eqb (length kept) 0 → kept ≡ kept_of line
+  pub ends_empty : (held : Option (List ℕ)) (before : Standing) (kept line : List ℕ) → length kept ≡ 0 → kept ≡ kept_of line
       → Answers names session held held before before (lines_of line)
   ends_empty held before kept line empty is =
-      rw (kept_nothing kept line empty is) (answered_none names session held before)
+      rw (kept_nothing kept line (sym (ap (λ n. eqb n 0) empty)) is) (answered_none names session held before)
 
   -- the end of a script that has one
   pub ends_line : (held holds flushed : Option (List ℕ)) (before after : Standing) (kept line : List ℕ) (outcome result : Result (Unit {0}) ServeFault)
-      → false ≡ eqb (length kept) 0
+      → 0 < length kept
       → Replies held holds before after (answer_to names before kept) (after_line names session before kept) outcome
       → Keeps holds flushed → (result ≡ outcome) ⊎ (result ≡ Err Write)
       → has_newline line ≡ false → kept ≡ kept_of line
-      → AnswersOrStops names session held flushed before after (lines_of line) result
+      → AnswersOrFails names session held flushed before after (lines_of line) result
   ends_line held holds flushed before after kept line outcome result some reply k which none is =
-      let one : lines_of line ≡ line ∷ [] = last_line line none (kept_something kept line some is) in
+      let one : lines_of line ≡ line ∷ [] = last_line line none (kept_something kept line (some_byte kept some) is) in
       let asked : AnswersOrStops names session held holds before after (line ∷ []) outcome =
       replied_one names session held holds before after line outcome
       (subst (λ text. Replies held holds before after text (after_line names session before line) outcome) (ap (answer_to names before) is ∙ answer_to-kept names before line)
       (subst (λ next. Replies held holds before after (answer_to names before kept) next outcome) (ap (after_line names session before) is ∙ after_line-kept names session before line) reply)) in
-      subst (λ ls. AnswersOrStops names session held flushed before after ls result) (sym one)
+      subst (λ ls. AnswersOrFails names session held flushed before after ls result) (sym one)
       (settled names session held holds flushed before after (line ∷ []) outcome result asked k which)

@@ -1,14 +1,14 @@
 -- What answers to lines one after another are.
-use Rattle.std.proofs.Common.{◌≡◌, ℕ, List, [], ◌∷◌, ◌++◌, Option, Result, Ok, Err, sym, refl, ap, ◌∙◌, subst, append_assoc, append-nil, inl, inr, ◌⊎◌}
+use Rattle.std.proofs.Common.{◌≡◌, ℕ, ◌<◌, List, [], ◌∷◌, ◌++◌, Option, Result, Ok, Err, length, sym, refl, ap, ◌∙◌, subst, append_assoc, append-nil, inl, inr, ◌⊎◌}
 use Rattle.std.proofs.KnownBytes.{Appends-trans, Appends-nil, Appends-kept}
 use Rattle.std.specs.Io.KnownBytes.{Appends, Keeps}
-use Rattle.mls_cli.specs.Lines.{lines_of, closed_part, open_part, closed_lines}
+use Rattle.mls_cli.specs.Lines.{open_part, closed_lines}
 use Rattle.mls_lines.specs.Names.{Names}
 use Rattle.mls_cli.specs.Script.{Standing, answer_to, after_line, answers, after_lines}
-use Rattle.mls_cli.specs.Serve.{Answers, AnswersFront, BreaksOff, Stops, AnswersOrStops, Replies}
+use Rattle.mls_cli.specs.Serve.{Answers, AnswersBefore, AnswersUnlessRefused, BreaksOff, Stops, Fails, AnswersOrStops, AnswersOrFails, Replies}
 use Rattle.mls_cli.specs.declared.serving.ServeFault.{ServeFault}
 use Rattle.mls_cli.specs.declared.serving.ServeFault.TheVariants.{Read, Write, Memory, TooLong}
-use Rattle.mls_cli.proofs.LineLemmas.{closed_lines-append, closed_then_open, lines_of-closed}
+use Rattle.mls_cli.proofs.LineLemmas.{closed_lines-append}
 
 joined : (a b c d : List ℕ) → a ++ ((b ++ c) ++ d) ≡ ((a ++ b) ++ c) ++ d
 joined a b c d = sym (append_assoc a (b ++ c) d) ∙ ap (λ t. t ++ d) (sym (append_assoc a b c))
@@ -49,12 +49,8 @@ module _ (names : Names) (session : ℕ) where
   unfolding answers after_lines
   answered_none held before = record { written = Appends-nil held; stands = refl }
 
-  pub stopped_before : (held : Option (List ℕ)) (before : Standing) (lines : List (List ℕ)) → AnswersFront names session held held before before lines
-  stopped_before held before lines = record { front = []; rest = lines; whole = refl; answered = answered_none held before }
-
-  -- all were
-  pub answered_all : (held holds : Option (List ℕ)) (before after : Standing) (lines : List (List ℕ)) → Answers names session held holds before after lines → AnswersFront names session held holds before after lines
-  answered_all held holds before after lines a = record { front = lines; rest = []; whole = sym (append-nil lines); answered = a }
+  stopped_before : (held : Option (List ℕ)) (before : Standing) (line : List ℕ) → AnswersBefore names session held held before before (line ∷ [])
+  stopped_before held before line = record { front = []; line = line; rest = []; whole = refl; answered = answered_none held before }
 
   -- one line was answered in full
   answered_one : (held holds : Option (List ℕ)) (before after : Standing) (line : List ℕ) → Appends held holds (answer_to names before line) → after ≡ after_line names session before line
@@ -65,10 +61,10 @@ module _ (names : Names) (session : ℕ) where
   }
 
   -- the writer failed within the answer to the one line
-  broken_off_one : (held holds : Option (List ℕ)) (before after : Standing) (line text lost : List ℕ) → answer_to names before line ≡ text ++ lost → Appends held holds text
+  broken_off_one : (held holds : Option (List ℕ)) (before after : Standing) (line text lost : List ℕ) → answer_to names before line ≡ text ++ lost → 0 < length lost → Appends held holds text
       → after ≡ after_line names session before line → BreaksOff names session held holds before after (line ∷ [])
   unfolding answers after_lines
-  broken_off_one held holds before after line text lost part written stands = record {
+  broken_off_one held holds before after line text lost part short written stands = record {
     front = [];
     line = line;
     rest = [];
@@ -77,6 +73,7 @@ module _ (names : Names) (session : ℕ) where
     whole = refl;
     asked = stands;
     part = append-nil _ ∙ part;
+    short = short;
     written = written;
   }
 
@@ -86,17 +83,23 @@ module _ (names : Names) (session : ℕ) where
       → AnswersOrStops names session held holds before after (line ∷ []) result
   replied_one held holds before after line (Ok x) r = answered_one held holds before after line r.0 r.1
   replied_one held holds before after line (Err Read) r = r
-  replied_one held holds before after line (Err Write) r = inl (broken_off_one held holds before after line r.0 r.1 r.2 r.3 r.4)
-  replied_one held holds before after line (Err Memory) r = rw (r.0, r.1) (stopped_before held before (line ∷ []))
+  replied_one held holds before after line (Err Write) r = broken_off_one held holds before after line r.0 r.1 r.2 r.3 r.4 r.5
+  replied_one held holds before after line (Err Memory) r = rw (r.0, r.1) (inr (stopped_before held before line))
   replied_one held holds before after line (Err TooLong) r = r
 
-  front_more : (held holds : Option (List ℕ)) (before after : Standing) (lines more : List (List ℕ)) → AnswersFront names session held holds before after lines → AnswersFront names session held holds before after (lines ++ more)
-  front_more held holds before after lines more s = record {
+  before_more : (held holds : Option (List ℕ)) (before after : Standing) (lines more : List (List ℕ)) → AnswersBefore names session held holds before after lines → AnswersBefore names session held holds before after (lines ++ more)
+  before_more held holds before after lines more s = record {
     front = s.front;
+    line = s.line;
     rest = s.rest ++ more;
-    whole = ap (λ ls. ls ++ more) s.whole ∙ append_assoc s.front s.rest more;
+    whole = ap (λ ls. ls ++ more) s.whole ∙ append_assoc s.front (s.line ∷ s.rest) more;
     answered = s.answered;
   }
+
+  unless_more : (held holds : Option (List ℕ)) (before after : Standing) (lines more : List (List ℕ)) → AnswersUnlessRefused names session held holds before after lines → AnswersUnlessRefused names session held holds before after (lines ++ more)
+  unless_more held holds before after lines [] (inl s) = inl (subst (Answers names session held holds before after) (sym (append-nil lines)) s)
+  unless_more held holds before after lines (line ∷ rest) (inl s) = inr (record { front = lines; line = line; rest = rest; whole = refl; answered = s })
+  unless_more held holds before after lines more (inr s) = inr (before_more held holds before after lines more s)
 
   broken_more : (held holds : Option (List ℕ)) (before after : Standing) (lines more : List (List ℕ)) → BreaksOff names session held holds before after lines → BreaksOff names session held holds before after (lines ++ more)
   broken_more held holds before after lines more s = record {
@@ -108,24 +111,29 @@ module _ (names : Names) (session : ℕ) where
     whole = ap (λ ls. ls ++ more) s.whole ∙ append_assoc s.front (s.line ∷ s.rest) more;
     asked = s.asked;
     part = s.part;
+    short = s.short;
     written = s.written;
   }
 
   -- what holds of the lines holds where more follow
   pub Stops-front : (held holds : Option (List ℕ)) (before after : Standing) (lines more : List (List ℕ)) (fault : ServeFault) → Stops names session held holds before after lines fault → Stops names session held holds before after (lines ++ more) fault
   Stops-front held holds before after lines more Read s = s
-  Stops-front held holds before after lines more Write (inl s) = inl (broken_more held holds before after lines more s)
-  Stops-front held holds before after lines more Write (inr s) = inr (front_more held holds before after lines more s)
-  Stops-front held holds before after lines more Memory s = front_more held holds before after lines more s
+  Stops-front held holds before after lines more Write s = broken_more held holds before after lines more s
+  Stops-front held holds before after lines more Memory s = unless_more held holds before after lines more s
   Stops-front held holds before after lines more TooLong s = s
 
-  front_after : (a b c : Option (List ℕ)) (i j k : Standing) (front lines : List (List ℕ)) → Answers names session a b i j front → AnswersFront names session b c j k lines → AnswersFront names session a c i k (front ++ lines)
-  front_after a b c i j k front lines first s = record {
+  before_after : (a b c : Option (List ℕ)) (i j k : Standing) (front lines : List (List ℕ)) → Answers names session a b i j front → AnswersBefore names session b c j k lines → AnswersBefore names session a c i k (front ++ lines)
+  before_after a b c i j k front lines first s = record {
     front = front ++ s.front;
+    line = s.line;
     rest = s.rest;
-    whole = ap (λ ls. front ++ ls) s.whole ∙ sym (append_assoc front s.front s.rest);
+    whole = ap (λ ls. front ++ ls) s.whole ∙ sym (append_assoc front s.front (s.line ∷ s.rest));
     answered = Answers-trans a b c i j k front s.front first s.answered;
   }
+
+  unless_after : (a b c : Option (List ℕ)) (i j k : Standing) (front lines : List (List ℕ)) → Answers names session a b i j front → AnswersUnlessRefused names session b c j k lines → AnswersUnlessRefused names session a c i k (front ++ lines)
+  unless_after a b c i j k front lines first (inl s) = inl (Answers-trans a b c i j k front lines first s)
+  unless_after a b c i j k front lines first (inr s) = inr (before_after a b c i j k front lines first s)
 
   broken_after : (a b c : Option (List ℕ)) (i j k : Standing) (front lines : List (List ℕ)) → Answers names session a b i j front → BreaksOff names session b c j k lines → BreaksOff names session a c i k (front ++ lines)
   broken_after a b c i j k front lines first s =
@@ -145,6 +153,7 @@ module _ (names : Names) (session : ℕ) where
             ∙ ap (λ t. answers names session i front ++ t) s.part
             ∙ joined (answers names session i front) (answers names session j s.front) s.text s.lost
             ∙ ap (λ t. (t ++ s.text) ++ s.lost) (sym before_it);
+        short = s.short;
         written = subst (λ t. Appends a c t) (sym (append_assoc (answers names session i front) (answers names session j s.front) s.text) ∙ ap (λ t. t ++ s.text) (sym before_it))
             (Appends-trans a b c _ _ first.written s.written);
       }
@@ -152,17 +161,27 @@ module _ (names : Names) (session : ℕ) where
   -- a stop after lines that were answered
   pub Stops-after : (a b c : Option (List ℕ)) (i j k : Standing) (front lines : List (List ℕ)) (fault : ServeFault) → Answers names session a b i j front → Stops names session b c j k lines fault → Stops names session a c i k (front ++ lines) fault
   Stops-after a b c i j k front lines Read first s = s
-  Stops-after a b c i j k front lines Write first (inl s) = inl (broken_after a b c i j k front lines first s)
-  Stops-after a b c i j k front lines Write first (inr s) = inr (front_after a b c i j k front lines first s)
-  Stops-after a b c i j k front lines Memory first s = front_after a b c i j k front lines first s
+  Stops-after a b c i j k front lines Write first s = broken_after a b c i j k front lines first s
+  Stops-after a b c i j k front lines Memory first s = unless_after a b c i j k front lines first s
   Stops-after a b c i j k front lines TooLong first s = s
+
+  pub Fails-after : (a b c : Option (List ℕ)) (i j k : Standing) (front lines : List (List ℕ)) (fault : ServeFault) → Answers names session a b i j front → Fails names session b c j k lines fault → Fails names session a c i k (front ++ lines) fault
+  Fails-after a b c i j k front lines Read first s = s
+  Fails-after a b c i j k front lines Write first (inl s) = inl (broken_after a b c i j k front lines first s)
+  Fails-after a b c i j k front lines Write first (inr s) = inr (unless_after a b c i j k front lines first s)
+  Fails-after a b c i j k front lines Memory first s = unless_after a b c i j k front lines first s
+  Fails-after a b c i j k front lines TooLong first s = s
 
   -- what was written stays where the writer is flushed
   pub Answers-kept : (a b c : Option (List ℕ)) (i j : Standing) (lines : List (List ℕ)) → Answers names session a b i j lines → Keeps b c → Answers names session a c i j lines
   Answers-kept a b c i j lines s k = record { written = Appends-kept a b c _ s.written k; stands = s.stands }
 
-  front_kept : (a b c : Option (List ℕ)) (i j : Standing) (lines : List (List ℕ)) → AnswersFront names session a b i j lines → Keeps b c → AnswersFront names session a c i j lines
-  front_kept a b c i j lines s k = record { front = s.front; rest = s.rest; whole = s.whole; answered = Answers-kept a b c i j s.front s.answered k }
+  before_kept : (a b c : Option (List ℕ)) (i j : Standing) (lines : List (List ℕ)) → AnswersBefore names session a b i j lines → Keeps b c → AnswersBefore names session a c i j lines
+  before_kept a b c i j lines s k = record { front = s.front; line = s.line; rest = s.rest; whole = s.whole; answered = Answers-kept a b c i j s.front s.answered k }
+
+  unless_kept : (a b c : Option (List ℕ)) (i j : Standing) (lines : List (List ℕ)) → AnswersUnlessRefused names session a b i j lines → Keeps b c → AnswersUnlessRefused names session a c i j lines
+  unless_kept a b c i j lines (inl s) k = inl (Answers-kept a b c i j lines s k)
+  unless_kept a b c i j lines (inr s) k = inr (before_kept a b c i j lines s k)
 
   broken_kept : (a b c : Option (List ℕ)) (i j : Standing) (lines : List (List ℕ)) → BreaksOff names session a b i j lines → Keeps b c → BreaksOff names session a c i j lines
   broken_kept a b c i j lines s k = record {
@@ -174,34 +193,35 @@ module _ (names : Names) (session : ℕ) where
     whole = s.whole;
     asked = s.asked;
     part = s.part;
+    short = s.short;
     written = Appends-kept a b c _ s.written k;
   }
 
-  pub Stops-kept : (a b c : Option (List ℕ)) (i j : Standing) (lines : List (List ℕ)) (fault : ServeFault) → Stops names session a b i j lines fault → Keeps b c → Stops names session a c i j lines fault
-  Stops-kept a b c i j lines Read s k = s
-  Stops-kept a b c i j lines Write (inl s) k = inl (broken_kept a b c i j lines s k)
-  Stops-kept a b c i j lines Write (inr s) k = inr (front_kept a b c i j lines s k)
-  Stops-kept a b c i j lines Memory s k = front_kept a b c i j lines s k
-  Stops-kept a b c i j lines TooLong s k = s
+  -- what stands at a fault, once the writer was flushed
+  pub Stops-flushed : (a b c : Option (List ℕ)) (i j : Standing) (lines : List (List ℕ)) (fault : ServeFault) → Stops names session a b i j lines fault → Keeps b c → Fails names session a c i j lines fault
+  Stops-flushed a b c i j lines Read s k = s
+  Stops-flushed a b c i j lines Write s k = inl (broken_kept a b c i j lines s k)
+  Stops-flushed a b c i j lines Memory s k = unless_kept a b c i j lines s k
+  Stops-flushed a b c i j lines TooLong s k = s
 
   -- where the flush fails, so did the writer
   pub flush_failed : {X : Type 0} (a b c : Option (List ℕ)) (i j : Standing) (lines : List (List ℕ)) (outcome : Result X ServeFault)
-      → AnswersOrStops names session a b i j lines outcome → Keeps b c → Stops names session a c i j lines Write
-  flush_failed a b c i j lines (Ok x) s k = inr (answered_all a c i j lines (Answers-kept a b c i j lines s k))
+      → AnswersOrStops names session a b i j lines outcome → Keeps b c → Fails names session a c i j lines Write
+  flush_failed a b c i j lines (Ok x) s k = inr (inl (Answers-kept a b c i j lines s k))
   flush_failed a b c i j lines (Err Read) s k = absurd s
-  flush_failed a b c i j lines (Err Write) s k = Stops-kept a b c i j lines Write s k
-  flush_failed a b c i j lines (Err Memory) s k = inr (front_kept a b c i j lines s k)
+  flush_failed a b c i j lines (Err Write) s k = inl (broken_kept a b c i j lines s k)
+  flush_failed a b c i j lines (Err Memory) s k = inr (unless_kept a b c i j lines s k)
   flush_failed a b c i j lines (Err TooLong) s k = absurd s
 
   -- an outcome, once the writer was flushed
   flushed : {X : Type 0} (a b c : Option (List ℕ)) (i j : Standing) (lines : List (List ℕ)) (outcome : Result X ServeFault)
-      → AnswersOrStops names session a b i j lines outcome → Keeps b c → AnswersOrStops names session a c i j lines outcome
+      → AnswersOrStops names session a b i j lines outcome → Keeps b c → AnswersOrFails names session a c i j lines outcome
   flushed a b c i j lines (Ok x) s k = Answers-kept a b c i j lines s k
-  flushed a b c i j lines (Err fault) s k = Stops-kept a b c i j lines fault s k
+  flushed a b c i j lines (Err fault) s k = Stops-flushed a b c i j lines fault s k
 
   pub settled : {X : Type 0} (a b c : Option (List ℕ)) (i j : Standing) (lines : List (List ℕ)) (outcome result : Result X ServeFault)
       → AnswersOrStops names session a b i j lines outcome → Keeps b c → (result ≡ outcome) ⊎ (result ≡ Err Write)
-      → AnswersOrStops names session a c i j lines result
+      → AnswersOrFails names session a c i j lines result
   settled a b c i j lines outcome result s k (inl same) = rw same (flushed a b c i j lines outcome s k)
   settled a b c i j lines outcome result s k (inr failed) = rw failed (flush_failed a b c i j lines outcome s k)
 
@@ -211,15 +231,7 @@ module _ (names : Names) (session : ℕ) where
   answered_more a b c i j k front more first second =
       subst (Answers names session a c i k) (sym (closed_lines-append front more)) (Answers-trans a b c i j k _ _ first second)
 
-  pub stopped_more : (a b c : Option (List ℕ)) (i j k : Standing) (front more : List ℕ) (fault : ServeFault) → Answers names session a b i j (closed_lines front) → Stops names session b c j k (closed_lines (open_part front ++ more)) fault
-      → Stops names session a c i k (closed_lines (front ++ more)) fault
-  stopped_more a b c i j k front more fault first second =
-      subst (λ ls. Stops names session a c i k ls fault) (sym (closed_lines-append front more)) (Stops-after a b c i j k _ _ fault first second)
-
-  -- what a front of a script says of the whole
-  pub stopped_in_script : (held holds : Option (List ℕ)) (before after : Standing) (front rest : List ℕ) (fault : ServeFault) → Stops names session held holds before after (closed_lines front) fault
-      → Stops names session held holds before after (lines_of (front ++ rest)) fault
-  stopped_in_script held holds before after front rest fault s =
-      subst (λ ls. Stops names session held holds before after ls fault)
-      (sym (ap (λ f. lines_of (f ++ rest)) (closed_then_open front) ∙ ap lines_of (append_assoc (closed_part front) (open_part front) rest) ∙ lines_of-closed front (open_part front ++ rest)))
-      (Stops-front held holds before after _ _ fault s)
+  pub failed_more : (a b c : Option (List ℕ)) (i j k : Standing) (front more : List ℕ) (fault : ServeFault) → Answers names session a b i j (closed_lines front) → Fails names session b c j k (closed_lines (open_part front ++ more)) fault
+      → Fails names session a c i k (closed_lines (front ++ more)) fault
+  failed_more a b c i j k front more fault first second =
+      subst (λ ls. Fails names session a c i k ls fault) (sym (closed_lines-append front more)) (Fails-after a b c i j k _ _ fault first second)

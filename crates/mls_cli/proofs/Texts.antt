@@ -1,5 +1,5 @@
 -- What a writer took of a text.
-use Rattle.std.proofs.Common.{◌≡◌, ℕ, ◌-◌, arith, List, ◌++◌, Option, Result, Ok, Err, length, take, drop, sym, ap, ◌∙◌, subst, append_assoc, take-append-drop}
+use Rattle.std.proofs.Common.{◌≡◌, ℕ, ◌-◌, arith, List, ◌++◌, Option, Result, Ok, Err, length, take, drop, sym, ap, ◌∙◌, subst, append_assoc, take-append-drop, length-append}
 use Rattle.std.proofs.lemmas.Slice.{between_to_end}
 use Rattle.std.proofs.KnownBytes.{Appends-trans}
 use Rattle.std.specs.Io.KnownBytes.{Appends}
@@ -18,8 +18,8 @@ pub Writes-then : {X : Type 0} (a b c : Option (List ℕ)) (first second : List 
     → Appends a b first → Writes b c second result → Writes a c (first ++ second) result
 Writes-then a b c first second (Ok x) p q = Appends-trans a b c first second p q
 Writes-then a b c first second (Err Read) p q = q
-Writes-then a b c first second (Err Write) p (taken, lost, parts, written) =
-    (first ++ taken, lost, ap (λ t. first ++ t) parts ∙ sym (append_assoc first taken lost), Appends-trans a b c first taken p written)
+Writes-then a b c first second (Err Write) p (taken, lost, parts, short, written) =
+    (first ++ taken, lost, ap (λ t. first ++ t) parts ∙ sym (append_assoc first taken lost), short, Appends-trans a b c first taken p written)
 Writes-then a b c first second (Err Memory) p q = q
 Writes-then a b c first second (Err TooLong) p q = q
 
@@ -27,7 +27,8 @@ Writes-then a b c first second (Err TooLong) p q = q
 pub Writes-cut : (a b : Option (List ℕ)) (first second : List ℕ) (fault : ServeFault)
     → Writes {X = Unit {0}} a b first (Err fault) → Writes {X = Unit {0}} a b (first ++ second) (Err fault)
 Writes-cut a b first second Read q = q
-Writes-cut a b first second Write (taken, lost, parts, written) = (taken, lost ++ second, ap (λ t. t ++ second) parts ∙ append_assoc taken lost second, written)
+Writes-cut a b first second Write (taken, lost, parts, short, written) =
+    (taken, lost ++ second, ap (λ t. t ++ second) parts ∙ append_assoc taken lost second, simp length-append (omega (arith, short)), written)
 Writes-cut a b first second Memory q = q
 Writes-cut a b first second TooLong q = q
 
@@ -42,6 +43,6 @@ pub written_reply : {X : Type 0} (held holds : Option (List ℕ)) (before after 
     → Writes held holds text result → after ≡ next → Replies held holds before after text next result
 written_reply held holds before after next text (Ok x) w stands = (w, stands)
 written_reply held holds before after next text (Err Read) w stands = w
-written_reply held holds before after next text (Err Write) w stands = (w.0, w.1, w.2, w.3, stands)
+written_reply held holds before after next text (Err Write) w stands = (w.0, w.1, w.2, w.3, w.4, stands)
 written_reply held holds before after next text (Err Memory) w stands = absurd w
 written_reply held holds before after next text (Err TooLong) w stands = w

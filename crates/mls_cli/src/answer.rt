@@ -10,7 +10,7 @@ use mls_monitor::Monitor;
 use mls_rules::{Reply, Request};
 use std::alloc::{AllocError, Allocator};
 
-/// What a line is answered.
+/// The answer to a line.
 #[derive(Clone, Copy, Debug, PartialEq, Eq)]
 pub enum Answer {
     /// A blank line: nothing.
@@ -31,7 +31,10 @@ pub struct Script<'n, N: Allocator> {
 }
 
 impl<N: Allocator> Script<'_, N> {
-    /// Asks what a line asks. Want of memory leaves the variables and the monitor as they were.
+    /// Asks what a line asks.
+    ///
+    /// # Errors
+    /// `AllocError` where an allocation failed: the variables and the monitor stay as they were.
     pub fn answer<A: Allocator, V: Allocator + Copy>(
         &self,
         vars: &mut Vars<V>,
@@ -61,7 +64,10 @@ impl<N: Allocator> Script<'_, N> {
     }
 
     /// Asks a request, and binds the variable of its line, where it has one, to the object that it made. The room for the variable is
-    /// made first, so that an object that was made is always bound. Want of memory leaves the variables and the monitor as they were.
+    /// made first, so that an object that was made is always bound.
+    ///
+    /// # Errors
+    /// `AllocError` where an allocation failed: the variables and the monitor stay as they were.
     fn submit<A: Allocator, V: Allocator + Copy>(
         &self,
         vars: &mut Vars<V>,

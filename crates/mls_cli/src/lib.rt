@@ -2,10 +2,11 @@
 #![tactic(auto)]
 
 mod answer;
+mod answering;
 mod lines;
 mod loaded;
 mod output;
-mod piece;
+mod served;
 mod serving;
 
 pub use loaded::{LoadFault, Loaded, standard_start};

@@ -7,6 +7,7 @@ use mls_labels::{Scheme, SchemeFault};
 use mls_lines::Names;
 use mls_rules::Start;
 use std::alloc::{AllocError, Allocator, Global};
+use thiserror::Error;
 
 /// A start, and the names that its lines may use.
 #[derive(Drop)]
@@ -15,12 +16,14 @@ pub struct Loaded<A: Allocator = Global> {
     pub start: Start<A>,
 }
 
-/// Why there is no start. Where several apply, the first is answered, but want of memory as soon as it is met.
-#[derive(Clone, Copy, Debug, PartialEq, Eq)]
+/// Why there is no start. Where several apply, the first is returned, but `Memory` as soon as an allocation fails.
+#[derive(Clone, Copy, Debug, PartialEq, Eq, Error)]
 pub enum LoadFault {
     /// The names of levels and categories are refused as a scheme, for another cause than memory.
+    #[error("the scheme is refused: {0}")]
     Scheme(SchemeFault),
-    /// A growth was refused.
+    /// An allocation failed.
+    #[error("out of memory")]
     Memory,
 }
 
@@ -30,7 +33,7 @@ impl From<SchemeFault> for LoadFault {
 
     ghost from_gives = { λ refused fault. fault ≡ load_fault refused };
 
-    /// Want of memory is `Memory`, whatever met it.
+    /// Out of memory is `Memory`, whatever met it.
     fn from(refused: SchemeFault) -> LoadFault {
         match refused {
             SchemeFault::Memory => LoadFault::Memory,
@@ -50,10 +53,12 @@ impl From<AllocError> for LoadFault {
     }
 }
 
-/// The standard start: ann, bob, sec and aud, and root, plans, memo and tool. It fails for want of memory alone.
-pub fn standard_start<A: Allocator + Copy>(alloc: A) -> Result<Loaded<A>, LoadFault>
-    ensures names { IfOk result (λ l. l.names ≡ standard_names) }
-    ensures start { IfOk result (λ l. l.start ≡ rules.standard_start) }
+/// The names of the standard start.
+///
+/// # Errors
+/// `Memory` where an allocation failed, and nothing else.
+fn standard_names<A: Allocator + Copy>(alloc: A) -> Result<Names<A>, LoadFault>
+    ensures names { IfOk result (λ names. names ≡ standard_names) }
     ensures err { IfErr result (λ fault. fault ≡ LoadFault.Memory) }
 {
     let security = Scheme::new(alloc, &["U", "C", "S", "T"], &["A", "B"])?;
@@ -61,6 +66,19 @@ pub fn standard_start<A: Allocator + Copy>(alloc: A) -> Result<Loaded<A>, LoadFa
     let subjects = ["ann", "bob", "sec", "aud"];
     let objects = ["root", "plans", "memo", "tool"];
     let names = Names::new(alloc, &subjects, &objects, security, integrity)?;
+    Ok(names)
+}
+
+/// The standard start: ann, bob, sec and aud, and root, plans, memo and tool.
+///
+/// # Errors
+/// `Memory` where an allocation failed, and nothing else.
+pub fn standard_start<A: Allocator + Copy>(alloc: A) -> Result<Loaded<A>, LoadFault>
+    ensures names { IfOk result (λ l. l.names ≡ standard_names) }
+    ensures start { IfOk result (λ l. l.start ≡ rules.standard_start) }
+    ensures err { IfErr result (λ fault. fault ≡ LoadFault.Memory) }
+{
     let start = Start::standard(alloc)?;
+    let names = standard_names(alloc)?;
     Ok(Loaded { names, start })
 }

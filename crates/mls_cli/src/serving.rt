@@ -1,14 +1,16 @@
 //! Serving a script: its lines are read, answered and written, each before the next is asked for.
-ghost use Rattle.std.specs.Prelude.{◌≡◌, ◌<◌, ◌≤◌, ◌+◌, [], length, vec_len};
+ghost use Rattle.std.specs.Prelude.{◌≡◌, ◌<◌, ◌≤◌, ◌+◌, ◌-◌, [], length, take, vec_len, IfOk, IfErr};
 ghost use Rattle.mls_cli.specs.Script.{standing_of};
 ghost use Rattle.mls_cli.specs.Serve.{Ends, Serves};
 
 use crate::answer::Script;
-use crate::piece::{take_end, take_piece};
+use crate::answering::Answering;
+use crate::served::Served;
 use mls_lines::{Names, Vars};
 use mls_monitor::Monitor;
 use std::alloc::Allocator;
 use std::io::{Read, Write};
+use thiserror::Error;
 
 /// The most bytes that a script may have.
 pub const SCRIPT_LIMIT: usize = 1_048_576;
@@ -17,33 +19,66 @@ pub const SCRIPT_LIMIT: usize = 1_048_576;
 const PIECE: usize = 65_536;
 
 /// Why a script wasn't answered to its end.
-#[derive(Clone, Copy, Debug, PartialEq, Eq)]
+#[derive(Clone, Copy, Debug, PartialEq, Eq, Error)]
 pub enum ServeFault {
     /// The reader failed. An interrupted read counts as failed.
+    #[error("the reader failed")]
     Read,
     /// The writer failed or took nothing. An interrupted write or flush counts as failed.
+    #[error("the writer failed")]
     Write,
     /// There was no memory for what a line needs.
+    #[error("out of memory")]
     Memory,
     /// The script is longer than `SCRIPT_LIMIT`.
+    #[error("the script is too long")]
     TooLong,
 }
 
-/// Serves a script through a buffer, and keeps an unfinished line in `line` between two pieces.
-fn serve_pieces<R: Read, W: Write, A: Allocator, N: Allocator, V: Allocator + Copy, L: Allocator>(
-    script: &Script<'_, N>,
-    vars: &mut Vars<V>,
+/// What is left of the room for a script's bytes after so many more.
+///
+/// # Errors
+/// `TooLong` where there isn't room for so many.
+fn room_after(room: usize, count: usize) -> Result<usize, ServeFault>
+    ensures ok { IfOk result (λ left. left + count ≡ room) }
+    ensures err { IfErr result (λ fault. (fault ≡ ServeFault.TooLong) × (room < count)) }
+{
+    if count > room {
+        return Err(ServeFault::TooLong);
+    }
+    Ok(room - count)
+}
+
+/// The first bytes, as many as there is room for.
+#[tactic(auto, using(crate::proofs::Kept::same_front))]
+fn within(bytes: &[u8], room: usize) -> &[u8]
+    ensures { result.now ≡ take room bytes.now }
+{
+    &bytes[..bytes.len().min(room)]
+}
+
+/// How many entries were added to a journal that had `before`.
+fn added<A: Allocator>(monitor: &Monitor<A>, before: usize) -> u64
+    requires { before ≤ length monitor.now.entries }
+    ensures { result ≡ length monitor.now.entries - before }
+{
+    (monitor.entries().len() - before) as u64
+}
+
+/// Serves a script through a buffer.
+fn serve_pieces<R: Read, W: Write, A: Allocator, N: Allocator, V: Allocator + Copy>(
+    served: &mut Served<'_, N, V>,
     monitor: &mut Monitor<A>,
-    line: &mut Vec<u8, L>,
     buffer: &mut [u8],
     reader: &mut R,
     writer: &mut W,
 ) -> Result<u64, ServeFault>
     requires room { 0 < length buffer.old }
-    requires line { line.old.items ≡ [] }
-    ensures { Ends script.now.names.now script.now.session (R.remaining reader.old) (R.remaining reader.new)
+    requires line { served.old.line.items ≡ [] }
+    ensures { Ends served.old.answering.script.names.now served.old.answering.script.session
+        (R.remaining reader.old) (R.remaining reader.new)
         (W.contents writer.old) (W.contents writer.new)
-        (standing_of vars.old.bound monitor.old) (standing_of vars.new.bound monitor.new) result }
+        (standing_of served.old.answering.vars.bound monitor.old) (standing_of served.new.answering.vars.bound monitor.new) result }
 {
     let before = monitor.entries().len();
     let mut room = SCRIPT_LIMIT;
@@ -52,21 +87,11 @@ fn serve_pieces<R: Read, W: Write, A: Allocator, N: Allocator, V: Allocator + Co
             return Err(ServeFault::Read);
         };
         if count == 0 {
-            take_end(script, vars, monitor, line, writer)?;
-            return Ok((monitor.entries().len() - before) as u64);
+            served.take_end(monitor, writer)?;
+            return Ok(added(monitor, before));
         }
-        take_piece(
-            script,
-            vars,
-            monitor,
-            line,
-            &buffer[..count.min(room)],
-            writer,
-        )?;
-        if count > room {
-            return Err(ServeFault::TooLong);
-        }
-        room -= count;
+        served.take_piece(monitor, within(&buffer[..count], room), writer)?;
+        room = room_after(room, count)?;
     }
 }
 
@@ -79,7 +104,8 @@ fn serve_pieces<R: Read, W: Write, A: Allocator, N: Allocator, V: Allocator + Co
 /// # Errors
 /// The monitor is always as after the requests that were asked, each with its entry, and keeps its start.
 /// - `Read`: the lines that were complete are answered, and no other line was asked.
-/// - `Write`: a front of the answers is written, and no line was asked after the one whose answer broke off.
+/// - `Write`: an answer broke off, which was the last that was asked for; or the writer failed when it was flushed, and the
+///   lines that were complete in what was read are answered, or, where memory was refused too, those before the one that met it.
 /// - `Memory`: the lines before are answered, and the line that met it added no entry.
 /// - `TooLong`: the lines whose newlines are within the limit are answered.
 pub fn serve<R: Read, W: Write, A: Allocator, B: Allocator, N: Allocator>(
@@ -97,16 +123,14 @@ pub fn serve<R: Read, W: Write, A: Allocator, B: Allocator, N: Allocator>(
     let Ok(mut buffer) = Vec::from_elem(&alloc, 0u8, PIECE) else {
         return Err(ServeFault::Memory);
     };
-    let mut line = Vec::new(&alloc);
-    let mut vars = Vars::new(&alloc);
+    let line = Vec::new(&alloc);
+    let vars = Vars::new(&alloc);
     let script = Script { names, session };
-    serve_pieces(
-        &script,
-        &mut vars,
-        monitor,
-        &mut line,
-        &mut buffer,
-        reader,
-        writer,
-    )
+    let answering = Answering {
+        script,
+        vars,
+        wrote: false,
+    };
+    let mut served = Served { answering, line };
+    serve_pieces(&mut served, monitor, &mut buffer, reader, writer)
 }

@@ -1,6 +1,7 @@
 //! Scripts whose answers the format fixes, over readers, writers and allocators that fail.
 mod bounds;
 mod failures;
+mod flushes;
 mod refusals;
 mod streams;
 

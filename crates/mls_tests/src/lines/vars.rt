@@ -63,6 +63,48 @@ fn bind_all<A: Allocator + Copy>(rt: &impl Abort, vars: &mut Vars<A>) -> u32 {
     refusals
 }
 
+/// Reserves what it takes to bind a variable, and says whether each variable of `BOUND` stays as it is, and this one too.
+fn reserves(vars: &mut Vars<Global>, name: &str) -> bool {
+    let before = vars.get(name);
+    let Ok(_) = vars.reserve(name) else {
+        return false;
+    };
+    vars.get(name) == before
+        && BOUND
+            .iter()
+            .all(|(bound, object)| vars.get(bound) == *object)
+}
+
+#[test]
+fn reserve_binds_nothing(rt: HostRuntime) {
+    let mut vars = Vars::new(rt.alloc());
+    let _ = bind_all(&rt, &mut vars);
+    assert!(rt; reserves(&mut vars, "a"), "a bound variable");
+    assert!(rt; reserves(&mut vars, "i"), "a new variable");
+}
+
+/// Reserves what it takes to bind a variable, binds it, and says what it is bound to.
+fn bound_in_two_steps(vars: &mut Vars<Global>, name: &str, object: ObjectId) -> Option<ObjectId> {
+    let Ok(copy) = vars.reserve(name) else {
+        return None;
+    };
+    vars.bind_reserved(copy, object);
+    vars.get(name)
+}
+
+#[test]
+fn bind_reserved_binds(rt: HostRuntime) {
+    let mut vars = Vars::new(rt.alloc());
+    for (name, object) in BINDS {
+        let object = ObjectId(object);
+        let bound = bound_in_two_steps(&mut vars, name, object);
+        assert!(rt; bound == Some(object), "{name} is {bound:?}");
+    }
+    for (name, object) in BOUND {
+        assert!(rt; vars.get(name) == object, "{name} in the end");
+    }
+}
+
 /// Binds new variables over an allocator, and says how often memory was refused.
 fn run(rt: &impl Abort, heap: &Refusing<Global>) -> u32 {
     let mut vars = Vars::new(heap);

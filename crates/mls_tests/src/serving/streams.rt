@@ -84,10 +84,35 @@ impl Write for Narrow {
     }
 }
 
+/// Takes all bytes, and can't be flushed.
+#[derive(Drop)]
+pub struct Stuck {
+    pub taken: Vec<u8>,
+}
+
+impl Stuck {
+    pub fn new(alloc: Global) -> Stuck {
+        Stuck {
+            taken: Vec::new(alloc),
+        }
+    }
+}
+
+impl Write for Stuck {
+    fn write(&mut self, buf: &[u8]) -> io::Result<usize> {
+        self.taken.extend_from_slice(buf)?;
+        Ok(buf.len())
+    }
+
+    fn flush(&mut self) -> io::Result<()> {
+        Err(io::Error::from(ErrorKind::Other))
+    }
+}
+
 /// Tells in a cell how many of the bytes that it took were flushed.
 #[derive(Drop)]
 pub struct Telling<'c> {
-    taken: usize,
+    pub taken: usize,
     flushed: &'c Cell<usize>,
 }
 

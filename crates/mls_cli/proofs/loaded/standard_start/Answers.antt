@@ -3,5 +3,5 @@ use Rattle.mls_cli.proofs.loaded.standard_start.Goals as goal
 
 pub returns-in_err-start-clause-err : goal.returns-in_err-start-clause-err
 returns-in_err-start-clause-err g c =
-    let fault = err_from_is_err_and c.from_residual-in_err-start.result c.from_residual-in_err-start.ensures.1 in
+    let fault = err_from_is_err_and c.from_residual.result c.from_residual.ensures.1 in
     rw fault.1 fault.2

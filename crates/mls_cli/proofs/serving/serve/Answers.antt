@@ -9,4 +9,4 @@ pub returns-clause-start : goal.returns-clause-start
 returns-clause-start g c = ends_start _ _ _ _ _ _ _ _ _ c.serve_pieces.ensures
 
 pub returns-clause-served : goal.returns-clause-served
-returns-clause-served g c = (c.serve_pieces.new.vars.bound, rw c.new-vars.ensures at c.serve_pieces.ensures)
+returns-clause-served g c = (c.serve_pieces.new.served.answering.vars.bound, rw c.new-vars.ensures at c.serve_pieces.ensures)

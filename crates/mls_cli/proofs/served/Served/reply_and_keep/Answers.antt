@@ -1,5 +1,5 @@
 use Rattle.mls_cli.proofs.Pieces.{answered_then_kept}
-use Rattle.mls_cli.proofs.piece.answer_and_keep.Goals as goal
+use Rattle.mls_cli.proofs.served.Served.reply_and_keep.Goals as goal
 
 pub returns-clause-answered : goal.returns-clause-answered
 returns-clause-answered g c =
