@@ -4,7 +4,7 @@ use Rattle.mls_rules.specs.declared.request.Request.{Request}
 use Rattle.mls_rules.specs.declared.request.Reason.{Reason}
 use Rattle.mls_rules.specs.declared.request.Reply.{Reply}
 use Rattle.mls_rules.specs.declared.request.Reply.TheVariants.{Yes, Created, No, Undefined}
-use Rattle.mls_rules.specs.State.{State}
+use Rattle.mls_state.specs.State.{State}
 use Rattle.mls_rules.specs.Rules.{conditions, AllHold, granted, first_failing, reply_unless, is_defined, reply, change, after_reply, after}
 
 -- the request is in the domain, and every condition of its action holds
