@@ -7,7 +7,8 @@ use Rattle.std.proofs.lemmas.Bool.{eqb-true, eq-eqb, or_cases, and_parts, and_fr
 use Rattle.std.specs.Cmp.{both_ways}
 use Rattle.mls_facts.specs.Each.{each}
 use Rattle.mls_facts.proofs.Each.{each-contains, contains-each}
-use Rattle.mls_tables.specs.Triples.{Triple, TripleSet, triple_cmp, triples_total, same_triple}
+use Rattle.mls_tables.specs.Triples.{Triple, TripleSet, triple_cmp}
+use Rattle.mls_tables.proofs.Laws.{triples_total, same_triple}
 use Rattle.mls_tree.specs.Tree as tree
 use Rattle.mls_tree.specs.Tree.{Hierarchy, children}
 use Rattle.mls_tree.proofs.Inferiors.{is_active-tree}

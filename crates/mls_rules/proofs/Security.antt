@@ -1,9 +1,9 @@
 -- Each request leaves a secure state secure.
 use Rattle.std.proofs.Common.{◌≡◌, ℕ, true, ◌&&◌}
 use Rattle.mls_tables.specs.declared.mode.Mode.{Mode}
-use Rattle.mls_rules.specs.declared.request.Action.{Action}
-use Rattle.mls_rules.specs.declared.request.Action.TheVariants.{Get, Release, Give, Rescind, Create, Delete, SubjectLevel, ObjectLevel}
-use Rattle.mls_rules.specs.declared.request.Request.{Request}
+use Rattle.mls_requests.specs.declared.action.Action.{Action}
+use Rattle.mls_requests.specs.declared.action.Action.TheVariants.{Get, Release, Give, Rescind, Create, Delete, SubjectLevel, ObjectLevel}
+use Rattle.mls_requests.specs.declared.request.Request.{Request}
 use Rattle.mls_state.specs.State.{State, is_subject}
 use Rattle.mls_state.specs.Properties.{IsSecure, HasTree, simple_holds, star_holds, discretionary_holds, integrity_holds}
 use Rattle.mls_rules.specs.Rules.{conditions, change, after, names_known, AllHold}

@@ -1,7 +1,7 @@
 -- To give and to rescind leaves a secure state secure.
 use Rattle.std.proofs.Common.{ℕ}
 use Rattle.mls_tables.specs.declared.mode.Mode.{Mode}
-use Rattle.mls_rules.specs.declared.request.Action.TheVariants.{Give, Rescind}
+use Rattle.mls_requests.specs.declared.action.Action.TheVariants.{Give, Rescind}
 use Rattle.mls_state.specs.State.{State}
 use Rattle.mls_state.specs.Properties.{IsSecure, HasTree, simple_holds, star_holds, integrity_holds}
 use Rattle.mls_rules.specs.Rules.{change}

@@ -6,7 +6,8 @@ use Rattle.mls_labels.specs.Label.{Label}
 use Rattle.mls_facts.specs.Each.{each}
 use Rattle.mls_facts.proofs.Each.{each-contains, contains-each}
 use Rattle.mls_labels.proofs.Dominance.{reflexive}
-use Rattle.mls_tables.specs.Triples.{Triple, TripleSet, triples_total, same_triple}
+use Rattle.mls_tables.specs.Triples.{Triple, TripleSet}
+use Rattle.mls_tables.proofs.Laws.{triples_total, same_triple}
 use Rattle.mls_state.specs.State.{State, is_subject, is_above}
 use Rattle.mls_state.specs.Properties.{IsSecure, HasTree, simple_holds, star_between, star_holds}
 use Rattle.mls_state.specs.Changes.{with_current, with_object_label}

@@ -8,9 +8,9 @@ use Rattle.mls_tables.specs.Triples.{Triple, TripleSet}
 use Rattle.mls_tree.specs.Tree.{IsTree}
 use Rattle.mls_tree.proofs.Grown.{IsTree-insert}
 use Rattle.mls_tree.proofs.Inferiors.{IsTree-retain}
-use Rattle.mls_rules.specs.declared.request.Action.{Action}
-use Rattle.mls_rules.specs.declared.request.Action.TheVariants.{Get, Release, Give, Rescind, Create, Delete, SubjectLevel, ObjectLevel}
-use Rattle.mls_rules.specs.declared.request.Request.{Request}
+use Rattle.mls_requests.specs.declared.action.Action.{Action}
+use Rattle.mls_requests.specs.declared.action.Action.TheVariants.{Get, Release, Give, Rescind, Create, Delete, SubjectLevel, ObjectLevel}
+use Rattle.mls_requests.specs.declared.request.Request.{Request}
 use Rattle.mls_state.specs.State.{State, is_subject, is_active}
 use Rattle.mls_state.specs.Properties.{Each, HasTree, is_known}
 use Rattle.mls_state.specs.Changes.{with_object_label, stays}

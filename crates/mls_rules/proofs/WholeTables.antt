@@ -3,9 +3,9 @@ use Rattle.std.proofs.Common.{◌≡◌, ℕ, true, nat_eq, ◌&&◌, ◌||◌, 
 use Rattle.std.specs.FinSet as set
 use Rattle.mls_labels.specs.Label.{Label}
 use Rattle.mls_tables.specs.Triples.{TripleSet}
-use Rattle.mls_rules.specs.declared.request.Action.{Action}
-use Rattle.mls_rules.specs.declared.request.Action.TheVariants.{Get, Release, Give, Rescind, Create, Delete, SubjectLevel, ObjectLevel}
-use Rattle.mls_rules.specs.declared.request.Request.{Request}
+use Rattle.mls_requests.specs.declared.action.Action.{Action}
+use Rattle.mls_requests.specs.declared.action.Action.TheVariants.{Get, Release, Give, Rescind, Create, Delete, SubjectLevel, ObjectLevel}
+use Rattle.mls_requests.specs.declared.request.Request.{Request}
 use Rattle.mls_state.specs.State.{State, is_subject, is_active}
 use Rattle.mls_state.specs.Properties.{HasWholeTables}
 use Rattle.mls_state.specs.Changes.{with_current, with_object_label, stays}

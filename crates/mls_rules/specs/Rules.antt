@@ -5,13 +5,13 @@ use Rattle.std.specs.FinMap as map
 use Rattle.mls_tables.specs.declared.mode.Mode.TheVariants.{Append, Write}
 use Rattle.mls_tree.specs.Tree.{is_inferior}
 use Rattle.mls_labels.specs.Label.{Label, has_label}
-use Rattle.mls_rules.specs.declared.request.Action.{Action}
-use Rattle.mls_rules.specs.declared.request.Action.TheVariants.{Get, Release, Give, Rescind, Create, Delete, SubjectLevel, ObjectLevel}
-use Rattle.mls_rules.specs.declared.request.Request.{Request}
-use Rattle.mls_rules.specs.declared.request.Reason.{Reason}
-use Rattle.mls_rules.specs.declared.request.Reason.TheVariants.{Discretionary, Simple, Star, Integrity, Authority, Compatibility, Ceiling, Root, Full}
-use Rattle.mls_rules.specs.declared.request.Reply.{Reply}
-use Rattle.mls_rules.specs.declared.request.Reply.TheVariants.{Yes, Created, No, Undefined}
+use Rattle.mls_requests.specs.declared.action.Action.{Action}
+use Rattle.mls_requests.specs.declared.action.Action.TheVariants.{Get, Release, Give, Rescind, Create, Delete, SubjectLevel, ObjectLevel}
+use Rattle.mls_requests.specs.declared.request.Request.{Request}
+use Rattle.mls_requests.specs.declared.reason.Reason.{Reason}
+use Rattle.mls_requests.specs.declared.reason.Reason.TheVariants.{Discretionary, Simple, Star, Integrity, Authority, Compatibility, Ceiling, Root, Full}
+use Rattle.mls_requests.specs.declared.reply.Reply.{Reply}
+use Rattle.mls_requests.specs.declared.reply.Reply.TheVariants.{Yes, Created, No, Undefined}
 use Rattle.mls_state.specs.State.{State, is_subject, is_active, is_above}
 use Rattle.mls_state.specs.Properties.{simple_holds, star_holds, discretionary_holds, integrity_holds}
 use Rattle.mls_state.specs.Changes.{with_current, with_object_label}

@@ -5,7 +5,7 @@ ghost use Rattle.mls_state.specs.Properties.{IsSecure};
 ghost use Rattle.mls_rules.specs.Rules.{names_known, conditions, AllHold, reply, after, change, takes_no_room, needs_no_room};
 
 use crate::deciding::decide;
-use crate::request::{Action, Reply, Request};
+use mls_requests::{Action, Reply, Request};
 use mls_state::{ObjectLabels, State};
 use mls_tables::SubjectId;
 use std::alloc::{AllocError, Allocator};

@@ -1,14 +1,14 @@
 //! The reply to a request.
 ghost use Rattle.std.specs.Prelude.{◌≡◌, IsTrue, if◌then◌else◌};
-ghost use Rattle.mls_rules.specs.declared.request.Reply.TheVariants.{Yes, No};
-ghost use Rattle.mls_rules.specs.declared.request.Reason.TheVariants.{Authority};
+ghost use Rattle.mls_requests.specs.declared.reply.Reply.TheVariants.{Yes, No};
+ghost use Rattle.mls_requests.specs.declared.reason.Reason.TheVariants.{Authority};
 ghost use Rattle.mls_state.specs.State.{is_subject, is_active};
 ghost use Rattle.mls_rules.specs.Rules.{is_defined, verdict, reply, controls};
 
 use crate::authority::{controls, writes_parent};
 use mls_state::{discretionary_holds, integrity_holds, simple_holds, star_holds};
 use crate::levels::{decide_object_level, decide_subject_level};
-use crate::request::{Action, Reason, Reply, Request};
+use mls_requests::{Action, Reason, Reply, Request};
 use mls_state::State;
 use mls_labels::{IntLabel, SecLabel};
 use mls_tables::{Mode, ObjectId, SubjectId};

@@ -1,7 +1,7 @@
 //! The rules that change levels: what they look at, and the replies to them.
 ghost use Rattle.std.specs.Prelude.{◌≡◌, ◌==◌, ◌||◌, not, IsTrue, Some};
 ghost use Rattle.std.specs.FinMap as map;
-ghost use Rattle.mls_rules.specs.declared.request.Action.{Action};
+ghost use Rattle.mls_requests.specs.declared.action.Action.{Action};
 ghost use Rattle.mls_state.specs.State.{is_subject, is_active, is_above};
 ghost use Rattle.mls_state.specs.Properties.{simple_holds, star_holds};
 ghost use Rattle.mls_state.specs.Changes.{with_current, with_object_label};
@@ -10,7 +10,7 @@ ghost use Rattle.mls_rules.specs.Rules.{verdict};
 
 use crate::authority::may_relabel;
 use mls_state::star_between;
-use crate::request::{Reason, Reply};
+use mls_requests::{Reason, Reply};
 use mls_state::State;
 use mls_labels::SecLabel;
 use mls_tables::{Mode, ObjectId, SubjectId};

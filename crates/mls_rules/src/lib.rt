@@ -6,10 +6,9 @@ mod authority;
 mod deciding;
 mod laws;
 mod levels;
-mod request;
 
 pub use applying::apply;
 pub use deciding::decide;
 pub use laws::tests_are_of_all;
+pub use mls_requests::{Action, Reason, Reply, Request};
 pub use mls_state::{Start, State, is_secure};
-pub use request::{Action, Reason, Reply, Request};

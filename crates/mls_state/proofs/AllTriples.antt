@@ -3,7 +3,8 @@ use Rattle.std.proofs.Common.{◌≡◌, ℕ, ◌<◌, Bool, true, ◌||◌, ◌
 use Rattle.std.specs.List.{list_any, list_all}
 use Rattle.std.specs.FinSet as set
 use Rattle.std.proofs.lemmas.List.Folds.{list_any_at}
-use Rattle.mls_tables.specs.Triples.{Triple, TripleSet, triple_cmp, is_triple, is_triple-itself, is_triple-true, contains-from_list-triple}
+use Rattle.mls_tables.specs.Triples.{Triple, TripleSet, triple_cmp, is_triple}
+use Rattle.mls_tables.proofs.Laws.{is_triple-itself, is_triple-true, contains-from_list-triple}
 use Rattle.mls_state.specs.Properties.{Each}
 use Rattle.std.proofs.lemmas.Bool.{or_cases, and_parts, and_from, or_right}
 

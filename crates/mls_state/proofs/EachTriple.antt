@@ -3,7 +3,8 @@ use Rattle.std.proofs.Common.{◌≡◌, Bool, true, not, ◌&&◌, ◌||◌, sy
 use Rattle.std.proofs.Math.Bool.{and_assoc}
 use Rattle.std.proofs.lemmas.Bool.{and_from, and_parts, or_cases, or_right}
 use Rattle.std.specs.FinSet as set
-use Rattle.mls_tables.specs.Triples.{Triple, TripleSet, is_triple, is_triple-true, same_triple, same_triples, contains-insert-triple, contains-remove-triple}
+use Rattle.mls_tables.specs.Triples.{Triple, TripleSet, is_triple}
+use Rattle.mls_tables.proofs.Laws.{is_triple-true, same_triple, same_triples, contains-insert-triple, contains-remove-triple}
 use Rattle.mls_state.specs.Properties.{Each}
 
 -- one triple more

@@ -6,9 +6,10 @@ use Rattle.std.specs.FinSet as set
 use Rattle.std.specs.FinMap as map
 use Rattle.std.proofs.lemmas.Bool.{eq-eqb}
 use Rattle.std.proofs.lemmas.List.Folds.{list_any_at}
-use Rattle.mls_tables.specs.Triples.{TripleSet, same_triples}
+use Rattle.mls_tables.specs.Triples.{TripleSet}
+use Rattle.mls_tables.proofs.Laws.{same_triples}
 use Rattle.mls_tables.specs.Table.{Table, without_objects, IsAscending}
-use Rattle.mls_tables.proofs.Within.{contains-without_objects}
+use Rattle.mls_tables.proofs.Laws.{contains-without_objects}
 use Rattle.mls_tree.specs.Tree as tree
 use Rattle.mls_tree.specs.Tree.{Hierarchy, is_inferior, inferiors}
 use Rattle.mls_tree.proofs.Ranges.{rises}

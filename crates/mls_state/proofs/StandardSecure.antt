@@ -9,7 +9,8 @@ use Rattle.std.specs.FinSet as set
 use Rattle.std.specs.FinSet.{FinSet}
 use Rattle.std.proofs.lemmas.Bool.Decides.{nat_tests}
 use Rattle.mls_labels.specs.Label.{Label, dominates}
-use Rattle.mls_tables.specs.Triples.{Triple, triple_cmp, triples_total, same_triple}
+use Rattle.mls_tables.specs.Triples.{Triple, triple_cmp}
+use Rattle.mls_tables.proofs.Laws.{triples_total, same_triple}
 use Rattle.mls_state.specs.declared.subject.Subject.{Subject}
 use Rattle.mls_state.specs.declared.subject.ObjectLabels.{ObjectLabels}
 use Rattle.mls_state.specs.State.{is_subject, is_above}
