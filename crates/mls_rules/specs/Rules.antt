@@ -3,6 +3,7 @@ use Rattle.std.specs.Prelude.{◌≡◌, ℕ, ◌+◌, Bool, true, false, not, �
 use Rattle.std.specs.FinSet as set
 use Rattle.std.specs.FinMap as map
 use Rattle.mls_tables.specs.declared.mode.Mode.TheVariants.{Append, Write}
+use Rattle.mls_tables.specs.declared.limits.TheConstants.{MAX_OBJECTS}
 use Rattle.mls_tree.specs.Tree.{is_inferior}
 use Rattle.mls_labels.specs.Label.{Label, has_label}
 use Rattle.mls_requests.specs.declared.action.Action.{Action}
@@ -68,7 +69,7 @@ conditions v s (Create p l i) =
     (Authority, set.contains v.accesses (s, p, Append) || set.contains v.accesses (s, p, Write))
     ∷ (Compatibility, is_above (Some l) (map.get v.object_label p))
     ∷ (Integrity, is_above (map.get v.object_integrity p) (Some i))
-    ∷ (Full, nat_lt v.next 4096)
+    ∷ (Full, nat_lt v.next MAX_OBJECTS)
     ∷ []
 conditions v s (Delete o) = (Root, not (o == 0)) ∷ (Authority, writes_parent v s (map.get v.parent o)) ∷ []
 conditions v s (SubjectLevel l) =

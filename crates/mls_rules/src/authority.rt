@@ -4,8 +4,8 @@ ghost use Rattle.std.specs.FinMap as map;
 ghost use Rattle.mls_state.specs.State.{is_subject, is_active};
 ghost use Rattle.mls_rules.specs.Rules.{writes_parent, controls, may_relabel};
 
-use mls_state::State;
 use mls_labels::SecLabel;
+use mls_state::State;
 use mls_tables::{Mode, ObjectId, SubjectId};
 use std::alloc::Allocator;
 

@@ -6,12 +6,11 @@ ghost use Rattle.mls_state.specs.State.{is_subject, is_active};
 ghost use Rattle.mls_rules.specs.Rules.{is_defined, verdict, reply, controls};
 
 use crate::authority::{controls, writes_parent};
-use mls_state::{discretionary_holds, integrity_holds, simple_holds, star_holds};
 use crate::levels::{decide_object_level, decide_subject_level};
-use mls_requests::{Action, Reason, Reply, Request};
-use mls_state::State;
 use mls_labels::{IntLabel, SecLabel};
-use mls_tables::{Mode, ObjectId, SubjectId};
+use mls_requests::{Action, Reason, Reply, Request};
+use mls_state::{State, discretionary_holds, integrity_holds, simple_holds, star_holds};
+use mls_tables::{MAX_OBJECTS, Mode, ObjectId, SubjectId};
 use std::alloc::Allocator;
 
 /// Whether the caller is known and all that the action names is there.
@@ -92,7 +91,7 @@ fn decide_create<A: Allocator>(
         return Reply::No(Reason::Integrity);
     }
     let next = state.next();
-    if next >= 4096 {
+    if next >= MAX_OBJECTS {
         return Reply::No(Reason::Full);
     }
     Reply::Created(ObjectId::new(next))

@@ -9,10 +9,9 @@ ghost use Rattle.mls_rules.specs.Levels.{each_of_subject, each_of_object, each_c
 ghost use Rattle.mls_rules.specs.Rules.{verdict};
 
 use crate::authority::may_relabel;
-use mls_state::star_between;
-use mls_requests::{Reason, Reply};
-use mls_state::State;
 use mls_labels::SecLabel;
+use mls_requests::{Reason, Reply};
+use mls_state::{State, star_between};
 use mls_tables::{Mode, ObjectId, SubjectId};
 use std::alloc::Allocator;
 

@@ -6,6 +6,7 @@ use Rattle.std.specs.FinSet as set
 use Rattle.mls_facts.proofs.Entries.{has-inserted, has-kept, has-replaced}
 use Rattle.mls_labels.specs.Label.{Label}
 use Rattle.mls_tables.specs.Triples.{Triple, TripleSet}
+use Rattle.mls_tables.specs.declared.limits.TheConstants.{MAX_OBJECTS}
 use Rattle.mls_tree.specs.Tree.{IsTree}
 use Rattle.mls_tree.proofs.Grown.{IsTree-insert}
 use Rattle.mls_tree.proofs.Inferiors.{IsTree-retain}
@@ -24,7 +25,7 @@ known_still v w t same still known =
     and_from (is_subject w t.0) (is_active w t.1) subject (still ((and_parts (is_subject v t.0) (is_active v t.1) known).1))
 
 -- an object more below an active one
-pub grown_tree : (v : State) (l : ObjectLabels) (p : ℕ) → HasTree v → is_active v p ≡ true → v.next < 4096 → HasTree (grown v l p)
+pub grown_tree : (v : State) (l : ObjectLabels) (p : ℕ) → HasTree v → is_active v p ≡ true → v.next < MAX_OBJECTS → HasTree (grown v l p)
 grown_tree v l p h parent room =
     let w : State = grown v l p in
     let grows = has-inserted v.object_label v.next l.security in

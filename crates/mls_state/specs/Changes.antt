@@ -14,7 +14,7 @@ with_current v s l = record v { current = map.insert v.current s l }
 abbrev pub with_object_label : State → ℕ → Label → State
 with_object_label v o l = record v { object_label = map.insert v.object_label o l }
 
--- Whether an object stays when one is deleted: it is no inferior of that one. (after MTR-2997, rule to delete an object group)
+-- Whether an object stays when one is deleted: it is no inferior of that one. (own, after MTR-2997's rule to delete an object group)
 abbrev pub stays : State → ℕ → ℕ → Bool
 stays v o x = not (is_inferior v.parent x o)
 

@@ -10,14 +10,15 @@ use Rattle.mls_state.specs.declared.subject.ObjectLabels.{ObjectLabels}
 use Rattle.mls_facts.specs.Numbered.{numbered, places_of}
 use Rattle.mls_state.specs.Start.{Start}
 
--- a label without categories
+-- A label without categories. (own)
 abbrev pub plain : ℕ → Label
 plain level = record { level = level; categories = set.empty }
 
--- level 2 with category 0, and level 3 with the categories 0 and 1
+-- Level 2 with category 0. (own)
 abbrev pub secret : Label
 secret = record { level = 2; categories = set.insert set.empty 0 }
 
+-- Level 3 with the categories 0 and 1. (own)
 abbrev pub top : Label
 top = record { level = 3; categories = set.insert (set.insert set.empty 0) 1 }
 

@@ -42,7 +42,7 @@ opening start = record {
   integrity = start.integrity;
 }
 
--- the start that has the tables of a state
+-- The start that has the tables of a state. (own)
 abbrev pub tables_of : State → Start
 tables_of v = record {
   matrix = v.matrix;
@@ -58,13 +58,15 @@ tables_of v = record {
   integrity = v.integrity;
 }
 
+-- The tables of a start that speak of subjects. (own)
 abbrev Subjects : Type 0
 Subjects = FinMap nat_cmp Label × (FinMap nat_cmp Label × (FinMap nat_cmp Label × FinSet nat_cmp))
 
+-- The tables of a start that speak of objects, and how many there are. (own)
 abbrev Objects : Type 0
 Objects = FinMap nat_cmp Label × (FinMap nat_cmp Label × (FinMap nat_cmp ℕ × ℕ))
 
--- a start is stored as the tuple of its parts
+-- How a start is stored: as the tuple of its parts. (own)
 abbrev pub start_code : Coded Start
 start_code = code_by (TripleSet × (Subjects × (Objects × (Bounds × Bounds))))
     (coded× triple_set_code (coded×

@@ -49,16 +49,19 @@ is_above None b = false
 abbrev pub is_equal : Option Label → Option Label → Bool
 is_equal a b = is_above a b && is_above b a
 
--- a state is stored as the tuple of its parts
+-- How a table of labels is stored. (own)
 abbrev pub labels_code : Coded (FinMap nat_cmp Label)
 labels_code = map.code coded_ℕ label_code
 
+-- The tables of a state that speak of subjects. (own)
 abbrev Subjects : Type 0
 Subjects = FinMap nat_cmp Label × (FinMap nat_cmp Label × (FinMap nat_cmp Label × FinSet nat_cmp))
 
+-- The tables of a state that speak of objects, and the next number. (own)
 abbrev Objects : Type 0
 Objects = FinMap nat_cmp Label × (FinMap nat_cmp Label × (FinMap nat_cmp ℕ × ℕ))
 
+-- How a state is stored: as the tuple of its parts. (own)
 abbrev pub state_code : Coded State
 state_code = code_by ((TripleSet × TripleSet) × (Subjects × (Objects × (Bounds × Bounds))))
     (coded× (coded× triple_set_code triple_set_code) (coded×

@@ -7,7 +7,7 @@ use Rattle.mls_state.specs.Properties.{Each, is_known}
 use Rattle.mls_facts.specs.Numbered.{numbered, places_of}
 use Rattle.mls_state.specs.declared.state.State.TheInside.{Inside}
 
--- the state that the fields stand for: subjects by their places, and of the objects those that the tree has
+-- The state that the fields stand for: subjects by their places, and of the objects those that the tree has. (own)
 abbrev pub state_of : {A : Type 0} → Inside A → State
 state_of a = record {
   accesses = a.accesses.triples;
@@ -25,7 +25,7 @@ state_of a = record {
 }
 
 -- The tables agree: both have a row for each subject and a column for each object number given out, each such number has labels, the objects are a
--- tree, and triples name known subjects and active objects. A refused creation may leave a column over.
+-- tree, and triples name known subjects and active objects. A creation for which an allocation failed may leave a column over. (own)
 pub record Agrees {A : Type 0} (a : Inside A) : Type 0 where
   pub matrix_rows : a.matrix.subjects ≡ length a.subjects.items
   pub access_rows : a.accesses.subjects ≡ length a.subjects.items

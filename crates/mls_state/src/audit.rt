@@ -2,7 +2,7 @@
 ghost use Rattle.std.specs.Prelude.{◌≡◌, ◌↔◌, IsTrue, All};
 ghost use Rattle.std.specs.List.{list_all};
 ghost use Rattle.mls_state.specs.State.{is_subject, is_active};
-ghost use Rattle.mls_state.specs.Properties.{IsSecure, HasTree, Each, is_known, compatible_holds};
+ghost use Rattle.mls_state.specs.Properties.{IsSecure, HasTree, Each, is_known};
 ghost use Rattle.mls_state.specs.Audit.{access_holds, fits_parent, ceiling_holds, EachBelow, EachSubject};
 
 use crate::conditions::{discretionary_holds, integrity_holds, simple_holds, star_holds};
@@ -43,20 +43,6 @@ fn accesses_hold<A: Allocator>(state: &State<A>) -> bool
     all_hold(state, state.triples())
 }
 
-/// Whether a child and its parent are compatible, by both kinds of labels.
-fn are_compatible<A: Allocator>(state: &State<A>, child: ObjectId, parent: ObjectId) -> bool
-    requires child { IsTrue (is_active state.now child) }
-    requires parent { IsTrue (is_active state.now parent) }
-    ensures { result ≡ compatible_holds state.now child parent }
-{
-    state
-        .object_label(child)
-        .dominates(&state.object_label(parent))
-        && state
-            .object_integrity(parent)
-            .dominates(&state.object_integrity(child))
-}
-
 /// Whether an object is compatible with its parent. What isn't active has none, and is.
 fn fits_parent<A: Allocator>(state: &State<A>, o: ObjectId) -> bool
     requires { HasTree state.now }
@@ -66,7 +52,12 @@ fn fits_parent<A: Allocator>(state: &State<A>, o: ObjectId) -> bool
         return true;
     }
     match state.parent(o) {
-        Some(p) => are_compatible(state, o, p),
+        Some(p) => {
+            state.object_label(o).dominates(&state.object_label(p))
+                && state
+                    .object_integrity(p)
+                    .dominates(&state.object_integrity(o))
+        }
         None => true,
     }
 }

@@ -16,6 +16,7 @@ use std::marker::Model;
 mod changes;
 mod listing;
 mod making;
+mod removing;
 
 /// The state of the monitor, the `(b, M, f, H)` of MTR-2997 with integrity labels. Its tables agree and its objects
 /// are a tree, always; whether it is secure is another matter, which the rules see to.
@@ -87,7 +88,7 @@ impl<A: Allocator> State<A> {
         self.tree.is_active(o)
     }
 
-    /// The least object number that was never used, 4096 where all were. The active objects are a tree, and the tables
+    /// The least object number that was never used, [`mls_tables::MAX_OBJECTS`] where all were. The active objects are a tree, and the tables
     /// of the state agree, always.
     pub fn next(&self) -> u16
         ensures number { result ≡ self.now.next }

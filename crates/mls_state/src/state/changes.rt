@@ -1,9 +1,9 @@
 //! The changes that rules make of a state, each of one part. They keep the tables in agreement and the objects a tree, and
 //! don't ask whether a change may be made. A monitor lends its state for reading alone, so that nobody else calls them.
-ghost use Rattle.std.specs.Prelude.{◌≡◌, ◌≢◌, ◌<◌, ◌+◌, IsTrue, IfOk, OnOk, OnErr, not};
+ghost use Rattle.std.specs.Prelude.{◌≡◌, IsTrue, IfOk, OnOk, OnErr, not};
 ghost use Rattle.std.specs.FinSet as set;
 ghost use Rattle.mls_state.specs.State.{is_subject, is_active};
-ghost use Rattle.mls_state.specs.Changes.{with_current, with_object_label, with_objects, stays};
+ghost use Rattle.mls_state.specs.Changes.{with_current, with_object_label};
 
 use crate::state::State;
 use mls_labels::SecLabel;
@@ -49,26 +49,6 @@ impl<A: Allocator> State<A> {
     {
         self.matrix.rescind(s, o, x);
         self.accesses.remove(s, o, x);
-    }
-
-    /// Takes out an object that isn't the root, all objects below it, and the triples that name them: what a deletion
-    /// changes. It doesn't ask who may delete it.
-    ///
-    /// # Errors
-    /// `AllocError` where an allocation failed; the state is then as before.
-    pub fn remove_object(&mut self, o: ObjectId) -> Result<(), AllocError>
-        requires object { IsTrue (is_active self.old o) }
-        requires other { o ≢ 0 }
-        ensures ok { OnOk result (self.new ≡ with_objects self.old (stays self.old o)) }
-        ensures err { OnErr result (self.new ≡ self.old) }
-    {
-        self.tree.list_inferiors(o, &mut self.group)?;
-        self.matrix.clear_objects(&self.group);
-        self.accesses.drop_objects(&self.group);
-        self.tree.remove_group(&self.group);
-        // that what is left is a tree
-        let _ = self.tree.next();
-        Ok(())
     }
 
     /// Gives a subject another current label: what a change of a subject's level changes. It doesn't ask whether the

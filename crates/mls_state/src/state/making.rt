@@ -2,6 +2,7 @@
 ghost use Rattle.std.specs.Prelude.{◌≡◌, ◌<◌, ◌≤◌, ◌+◌, IsTrue, IfOk, OnOk, OnErr, length, All};
 ghost use Rattle.std.specs.FinSet as set;
 ghost use Rattle.std.specs.FinMap as map;
+ghost use Rattle.mls_tables.specs.declared.limits.TheConstants.{MAX_SUBJECTS, MAX_OBJECTS};
 ghost use Rattle.mls_state.specs.State.{is_subject, is_active};
 ghost use Rattle.mls_state.specs.Properties.{is_known};
 ghost use Rattle.mls_state.specs.First.{first_state, with_triples, SameCells};
@@ -15,7 +16,7 @@ use std::alloc::{AllocError, Allocator};
 
 /// Sees that the matrix has a column for the next object.
 fn widen_matrix<A: Allocator>(matrix: &mut Matrix<A>, next: u16) -> Result<(), AllocError>
-    requires room { next < 4096 }
+    requires room { next < MAX_OBJECTS }
     requires near { next ≤ matrix.old.columns }
     ensures ok { OnOk result (next < matrix.new.columns) }
     ensures kept { SameCells matrix.old matrix.new }
@@ -28,7 +29,7 @@ fn widen_matrix<A: Allocator>(matrix: &mut Matrix<A>, next: u16) -> Result<(), A
 
 /// Sees that the current accesses have a column for the next object.
 fn widen_accesses<A: Allocator>(accesses: &mut AccessSet<A>, next: u16) -> Result<(), AllocError>
-    requires room { next < 4096 }
+    requires room { next < MAX_OBJECTS }
     requires near { next ≤ accesses.old.columns }
     ensures ok { OnOk result (next < accesses.new.columns) }
     ensures kept { SameCells accesses.old accesses.new }
@@ -45,12 +46,8 @@ impl<A: Allocator> State<A> {
     ///
     /// # Errors
     /// `AllocError` where an allocation failed; no read then tells the state from what it was.
-    pub fn add_object(
-        &mut self,
-        parent: ObjectId,
-        labels: ObjectLabels,
-    ) -> Result<(), AllocError>
-        requires room { self.old.next < 4096 }
+    pub fn add_object(&mut self, parent: ObjectId, labels: ObjectLabels) -> Result<(), AllocError>
+        requires room { self.old.next < MAX_OBJECTS }
         requires parent { IsTrue (is_active self.old parent) }
         ensures ok { OnOk result (self.new ≡ record self.old {
           object_label = map.insert self.old.object_label self.old.next labels.security;
@@ -103,7 +100,7 @@ impl<A: Allocator + Clone> State<A> {
         integrity: Bounds,
     ) -> Result<State<A>, AllocError>
         requires some { 1 ≤ length subjects.now }
-        requires few { length subjects.now ≤ 256 }
+        requires few { length subjects.now ≤ MAX_SUBJECTS }
         ensures { IfOk result (λ v. v ≡ first_state subjects.now root security integrity) }
     {
         let count = subjects.len() as u16;

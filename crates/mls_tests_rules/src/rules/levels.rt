@@ -2,8 +2,8 @@
 use super::{
     ANN, BOB, MEMO, PLANS, ROOT, SEC, are_answered, asks, create_secret, get, opened, security,
 };
-use mls_rules::{Action, Reason, Reply, Request, tests_are_of_all};
 use mls_labels::{CatSet, Label, SecLabel};
+use mls_rules::{Action, Reason, Reply, Request, tests_are_of_all};
 use mls_tables::{Mode, ObjectId, SubjectId};
 use std::test::Fail;
 

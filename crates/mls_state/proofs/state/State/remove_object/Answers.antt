@@ -1,48 +1,40 @@
-use Rattle.std.proofs.Common.{◌<◌, ◌≤◌, ◌∙◌, ap, sym, refl, arith, get_or}
-use Rattle.mls_tables.specs.Table.{without_objects}
-use Rattle.mls_tree.specs.Tree.{inferiors}
+use Rattle.std.proofs.Common.{◌∙◌, ap, refl, sym}
 use Rattle.mls_state.specs.State.{State}
 use Rattle.mls_state.specs.Changes.{with_objects, stays}
+use Rattle.mls_state.proofs.Copies.{agrees-same}
 use Rattle.mls_state.proofs.Tables.{active-tree}
-use Rattle.mls_state.proofs.Removing.{ascending_inferiors, inferiors_below, state-removed, agrees-removed}
+use Rattle.mls_state.proofs.Removing.{state-removed, agrees-removed}
 use Rattle.mls_state.proofs.state.State.remove_object.Goals as goal
 
-pub list_inferiors-requires : goal.list_inferiors-requires
-list_inferiors-requires g c = sym (active-tree c.self.inside c.self.invariant c.args.o) ∙ rw (← c.self.view_is) at c.requires.object
+pub take_out-requires-clause-tree : goal.take_out-requires-clause-tree
+take_out-requires-clause-tree g c = c.self.invariant.tree
 
-pub clear_objects-requires : goal.clear_objects-requires
-clear_objects-requires g c = rw (c.deref.ensures.value, c.in_ok-list_inferiors.ensures) (λ k d within.
-    let below : get_or (inferiors c.self.inside.tree c.args.o) k d < c.self.inside.tree.next = inferiors_below c.self.inside.tree c.args.o c.self.invariant.tree k d within in
-    let wide : c.self.inside.tree.next ≤ c.self.inside.matrix.columns = c.self.invariant.matrix_columns in
-    omega (arith, below, wide))
+pub take_out-requires-clause-object : goal.take_out-requires-clause-object
+take_out-requires-clause-object g c = sym (active-tree c.self.inside c.self.invariant c.args.o) ∙ rw (← c.self.view_is) at c.requires.object
 
-pub drop_objects-requires : goal.drop_objects-requires
-drop_objects-requires g c = rw (c.deref-2.ensures.value, c.in_ok-list_inferiors.ensures) (ascending_inferiors c.self.inside.tree c.args.o)
+pub take_out-requires-clause-columns : goal.take_out-requires-clause-columns
+take_out-requires-clause-columns g c = c.self.invariant.matrix_columns
 
-pub remove_group-requires : goal.remove_group-requires
-remove_group-requires g c =
-    (c.args.o, sym (active-tree c.self.inside c.self.invariant c.args.o) ∙ rw (← c.self.view_is) at c.requires.object, c.requires.other, c.deref-3.ensures.value ∙ c.in_ok-list_inferiors.ensures)
+pub invariant_of-self : goal.invariant_of-self
+invariant_of-self g c =
+    agrees-same c.self.inside _ c.self.invariant refl refl c.in_err-take_out.ensures.same_tree c.in_err-take_out.ensures.same_matrix c.in_err-take_out.ensures.same_accesses
 
 pub invariant_of-self-2 : goal.invariant_of-self-2
 invariant_of-self-2 g c =
-    let cleared = c.clear_objects.ensures ∙ ap (λ group. record c.self.inside.matrix { triples = without_objects c.self.inside.matrix.triples group }) (c.deref.ensures.value ∙ c.in_ok-list_inferiors.ensures) in
-    let dropped = c.drop_objects.ensures ∙ ap (λ group. record c.self.inside.accesses { triples = without_objects c.self.inside.accesses.triples group }) (c.deref-2.ensures.value ∙ c.in_ok-list_inferiors.ensures) in
     agrees-removed c.self.inside _ c.self.invariant c.args.o c.requires.other refl refl
-    (c.remove_group.ensures c.args.o (c.deref-3.ensures.value ∙ c.in_ok-list_inferiors.ensures)) cleared dropped refl refl c.next.ensures.tree
+    c.in_ok-take_out.ensures.tree c.in_ok-take_out.ensures.matrix c.in_ok-take_out.ensures.accesses refl refl c.next.ensures.tree
 
 pub returns-clause-ok : goal.returns-clause-ok
 returns-clause-ok g c =
-    let cleared = c.clear_objects.ensures ∙ ap (λ group. record c.self.inside.matrix { triples = without_objects c.self.inside.matrix.triples group }) (c.deref.ensures.value ∙ c.in_ok-list_inferiors.ensures) in
-    let dropped = c.drop_objects.ensures ∙ ap (λ group. record c.self.inside.accesses { triples = without_objects c.self.inside.accesses.triples group }) (c.deref-2.ensures.value ∙ c.in_ok-list_inferiors.ensures) in
     state-removed c.self.inside (record {
       subjects = c.self.inside.subjects;
       objects = c.self.inside.objects;
-      tree = c.remove_group.new.self;
-      matrix = c.clear_objects.new.self;
-      accesses = c.drop_objects.new.self;
-      group = c.list_inferiors.new.group;
+      tree = c.take_out.new.tree;
+      matrix = c.take_out.new.matrix;
+      accesses = c.take_out.new.accesses;
+      group = c.take_out.new.group;
       security = c.self.inside.security;
       integrity = c.self.inside.integrity;
     }) c.self.invariant c.args.o c.requires.other refl refl
-    (c.remove_group.ensures c.args.o (c.deref-3.ensures.value ∙ c.in_ok-list_inferiors.ensures)) cleared dropped refl refl
+    c.in_ok-take_out.ensures.tree c.in_ok-take_out.ensures.matrix c.in_ok-take_out.ensures.accesses refl refl
     ∙ ap (λ (v : State). with_objects v (stays v c.args.o)) c.self.view_is
