@@ -4,7 +4,6 @@ use Rattle.std.specs.FinSet as set
 use Rattle.std.specs.FinMap as map
 use Rattle.mls_tables.specs.declared.mode.Mode.TheVariants.{Append, Write}
 use Rattle.mls_tables.specs.declared.limits.TheConstants.{MAX_OBJECTS}
-use Rattle.mls_tree.specs.Tree.{is_inferior}
 use Rattle.mls_labels.specs.Label.{Label, has_label}
 use Rattle.mls_requests.specs.declared.action.Action.{Action}
 use Rattle.mls_requests.specs.declared.action.Action.TheVariants.{Get, Release, Give, Rescind, Create, Delete, SubjectLevel, ObjectLevel}
@@ -15,7 +14,7 @@ use Rattle.mls_requests.specs.declared.reply.Reply.{Reply}
 use Rattle.mls_requests.specs.declared.reply.Reply.TheVariants.{Yes, Created, No, Undefined}
 use Rattle.mls_state.specs.State.{State, is_subject, is_active, is_above}
 use Rattle.mls_state.specs.Properties.{simple_holds, star_holds, discretionary_holds, integrity_holds}
-use Rattle.mls_state.specs.Changes.{with_current, with_object_label}
+use Rattle.mls_state.specs.Changes.{with_current, with_object_label, with_objects, stays}
 use Rattle.mls_rules.specs.Levels.{each_of_subject, each_of_object, label_fits}
 
 -- Whether the subject writes the parent, where there is one. (own)

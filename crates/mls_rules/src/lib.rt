@@ -1,4 +1,4 @@
-//! The rules of the monitor: what each request is answered, and what it changes.
+//! The rules of the monitor: the reply to each request, and what it changes.
 #![tactic(auto)]
 
 mod applying;

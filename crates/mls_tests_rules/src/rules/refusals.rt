@@ -1,4 +1,4 @@
-//! Each allocation refused in turn: nothing that a read tells has changed, and the same call again answers as ever.
+//! Each allocation refused in turn: no read then tells a change, and the same call made again returns what it always does.
 use super::alike::are_alike;
 use super::{BOB, PLANS, ROOT, SEC, create, get, give_sec_write, opened};
 use mls_rules::{Action, Reply, Request, Start, State, apply, is_secure};
@@ -8,7 +8,7 @@ use std::alloc::{AllocError, Allocator, Global};
 use std::process::Abort;
 use std::test::Fail;
 
-/// Makes a request of both states, of the first again where memory was refused.
+/// Makes a request of both states, of the first again where an allocation failed.
 fn answered<A: Allocator>(
     rt: &impl Abort,
     state: &mut State<A>,
@@ -24,7 +24,7 @@ fn answered<A: Allocator>(
     assert!(rt; reply == apply(ample, request));
 }
 
-/// Puts an access into a state, again where memory was refused, beside a state like it.
+/// Puts an access into a state, again where an allocation failed, beside a state like it.
 fn put<A: Allocator>(rt: &impl Abort, state: &mut State<A>, alike: &State<A>) {
     assert!(rt; state.is_subject(BOB) && state.is_active(PLANS));
     let mut is_new = state.put_access(BOB, PLANS, Mode::Read);
@@ -54,7 +54,7 @@ fn requests() -> [Request; 7] {
     ]
 }
 
-/// The opening of the standard start; a call that was refused memory is made again.
+/// The opening of the standard start; a call in which an allocation failed is made again.
 fn opened_again(heap: &Refusing<Global>) -> Result<State<&Refusing<Global>>, AllocError> {
     let start = match Start::standard(heap) {
         Ok(start) => start,
@@ -76,7 +76,7 @@ fn ask_both<A: Allocator>(rt: &impl Abort, state: &mut State<A>, ample: &mut Sta
     put(rt, state, ample);
 }
 
-/// Opens a state, again where memory was refused, beside a state that has ample memory, and makes the requests of both.
+/// Opens a state, again where an allocation failed, beside a state that has ample memory, and makes the requests of both.
 fn run<'a>(
     rt: &impl Abort,
     heap: &'a Refusing<Global>,
@@ -104,7 +104,7 @@ fn each_allocation_is_refused_once(rt: HostRuntime) -> Result<(), Fail> {
         let heap = Refusing::new(rt.alloc(), number);
         run_beside(&rt, &heap, &ample)?;
         if !heap.has_refused() {
-            // the tables of the start and of its opening, and the growths for requests
+            // the tables of the start and of its opening, and the room for requests
             assert!(rt; number > 20, "only {number}");
             return Ok(());
         }
@@ -163,7 +163,7 @@ fn the_last_numbers_are_refused_once(rt: HostRuntime) -> Result<(), Fail> {
         let heap = Refusing::new(rt.alloc(), number);
         run_last_beside(&rt, &heap, &ample)?;
         if !heap.has_refused() {
-            // the tables of the copy, and the growth of each
+            // the tables of the copy, and the room that each gets
             assert!(rt; number > 10, "only {number}");
             return Ok(());
         }
