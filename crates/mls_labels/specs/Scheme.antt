@@ -6,7 +6,10 @@ use Rattle.std.specs.Coded.{Coded, code_by, coded×, coded_ℕ, coded_list}
 use Rattle.mls_labels.specs.Label.{Bounds}
 use Rattle.mls_labels.specs.Names.{is_name, has_twice}
 use Rattle.mls_labels.specs.declared.scheme_fault.SchemeFault.{SchemeFault}
+use Rattle.mls_labels.specs.declared.scheme_fault.SchemeFault.TheVariants as refused
 use Rattle.mls_labels.specs.declared.scheme_fault.SchemeFault.TheVariants.{NoLevels, TooManyLevels, TooManyCategories, BadName, RepeatedName}
+use Rattle.mls_labels.specs.declared.name_set_fault.NameSetFault.{NameSetFault}
+use Rattle.mls_labels.specs.declared.name_set_fault.NameSetFault.TheVariants.{Repeated, Memory}
 
 -- A scheme: the names of the levels and those of the categories, each in the order of their numbers from 0. (own)
 pub record Scheme : Type 0 where
@@ -30,6 +33,11 @@ scheme_fault s =
     else if not (list_all is_name s.levels) || not (list_all is_name s.categories) then Some BadName
     else if has_twice s.levels || has_twice s.categories then Some RepeatedName
     else None
+
+-- What a fault of a list of names is as a fault of a scheme. (own)
+abbrev pub scheme_fault_of : NameSetFault → SchemeFault
+scheme_fault_of Repeated = RepeatedName
+scheme_fault_of Memory = refused.Memory
 
 -- What is true of every scheme of the program: it has no fault. (own)
 abbrev pub IsScheme : Scheme → Type 0

@@ -8,6 +8,7 @@ mod label;
 mod label_fault;
 mod laws;
 mod name_set;
+mod name_set_fault;
 mod names;
 mod reading;
 mod scheme;
@@ -25,6 +26,7 @@ pub use laws::{
     dominance_is_a_partial_order, equal_labels_dominate_each_other, equality_is_of_values,
 };
 pub use name_set::NameSet;
+pub use name_set_fault::NameSetFault;
 pub use names::is_name;
 pub use scheme::Scheme;
 pub use scheme_fault::SchemeFault;

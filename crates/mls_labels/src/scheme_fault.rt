@@ -1,5 +1,5 @@
 //! Why names are refused as a scheme.
-use std::alloc::AllocError;
+use crate::name_set_fault::NameSetFault;
 use thiserror::Error;
 
 /// Why [`Scheme::new`](crate::Scheme::new) refuses names. The least that applies is answered.
@@ -20,18 +20,21 @@ pub enum SchemeFault {
     /// Two levels or two categories have one name.
     #[error("a name that stands twice")]
     RepeatedName,
-    /// An allocation was refused. Nothing is kept of the names.
+    /// An allocation failed. Nothing is kept of the names.
     #[error("out of memory")]
     Memory,
 }
 
-impl From<AllocError> for SchemeFault {
+impl From<NameSetFault> for SchemeFault {
     ghost use Rattle.std.specs.Prelude.{◌≡◌};
-    ghost use Rattle.mls_labels.specs.declared.scheme_fault.SchemeFault.TheVariants.{Memory};
+    ghost use Rattle.mls_labels.specs.Scheme.{scheme_fault_of};
 
-    ghost from_gives = { λ _ fault. fault ≡ Memory };
+    ghost from_gives = { λ fault gives. gives ≡ scheme_fault_of fault };
 
-    fn from(_: AllocError) -> SchemeFault {
-        SchemeFault::Memory
+    fn from(fault: NameSetFault) -> SchemeFault {
+        match fault {
+            NameSetFault::Repeated => SchemeFault::RepeatedName,
+            NameSetFault::Memory => SchemeFault::Memory,
+        }
     }
 }
