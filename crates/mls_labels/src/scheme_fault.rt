@@ -2,19 +2,20 @@
 use crate::name_set_fault::NameSetFault;
 use thiserror::Error;
 
-/// Why [`Scheme::new`](crate::Scheme::new) refuses names. The least that applies is answered.
+/// Why [`Scheme::new`](crate::Scheme::new) refuses names. The first, in this order, that
+/// applies is returned.
 #[derive(Clone, Copy, Debug, PartialEq, Eq, Error)]
 pub enum SchemeFault {
     /// There is no level.
     #[error("no levels")]
     NoLevels,
-    /// There are more than 16 levels.
+    /// There are more than [`MAX_LEVELS`](crate::MAX_LEVELS) levels.
     #[error("more than 16 levels")]
     TooManyLevels,
-    /// There are more than 64 categories.
+    /// There are more than [`MAX_CATEGORIES`](crate::MAX_CATEGORIES) categories.
     #[error("more than 64 categories")]
     TooManyCategories,
-    /// A name isn't 1 to 32 of the ASCII letters, digits, `-` and `_`.
+    /// A name isn't 1 to [`MAX_NAME`](crate::MAX_NAME) of the ASCII letters, digits, `-` and `_`.
     #[error("a name that isn't 1 to 32 letters, digits, hyphens and underscores")]
     BadName,
     /// Two levels or two categories have one name.
