@@ -2,3 +2,4 @@ pub mod Bits
 pub mod Each
 pub mod Numbered
 pub mod Passing
+pub mod Sets
