@@ -1,5 +1,7 @@
-//! Tests of labels, tables and the tree that need nothing private.
+//! Tests of the rooms below the rules: labels, tables, the tree, requests and their words.
 #![tactic(auto)]
 
 #[cfg(test)]
 mod labels;
+#[cfg(test)]
+mod requests;
