@@ -9,8 +9,7 @@ ghost use Rattle.mls_labels.specs.Same.{same_categories, same_label, same_bounds
 ghost use Rattle.mls_labels.specs.Scheme.{Scheme, IsScheme, bounds_of};
 ghost use Rattle.mls_labels.specs.declared.label_fault.LabelFault.{LabelFault};
 
-/// What `==` answers on sets of categories, labels and bounds is true exactly where the two values
-/// are one.
+/// `==` on sets of categories, labels and bounds is true exactly where the two values are equal.
 pub fn equality_is_of_values()
     ensures sets { (s t : set.FinSet nat_cmp) → IsTrue (same_categories s t) ↔ (s ≡ t) }
     ensures labels { (a b : Label) → IsTrue (same_label a b) ↔ (a ≡ b) }
@@ -29,7 +28,8 @@ pub fn dominance_is_a_partial_order()
     ensures transitive { (a b c : Label) → IsTrue (dominates a b) → IsTrue (dominates b c) → IsTrue (dominates a c) }
 {}
 
-/// What is read of a text step by step is the label that the text spells, or the fault for which it is refused, and nothing else is.
+/// Read step by step, a text gives the label that it spells or the fault for which it is refused, and a text that spells a
+/// label or is refused gives just that.
 pub fn a_text_is_read_as_it_is_spelled()
     ensures label { (s : Scheme) (text : List ℕ) (l : Label) → IsScheme s → (label_at s text ≡ Ok l) ↔ Spells s text l }
     ensures fault { (s : Scheme) (text : List ℕ) (f : LabelFault) → IsScheme s → (label_at s text ≡ Err f) ↔ IsRefused s text f }

@@ -1,7 +1,7 @@
 use Rattle.mls_labels.specs.Scheme.{Scheme, IsScheme}
 use Rattle.mls_labels.proofs.LabelReads.{NamesOnce, one_label, one_fault, label_or_fault}
 use Rattle.mls_labels.proofs.SchemeFacts.{sound}
-use Rattle.mls_labels.proofs.laws.a_text_has_one_meaning.Goals as goal
+use Rattle.mls_labels.proofs.theorems.a_text_has_one_meaning.Goals as goal
 
 names_once : (s : Scheme) → IsScheme s → NamesOnce s
 names_once s is = let facts = sound s is in (facts.levels_once, facts.categories_once)

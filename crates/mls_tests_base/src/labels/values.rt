@@ -1,7 +1,7 @@
 //! Worked labels: the public calls, each once.
 ghost use Rattle.std.specs.Prelude.{◌≡◌, ◌↔◌, IsTrue};
 
-use crate::{Bounds, CatSet, IntLabel, Label, SecLabel};
+use mls_labels::{Bounds, CatSet, IntLabel, Label, SecLabel};
 
 /// `==` on labels is equality of values, to a caller's proof too.
 fn is_same(a: Label, b: Label) -> bool

@@ -1,6 +1,5 @@
 //! Schemes and label text: the worked examples, the limits of names, and memory refused in turn.
-use super::Scheme;
-use crate::{Bounds, CatSet, Label, LabelFault, SchemeFault, is_name};
+use mls_labels::{Bounds, CatSet, Label, LabelFault, Scheme, SchemeFault, is_name};
 use refusing::Refusing;
 use std::alloc::{AllocError, Allocator, Global};
 use std::process::Abort;
@@ -20,13 +19,9 @@ fn secret() -> Label {
     Label::new(2, CatSet::empty().with(0).with(1))
 }
 
-#[test]
-fn label_text_is_read_and_written(rt: HostRuntime) -> Result<(), Fail> {
-    let scheme = Scheme::new(rt.alloc(), &LEVELS, &CATEGORIES).expect(&rt, "a scheme");
-    assert!(rt; scheme.bounds() == Bounds::new(4, 2));
-    assert!(rt; scheme.has(secret()) && !scheme.has(Label::new(4, CatSet::empty())));
-    let read = scheme.read("S:B,A").expect(&rt, "a label text");
-    assert!(rt; read == secret());
+/// Sees that label texts are read, or refused for their faults.
+fn texts_are_read(rt: &impl Abort, scheme: &Scheme<Global>) {
+    assert!(rt; scheme.read("S:B,A") == Ok(secret()));
     assert!(rt; scheme.read("C") == Ok(Label::new(1, CatSet::empty())));
     for (text, fault) in [
         ("", LabelFault::BadForm),
@@ -38,10 +33,25 @@ fn label_text_is_read_and_written(rt: HostRuntime) -> Result<(), Fail> {
     ] {
         assert!(rt; scheme.read(text) == Err(fault), "at {text}");
     }
-    let mut text = String::from_str(rt.alloc(), "> ")?;
-    scheme.write(read, &mut text)?;
-    assert!(rt; text.as_str() == "> S:A,B");
-    Ok(())
+}
+
+/// Whether the label of a text is written after what stands there, its categories ascending.
+fn is_written(alloc: Global, scheme: &Scheme<Global>) -> Result<bool, AllocError> {
+    let Ok(label) = scheme.read("S:B,A") else {
+        return Ok(false);
+    };
+    let mut text = String::from_str(alloc, "> ")?;
+    scheme.write(label, &mut text)?;
+    Ok(text.as_str() == "> S:A,B")
+}
+
+#[test]
+fn label_text_is_read_and_written(rt: HostRuntime) {
+    let scheme = Scheme::new(rt.alloc(), &LEVELS, &CATEGORIES).expect(&rt, "a scheme");
+    assert!(rt; scheme.bounds() == Bounds::new(4, 2));
+    assert!(rt; scheme.has(secret()) && !scheme.has(Label::new(4, CatSet::empty())));
+    texts_are_read(&rt, &scheme);
+    assert!(rt; is_written(rt.alloc(), &scheme) == Ok(true));
 }
 
 #[test]
@@ -85,16 +95,27 @@ fn names_have_their_bytes(rt: HostRuntime) {
     }
 }
 
-/// Makes a scheme and writes a label over a heap that may refuse an allocation. What was refused changed
-/// nothing, and the same call again answers.
-fn written(rt: &impl Abort, heap: &Refusing<Global>) -> Result<(), AllocError> {
-    let scheme = match Scheme::new(heap, &LEVELS, &CATEGORIES) {
-        Ok(scheme) => scheme,
+/// A scheme over a heap that may refuse an allocation: where it does, the same call again makes it.
+fn made<'a>(
+    rt: &impl Abort,
+    heap: &'a Refusing<Global>,
+) -> Result<Scheme<&'a Refusing<Global>>, SchemeFault> {
+    match Scheme::new(heap, &LEVELS, &CATEGORIES) {
+        Ok(scheme) => Ok(scheme),
         Err(fault) => {
             assert!(rt; fault == SchemeFault::Memory && heap.has_refused());
-            Scheme::new(heap, &LEVELS, &CATEGORIES).map_err(|_| AllocError)?
+            Scheme::new(heap, &LEVELS, &CATEGORIES)
         }
-    };
+    }
+}
+
+/// Writes a label over a heap that may refuse an allocation: where it does, nothing is written, and the same
+/// call again writes it.
+fn writes(
+    rt: &impl Abort,
+    heap: &Refusing<Global>,
+    scheme: &Scheme<&Refusing<Global>>,
+) -> Result<(), AllocError> {
     let label = scheme.read("S:B,A").expect(rt, "a label text");
     assert!(rt; scheme.bounds() == Bounds::new(4, 2) && label == secret());
     let mut text = String::new(heap);
@@ -110,7 +131,8 @@ fn written(rt: &impl Abort, heap: &Refusing<Global>) -> Result<(), AllocError> {
 fn each_allocation_is_refused_in_turn(rt: HostRuntime) -> Result<(), Fail> {
     for number in 1..100 {
         let heap = Refusing::new(rt.alloc(), number);
-        written(&rt, &heap)?;
+        let scheme = made(&rt, &heap).expect(&rt, "a scheme");
+        writes(&rt, &heap, &scheme)?;
         if !heap.has_refused() {
             assert!(rt; number > 8, "only {number}");
             return Ok(());
