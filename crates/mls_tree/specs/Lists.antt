@@ -6,7 +6,7 @@ use Rattle.mls_tree.specs.declared.lists.Span.{Span}
 abbrev pub list_at : List ℕ → Span → List ℕ
 list_at store s = take s.len (drop s.start store)
 
--- a stretch of no room
+-- A stretch of no room. (own)
 abbrev pub nowhere : Span
 nowhere = record { start = 0; len = 0; room = 0 }
 

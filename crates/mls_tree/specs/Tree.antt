@@ -5,13 +5,14 @@ use Rattle.std.specs.Ordering.{nat_cmp}
 use Rattle.std.specs.Coded.{Coded, code_by, coded×, coded_ℕ}
 use Rattle.std.specs.FinMap as map
 use Rattle.std.specs.FinMap.{FinMap}
+use Rattle.mls_facts.specs.Numbered.{holds_of}
 
 -- The hierarchy of objects, as a map from each object that has a parent to the parent (MTR-2997, hierarchy), and the least number that no object had yet. (own)
 pub record Hierarchy : Type 0 where
   pub parent : FinMap nat_cmp ℕ
   pub next : ℕ
 
--- a hierarchy is stored as the pair of its parts
+-- A hierarchy is stored as the pair of its parts. (own)
 abbrev pub hierarchy_code : Coded Hierarchy
 hierarchy_code =
     code_by (FinMap nat_cmp ℕ × ℕ) (coded× (map.code coded_ℕ coded_ℕ) coded_ℕ) (λ h. (h.parent, h.next)) (λ p. record { parent = p.0; next = p.1 }) (λ _. refl)
@@ -34,19 +35,14 @@ pub record IsTree (parent : FinMap nat_cmp ℕ) (active : ℕ → Bool) (next : 
   pub below_next : (o : ℕ) → IsTrue (active o) → o < next
   pub few : next ≤ 4096
 
--- whether there is a number, and it passes the test
-abbrev pub passes : (ℕ → Bool) → Option ℕ → Bool
-passes test None = false
-passes test (Some p) = test p
-
 -- Whether the second object is the parent of the first. (MTR-2997, hierarchy)
 abbrev pub is_child : FinMap nat_cmp ℕ → ℕ → ℕ → Bool
-is_child parent c o = passes (λ p. p == o) (map.get parent c)
+is_child parent c o = holds_of (λ p. p == o) (map.get parent c)
 
 -- Whether the second object is met on the way up from the first within so many parent steps. (own)
 unfoldable pub reaches_within : FinMap nat_cmp ℕ → ℕ → ℕ → ℕ → Bool
 reaches_within parent zero o a = o == a
-reaches_within parent (suc n) o a = o == a || passes (λ p. reaches_within parent n p a) (map.get parent o)
+reaches_within parent (suc n) o a = o == a || holds_of (λ p. reaches_within parent n p a) (map.get parent o)
 
 -- Whether the first object is an inferior of the second: it is active, and is the second or below it (MTR-2997, hierarchy). In a tree of at most 4,096 objects no way up
 -- is longer. (own)

@@ -1,7 +1,8 @@
 //! The tree, kept as the parent of each object number that was given out.
 ghost use Rattle.std.specs.Prelude.{◌≡◌, ℕ, ◌+◌, ◌<◌, ◌≤◌, ◌↔◌, ◌≢◌, ◌==◌, ◌&&◌, [], not, IfSome, if◌then◌else◌, All, length, filter, slice_index_or, IsTrue, IfOk, OnOk, OnErr, IsErrOf};
 ghost use Rattle.std.specs.FinMap as map;
-ghost use Rattle.mls_tree.specs.Tree.{is_active, IsTree, passes, is_inferior, children, inferiors};
+ghost use Rattle.mls_facts.specs.Numbered.{holds_of};
+ghost use Rattle.mls_tree.specs.Tree.{is_active, IsTree, is_inferior, children, inferiors};
 ghost use Rattle.mls_tree.specs.Kept.{stays_listed};
 ghost use Rattle.std.specs.List.{list_any};
 ghost use Rattle.mls_tree.specs.declared.tree.TreeFault.TheVariants.{Full, Memory};
@@ -82,7 +83,7 @@ fn discard_one<A: Allocator>(lists: &mut Lists<A>, parent: Option<ObjectId>, o: 
     requires { IfSome parent (λ p. p < length lists.old) }
     ensures many { length lists.new ≡ length lists.old }
     ensures left { (q : ℕ) → slice_index_or lists.new q [] ≡
-        filter (λ c. not (c == o && passes (λ p. p == q) parent)) (slice_index_or lists.old q []) }
+        filter (λ c. not (c == o && holds_of (λ p. p == q) parent)) (slice_index_or lists.old q []) }
 {
     match parent {
         Some(p) => lists.discard(p.number() as usize, o),

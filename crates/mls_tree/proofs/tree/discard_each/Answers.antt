@@ -1,7 +1,8 @@
 use Rattle.std.proofs.Common.{◌≡◌, ◌<◌, ◌&&◌, [], None, eqb, length, not, filter, get_or, refl, sym, ap, ◌∙◌, arith}
 use Rattle.std.proofs.lemmas.List.{get_or_default}
-use Rattle.mls_tree.specs.Tree.{passes}
-use Rattle.mls_tree.proofs.Kept.{stays_listed_more, filter_all, IfSome-from_is}
+use Rattle.mls_facts.specs.Numbered.{holds_of}
+use Rattle.mls_tree.proofs.Kept.{stays_listed_more, IfSome-from_is}
+use Rattle.mls_facts.proofs.Filters.{filter_all}
 use Rattle.mls_tree.proofs.tree.discard_each.Goals as goal
 
 pub loop-o-init : goal.loop-o-init
@@ -29,6 +30,6 @@ loop-o-preserved g c =
       many = c.discard_one.ensures.many ∙ c.loop-o.invariant.many;
       left = λ q.
           c.discard_one.ensures.left q
-          ∙ (λ i. filter (λ x. not (eqb x c.o-item.result && passes (λ p. eqb p q) (parent i))) (c.loop-o.invariant.left q i))
+          ∙ (λ i. filter (λ x. not (eqb x c.o-item.result && holds_of (λ p. eqb p q) (parent i))) (c.loop-o.invariant.left q i))
           ∙ stays_listed_more c.args.parents.now c.args.group.now c.loop-o.o-index c.o-item.result q (get_or c.args.lists.now q []) here item;
     }

@@ -1,10 +1,8 @@
 use Rattle.std.proofs.Common.{◌≡◌, ◌<◌, ◌≤◌, ◌++◌, ◌∷◌, [], IsTrue, cond, eqb, get_or, refl, sym, ap, subst, ◌∙◌, arith, length, length-append, length-set}
 use Rattle.mls_tree.specs.Tree.{is_active, children}
-use Rattle.mls_tree.specs.Numbered.{numbered}
-use Rattle.mls_tree.specs.Kept.{hierarchy_of}
-use Rattle.mls_tree.proofs.Numbers.{numbered-push}
+use Rattle.mls_tree.specs.Kept.{parents_of, hierarchy_of}
 use Rattle.mls_tree.proofs.Listed.{length-children}
-use Rattle.mls_tree.proofs.Kept.{IsKept-push, get_or-pushed}
+use Rattle.mls_tree.proofs.Kept.{IsKept-push, get_or-pushed, parents_of-push}
 use Rattle.mls_tree.proofs.tree.Tree.add.Goals as goal
 
 pub push-requires-clause-few : goal.push-requires-clause-few
@@ -23,7 +21,7 @@ invariant_of-self-2 g c =
     let few : length parents ≤ 4096 = c.self.invariant.tree.few in
     let next : length parents ≡ c.args.self.now.next = ap (λ h. h.next) c.self.view_is in
     let room : length parents < 4096 = omega (arith, c.next-next.ensures.number) in
-    let below : IsTrue (is_active (numbered parents) c.args.parent) = subst (λ h. IsTrue (is_active h.parent c.args.parent)) (sym c.self.view_is) c.requires in
+    let below : IsTrue (is_active (parents_of parents) c.args.parent) = subst (λ h. IsTrue (is_active h.parent c.args.parent)) (sym c.self.view_is) c.requires in
     let low : c.args.parent < length parents = c.self.invariant.tree.below_next c.args.parent below in
     let many : length parents ≤ length lists = c.self.invariant.as_many in
     let longer : length lists ≤ length spare = c.spare_list.ensures.longer in
@@ -38,4 +36,4 @@ invariant_of-self-2 g c =
     ∙ (λ i. c.spare_list.ensures.same o i ++ cond (eqb o (c.number.ensures i)) (number i ∷ []) [])))
 
 pub returns-clause-ok : goal.returns-clause-ok
-returns-clause-ok g c = rw (c.push_reserved.ensures.items, c.in_ok-reserve.ensures.items, numbered-push, length-append, ← c.self.view_is) refl
+returns-clause-ok g c = rw (c.push_reserved.ensures.items, c.in_ok-reserve.ensures.items, parents_of-push, length-append, ← c.self.view_is) refl
