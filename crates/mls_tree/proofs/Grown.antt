@@ -6,6 +6,7 @@ use Rattle.std.proofs.lemmas.Option.{same_Some}
 use Rattle.std.specs.Ordering.{nat_cmp}
 use Rattle.std.specs.FinMap as map
 use Rattle.std.specs.FinMap.{FinMap}
+use Rattle.mls_tables.specs.declared.limits.TheConstants.{MAX_OBJECTS}
 use Rattle.mls_tree.specs.Tree.{Reaches, here, up, IsTree, is_active}
 use Rattle.mls_facts.proofs.Entries.{at_new, elsewhere, by_number, has-inserted}
 
@@ -30,7 +31,7 @@ module _ (parent : FinMap nat_cmp ℕ) (active : ℕ → Bool) (next p : ℕ) (t
   old_number o is = let below : o < next = tree.below_next o is in grind (arith, nat_tests)
 
   -- A tree stays one with the next number below an active object.
-  pub IsTree-insert : (grown : ℕ → Bool) → ((o : ℕ) → grown o ≡ (nat_eq o next || active o)) → IsTrue (active p) → next < 4096 → IsTree (map.insert parent next p) grown (next + 1)
+  pub IsTree-insert : (grown : ℕ → Bool) → ((o : ℕ) → grown o ≡ (nat_eq o next || active o)) → IsTrue (active p) → next < MAX_OBJECTS → IsTree (map.insert parent next p) grown (next + 1)
   IsTree-insert grown grows below room = record {
     root_active = still 0 tree.root_active;
     root_has_no_parent = elsewhere parent next p 0 (old_number 0 tree.root_active) ∙ tree.root_has_no_parent;

@@ -5,6 +5,7 @@ use Rattle.std.proofs.lemmas.Option.{same_Some}
 use Rattle.std.specs.Ordering.{nat_cmp}
 use Rattle.std.specs.FinMap as map
 use Rattle.std.specs.FinMap.{FinMap}
+use Rattle.mls_tables.specs.declared.limits.TheConstants.{MAX_OBJECTS}
 use Rattle.mls_tree.specs.Tree.{Reaches, here, up, IsTree, is_active, reaches_within, is_inferior}
 use Rattle.mls_facts.proofs.Entries.{get-kept, has-kept, at_kept, was_there}
 use Rattle.mls_tree.proofs.Ways.{above, above-zero, above-from_Reaches, first_step, parent_cases, Reaches-from_within, within-from_Reaches}
@@ -30,11 +31,11 @@ module _ (parent : FinMap nat_cmp ℕ) (active : ℕ → Bool) (next : ℕ) (tre
   -- The test and the way up say the same.
   pub Reaches-from_inferior : (o a : ℕ) → is_inferior parent o a ≡ true → IsTrue (active o) × Reaches parent o a
   unfolding is_inferior
-  Reaches-from_inferior o a is = let parts = and_parts (is_active parent o) (reaches_within parent 4096 o a) is in (is_active-tree o ∙ parts.0, Reaches-from_within parent 4096 o a parts.1)
+  Reaches-from_inferior o a is = let parts = and_parts (is_active parent o) (reaches_within parent MAX_OBJECTS o a) is in (is_active-tree o ∙ parts.0, Reaches-from_within parent MAX_OBJECTS o a parts.1)
 
   pub inferior_from_Reaches : (o a : ℕ) → IsTrue (active o) → Reaches parent o a → is_inferior parent o a ≡ true
   unfolding is_inferior
-  inferior_from_Reaches o a is way = and_from (is_active parent o) (reaches_within parent 4096 o a) (sym (is_active-tree o) ∙ is) (within-from_Reaches parent active next tree o a is way)
+  inferior_from_Reaches o a is way = and_from (is_active parent o) (reaches_within parent MAX_OBJECTS o a) (sym (is_active-tree o) ∙ is) (within-from_Reaches parent active next tree o a is way)
 
   pub is_inferior-Reaches : (o a : ℕ) → IsTrue (is_inferior parent o a) ↔ (IsTrue (active o) × Reaches parent o a)
   is_inferior-Reaches o a = (Reaches-from_inferior o a, λ h. inferior_from_Reaches o a h.0 h.1)

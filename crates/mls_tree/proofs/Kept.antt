@@ -1,8 +1,8 @@
 -- The fields of a tree: that each operation keeps them in agreement.
-use Rattle.std.proofs.Common.{◌≡◌, ℕ, zero, suc, ◌+◌, ◌<◌, ◌≤◌, ◌⊎◌, inl, inr, Bool, true, false, cond, not, ◌&&◌, ◌||◌, eqb, IsTrue, List, [], ◌∷◌, ◌++◌, length, take, filter, get_or, set, Option, Some, None, IfSome, refl, sym, ap, subst, ◌∙◌, arith, length-append}
+use Rattle.std.proofs.Common.{◌≡◌, ℕ, zero, suc, ◌+◌, ◌<◌, ◌≤◌, ◌⊎◌, inl, inr, Bool, true, false, cond, not, ◌&&◌, ◌||◌, eqb, IsTrue, List, [], ◌∷◌, ◌++◌, length, take, filter, get_or, set, Option, Some, None, IfSome, IfNone, refl, sym, ap, subst, ◌∙◌, arith, length-append, length-set}
 use Rattle.std.proofs.Math.Bool.{and-true, and-false}
 use Rattle.std.proofs.lemmas.Bool.{cases_Bool, cases_eq, eqb-true, eq-eqb, ne_eqb}
-use Rattle.std.proofs.lemmas.List.{append-nil}
+use Rattle.std.proofs.lemmas.List.{append-nil, get_or_default}
 use Rattle.std.proofs.lemmas.List.Elements.{filter_agree}
 use Rattle.std.proofs.lemmas.List.Folds.{list_any_more, list_any_at}
 use Rattle.std.specs.Cmp.{nat_cmp_total}
@@ -10,10 +10,11 @@ use Rattle.std.specs.List.{range_with_len, list_any}
 use Rattle.std.specs.Ordering.{nat_cmp}
 use Rattle.std.specs.FinMap as map
 use Rattle.std.specs.FinMap.{FinMap, nat_cmp-IsAntisymmetric}
+use Rattle.mls_tables.specs.declared.limits.TheConstants.{MAX_OBJECTS}
 use Rattle.mls_facts.specs.Numbered.{holds_of}
 use Rattle.mls_facts.proofs.Entries.{get-kept}
 use Rattle.mls_facts.proofs.Filters.{filter-twice, filter_all}
-use Rattle.mls_facts.proofs.Lists.{get_or-set}
+use Rattle.mls_facts.proofs.Places.{get_or-set}
 use Rattle.mls_facts.proofs.Numbered.{numbered-none, numbered-push, get-numbered-option}
 use Rattle.mls_facts.proofs.Ranges.{filter_range_none}
 use Rattle.mls_tree.specs.Tree.{IsTree, is_active, is_child, is_inferior, children, inferiors}
@@ -64,7 +65,7 @@ pub parents_of-push : (parents : List (Option ℕ)) (p : ℕ) → parents_of (pa
 parents_of-push parents p = numbered-push (λ parent. parent) parents (Some p) p refl
 
 -- the fields with one object more
-pub IsKept-push : (parents : List (Option ℕ)) (lists after : List (List ℕ)) (p : ℕ) → IsKept parents lists → IsTrue (is_active (parents_of parents) p) → length parents < 4096
+pub IsKept-push : (parents : List (Option ℕ)) (lists after : List (List ℕ)) (p : ℕ) → IsKept parents lists → IsTrue (is_active (parents_of parents) p) → length parents < MAX_OBJECTS
     → length parents < length after → ((o : ℕ) → get_or after o [] ≡ get_or lists o [] ++ cond (eqb o p) (length parents ∷ []) []) → IsKept (parents ++ Some p ∷ []) after
 IsKept-push parents lists after p kept below room longer same =
     let many : length (parents ++ Some p ∷ []) ≡ length parents + 1 = length-append parents (Some p ∷ []) in
@@ -102,7 +103,7 @@ stays_listed_more parents group i x q list within is =
           ∙ ap (λ b. not (b && holds_of (λ p. eqb p q) (get_or parents c None))) (ap (λ y. list_any (eqb c) (take i group) || eqb c y) is ∙ sym (list_any_more (eqb c) group i 0 within))
 
 -- one object is taken out of one list
-pub discarded : (lists : List (List ℕ)) (p x q : ℕ) → p < length lists → get_or (set lists p (filter (λ y. not (eqb y x)) (get_or lists p []))) q [] ≡ filter (λ c. not (eqb c x && eqb p q)) (get_or lists q [])
+discarded : (lists : List (List ℕ)) (p x q : ℕ) → p < length lists → get_or (set lists p (filter (λ y. not (eqb y x)) (get_or lists p []))) q [] ≡ filter (λ c. not (eqb c x && eqb p q)) (get_or lists q [])
 discarded lists p x q within =
     get_or-set lists p (filter (λ y. not (eqb y x)) (get_or lists p [])) q [] within ∙ from (cases_eq q p) where
       others : ℕ → Bool
@@ -191,7 +192,18 @@ module _ (parents : List (Option ℕ)) (group : List ℕ) (o : ℕ) (tree : IsTr
         listed = λ q. listed_left q ∙ sym (λ i. children (record { parent = parents_of-retain i; next = many i }) q);
       }
 
--- what holds of a number that is there
-pub IfSome-from_is : (e : Option ℕ) (n : ℕ) → ((p : ℕ) → e ≡ Some p → p < n) → IfSome e (λ p. p < n)
-IfSome-from_is None n below = tt
-IfSome-from_is (Some p) n below = below p refl
+-- a parent that stands in the list has a list of children
+pub parent_within : (parents : List (Option ℕ)) (lists now : List (List ℕ)) (n : ℕ) (parent : Option ℕ) → ((x p : ℕ) → get_or parents x None ≡ Some p → p < length lists)
+    → length now ≡ length lists → n < length parents → parent ≡ get_or parents n parent → IfSome parent (λ p. p < length now)
+parent_within parents lists now n parent listed many within is = from parent is where
+  from : (e : Option ℕ) → e ≡ get_or parents n e → IfSome e (λ p. p < length now)
+  from None is = tt
+  from (Some p) is = let below : p < length lists = listed n p (sym (get_or_default parents n (Some p) None within) ∙ sym is) in omega arith
+
+-- one object is taken out of the list of its parent, if it has one
+pub discarded_one : (lists after : List (List ℕ)) (parent : Option ℕ) (x : ℕ) → IfSome parent (λ p. p < length lists)
+    → IfSome parent (λ p. after ≡ set lists p (filter (λ y. not (eqb y x)) (get_or lists p []))) → IfNone parent (after ≡ lists)
+    → (length after ≡ length lists) × ((q : ℕ) → get_or after q [] ≡ filter (λ c. not (eqb c x && holds_of (λ p. eqb p q) parent)) (get_or lists q []))
+discarded_one lists after (Some p) x within listed root = (ap length listed ∙ length-set lists p _, λ q. ap (λ l. get_or l q []) listed ∙ discarded lists p x q within)
+discarded_one lists after None x within listed root =
+    (ap length root, λ q. ap (λ l. get_or l q []) root ∙ sym (filter_all _ (get_or lists q []) (λ c. ap not (and-false (eqb c x)))))

@@ -2,7 +2,7 @@
 use Rattle.std.proofs.Common.{◌≡◌, ℕ, ◌+◌, ◌-◌, ◌<◌, ◌≤◌, ◌⊎◌, inl, inr, Bool, List, [], ◌∷◌, ◌++◌, length, take, drop, map, filter, get_or, set, sym, ap, subst, ◌∙◌, arith, length-append, length-drop, length-set, get_or-set_same, get_or-set_other}
 use Rattle.std.proofs.lemmas.Bool.{cases_eq, cases_order}
 use Rattle.std.proofs.lemmas.List.{get_or-map, take_more_set, drop-set-lt, drop-set-add, take-set-le, take-append-le, drop-append-le}
-use Rattle.mls_facts.proofs.Lists.{map-set}
+use Rattle.mls_facts.proofs.Places.{map-set}
 use Rattle.mls_tree.specs.declared.lists.Span.{Span}
 use Rattle.mls_tree.specs.Lists.{list_at, nowhere, AreApart, IsLaidOut, FindsRoom}
 

@@ -8,6 +8,7 @@ use Rattle.std.specs.List.Sorted.{IsStrictlyIncreasing, IsNonDecreasing}
 use Rattle.std.specs.Ordering.{nat_cmp}
 use Rattle.std.specs.FinMap as map
 use Rattle.std.specs.FinMap.{FinMap}
+use Rattle.mls_tables.specs.declared.limits.TheConstants.{MAX_OBJECTS}
 use Rattle.mls_tree.specs.Tree.{Hierarchy, IsTree, Reaches, is_active, is_child, is_inferior, children, inferiors}
 use Rattle.mls_tree.proofs.Grown as grown
 use Rattle.mls_tree.proofs.Inferiors as below
@@ -15,7 +16,7 @@ use Rattle.mls_tree.proofs.Listed as listed
 
 -- A tree stays one with the next number below an active object.
 pub IsTree-insert : (parent : FinMap nat_cmp ℕ) (active : ℕ → Bool) (next p : ℕ) → IsTree parent active next
-    → (more : ℕ → Bool) → ((o : ℕ) → more o ≡ (nat_eq o next || active o)) → IsTrue (active p) → next < 4096
+    → (more : ℕ → Bool) → ((o : ℕ) → more o ≡ (nat_eq o next || active o)) → IsTrue (active p) → next < MAX_OBJECTS
     → IsTree (map.insert parent next p) more (next + 1)
 IsTree-insert = grown.IsTree-insert
 

@@ -8,6 +8,7 @@ use Rattle.std.specs.List.{list_any, IsDistinct, AllByRecursion}
 use Rattle.std.specs.Ordering.{nat_cmp}
 use Rattle.std.specs.FinMap as map
 use Rattle.std.specs.FinMap.{FinMap}
+use Rattle.mls_tables.specs.declared.limits.TheConstants.{MAX_OBJECTS}
 use Rattle.mls_facts.specs.Numbered.{holds_of}
 use Rattle.mls_facts.proofs.Distinct.{missing}
 use Rattle.mls_tree.specs.Tree.{Reaches, here, up, IsTree, reaches_within}
@@ -159,16 +160,16 @@ module _ (parent : FinMap nat_cmp ℕ) (active : ℕ → Bool) (next : ℕ) (tre
       omega arith
 
   -- what an active object reaches it reaches within 4,096 steps
-  pub within-from_Reaches : (o a : ℕ) → IsTrue (active o) → Reaches parent o a → reaches_within parent 4096 o a ≡ true
+  pub within-from_Reaches : (o a : ℕ) → IsTrue (active o) → Reaches parent o a → reaches_within parent MAX_OBJECTS o a ≡ true
   within-from_Reaches o a is way_up =
       let at = above-from_Reaches parent way_up in
       let top = above-from_Reaches parent (tree.reaches_root o is) in
       let high : top.0 ≤ next = height top.0 o is top.1 in
-      let few : next ≤ 4096 = tree.few in
+      let few : next ≤ MAX_OBJECTS = tree.few in
       from at.0 at.1 top.0 top.1 (cases_lt top.0 at.0) (omega arith) where
-        from : (k : ℕ) → above parent k o ≡ Some a → (n : ℕ) → above parent n o ≡ Some 0 → (n < k) ⊎ (k ≤ n) → n ≤ 4096 → reaches_within parent 4096 o a ≡ true
+        from : (k : ℕ) → above parent k o ≡ Some a → (n : ℕ) → above parent n o ≡ Some 0 → (n < k) ⊎ (k ≤ n) → n ≤ MAX_OBJECTS → reaches_within parent MAX_OBJECTS o a ≡ true
         from k at n top (inl past) few =
             let total : n + (k - n) ≡ k = omega arith in
             let none : k - n ≡ 0 = above_root (k - n) a (sym (above-add parent n (k - n) k o 0 total top) ∙ at) in
             absurd (omega arith)
-        from k at n top (inr within) few = within-from_above parent k 4096 o a (omega arith) at
+        from k at n top (inr within) few = within-from_above parent k MAX_OBJECTS o a (omega arith) at

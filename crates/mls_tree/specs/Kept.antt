@@ -14,12 +14,14 @@ parents_of parents = numbered (λ parent. parent) parents
 abbrev pub hierarchy_of : List (Option ℕ) → Hierarchy
 hierarchy_of parents = record { parent = parents_of parents; next = length parents }
 
--- The parents make a tree, and at the number of each object stands the list of its children. There may be more lists, which are empty. (own)
+-- The parents make a tree, and at the number of each object stands the list of its children. There may be more lists,
+-- which are empty. (own)
 pub record IsKept (parents : List (Option ℕ)) (lists : List (List ℕ)) : Type 0 where
   pub tree : IsTree (parents_of parents) (is_active (parents_of parents)) (length parents)
   pub as_many : length parents ≤ length lists
   pub listed : (o : ℕ) → slice_index_or lists o [] ≡ children (hierarchy_of parents) o
 
--- Whether an object stays in a list of children, where those of a group are taken out of the lists of their parents. (own)
+-- Whether an object stays in a list of children, where those of a group are taken out of the lists of their parents.
+-- (own)
 abbrev pub stays_listed : List (Option ℕ) → List ℕ → ℕ → ℕ → Bool
 stays_listed parents group o c = not (list_any (λ x. c == x) group && holds_of (λ p. p == o) (slice_index_or parents c None))

@@ -1,10 +1,9 @@
 //! The tree of objects: each active object but the root has a parent, and by parents reaches the root.
 #![tactic(auto)]
 
+mod fields;
 mod lists;
 mod reach;
-#[cfg(test)]
-mod tests;
 mod tree;
 
 pub use reach::inferiors_reach;

@@ -1,7 +1,7 @@
 use Rattle.std.proofs.Common.{◌≡◌, ◌<◌, length, sym, ap, refl, ◌∙◌, arith}
 use Rattle.std.proofs.lemmas.List.{length-map}
 use Rattle.mls_tree.specs.Lists.{list_at, nowhere}
-use Rattle.mls_facts.proofs.Lists.{map-set}
+use Rattle.mls_facts.proofs.Places.{map-set}
 use Rattle.mls_tree.proofs.lists.Lists.clear.Goals as goal
 
 pub returns : goal.returns
