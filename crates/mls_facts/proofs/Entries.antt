@@ -18,7 +18,8 @@ has_already true c known = sym (known refl)
 has_already false c known = refl
 
 module _ {X : Type 0} where
-  get-inserted : (m : FinMap nat_cmp X) (n : ℕ) (x : X) (q : ℕ) → map.get (map.insert m n x) q ≡ cond (nat_eq q n) (Some x) (map.get m q)
+  -- at any number
+  pub get-inserted : (m : FinMap nat_cmp X) (n : ℕ) (x : X) (q : ℕ) → map.get (map.insert m n x) q ≡ cond (nat_eq q n) (Some x) (map.get m q)
   get-inserted m n x q = map.get-insert nat_cmp_total m n x q ∙ ap (λ b. cond b (Some x) (map.get m q)) (unsigned_tied q n)
 
   -- at the number of the new entry

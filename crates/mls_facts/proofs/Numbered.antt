@@ -111,3 +111,11 @@ numbered-one f a x is = rw is refl
 pub numbered-none : {A X : Type 0} (f : A → Option X) (a : A) → f a ≡ None → numbered f (a ∷ []) ≡ map.empty
 unfolding numbered
 numbered-none f a is = rw is refl
+
+-- where the items of a list may be missing: the map of those that are there has at a place what the list has
+pub get-numbered-option : {X : Type 0} (items : List (Option X)) (n : ℕ) → map.get (numbered (λ x. x) items) n ≡ get_or items n None
+get-numbered-option {X = X} items n = get-numbered (λ x. x) items n ∙ read items n where
+  read : (items : List (Option X)) (n : ℕ) → option_and_then (λ x. x) (slice_get items n) ≡ get_or items n None
+  read [] n = refl
+  read (x ∷ items) zero = refl
+  read (x ∷ items) (suc n) = read items n

@@ -7,8 +7,6 @@ mod limits;
 mod matrix;
 mod mode;
 mod modes;
-#[cfg(test)]
-mod tests;
 mod triple_list;
 
 pub use access_set::AccessSet;

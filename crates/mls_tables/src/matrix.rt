@@ -12,7 +12,7 @@ use std::alloc::{AllocError, Allocator, Global};
 use std::marker::Model;
 
 /// The access matrix: a set of triples of a subject, an object and a mode, with a row for each subject and a column for each object number.
-/// There are 1 to 256 rows and up to 4,096 columns.
+/// There are 1 to `MAX_SUBJECTS` rows and up to `MAX_OBJECTS` columns.
 #[derive(Drop)]
 pub struct Matrix<A: Allocator = Global> {
     subjects: u16,
@@ -45,7 +45,7 @@ impl<A: Allocator> Model for Matrix<A> {
     } };
 }
 
-/// Where the cell of a subject and an object stands.
+/// The index of the cell of a subject and an object.
 fn place(subjects: u16, s: SubjectId, o: ObjectId) -> usize
     ensures { result ≡ o * subjects + s }
 {
@@ -60,7 +60,7 @@ fn clear(cells: &mut [Modes])
 }
 
 impl<A: Allocator> Matrix<A> {
-    /// A matrix with rows for 1 to 256 subjects, no column and no triple.
+    /// A matrix with rows for 1 to `MAX_SUBJECTS` subjects, no column and no triple. It doesn't allocate.
     pub fn new(alloc: A, subjects: u16) -> Matrix<A>
         requires least { 1 ≤ subjects }
         requires most { subjects ≤ MAX_SUBJECTS }
@@ -73,7 +73,7 @@ impl<A: Allocator> Matrix<A> {
         }
     }
 
-    /// For how many subjects there are rows.
+    /// How many subjects there are rows for.
     pub fn subjects(&self) -> u16
         ensures reply { result ≡ self.now.subjects }
         ensures least { 1 ≤ result }
@@ -82,7 +82,7 @@ impl<A: Allocator> Matrix<A> {
         self.subjects
     }
 
-    /// For how many object numbers there are columns. No triple names a subject or an object beyond the two.
+    /// How many object numbers there are columns for. Each triple names a subject and an object within the two.
     pub fn columns(&self) -> u16
         ensures reply { result ≡ self.now.columns }
         ensures most { result ≤ MAX_OBJECTS }
@@ -91,7 +91,10 @@ impl<A: Allocator> Matrix<A> {
         self.columns
     }
 
-    /// Adds an empty column for the next object number. Where memory is refused, nothing has changed.
+    /// Adds an empty column for the next object number.
+    ///
+    /// # Errors
+    /// `AllocError` where the allocation fails. Then nothing has changed.
     pub fn add_object(&mut self) -> Result<(), AllocError>
         requires { self.old.columns < MAX_OBJECTS }
         ensures ok { OnOk result (self.new ≡ record self.old { columns = self.old.columns + 1 }) }
@@ -112,7 +115,7 @@ impl<A: Allocator> Matrix<A> {
         self.cells[place(self.subjects, s, o)]
     }
 
-    /// Puts a mode into the cell of a subject and an object.
+    /// Adds a mode to the cell of a subject and an object.
     pub fn give(&mut self, s: SubjectId, o: ObjectId, x: Mode)
         requires subject { s < self.old.subjects }
         requires object { o < self.old.columns }
@@ -122,7 +125,7 @@ impl<A: Allocator> Matrix<A> {
         self.cells[at] = self.cells[at].with(x);
     }
 
-    /// Takes a mode out of the cell of a subject and an object.
+    /// Removes a mode from the cell of a subject and an object.
     pub fn rescind(&mut self, s: SubjectId, o: ObjectId, x: Mode)
         requires subject { s < self.old.subjects }
         requires object { o < self.old.columns }
@@ -152,7 +155,10 @@ impl<A: Allocator> Matrix<A> {
         }
     }
 
-    /// A matrix with the same rows, columns and triples.
+    /// A copy: the same rows, columns and triples.
+    ///
+    /// # Errors
+    /// `AllocError` where the allocation fails.
     pub fn duplicate(&self, alloc: A) -> Result<Matrix<A>, AllocError>
         ensures { IfOk result (λ m. m ≡ self.now) }
     {

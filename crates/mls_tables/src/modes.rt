@@ -45,7 +45,7 @@ impl Modes {
         self.bits >> x.number() & 1 == 1
     }
 
-    /// The set with one mode more.
+    /// The set with a mode added.
     pub fn with(self, x: Mode) -> Modes
         ensures { result ≡ set.insert self x }
     {
@@ -54,7 +54,7 @@ impl Modes {
         }
     }
 
-    /// The set with one mode less.
+    /// The set with a mode removed.
     pub fn without(self, x: Mode) -> Modes
         ensures { result ≡ set.remove self x }
     {

@@ -5,3 +5,7 @@
 mod labels;
 #[cfg(test)]
 mod requests;
+#[cfg(test)]
+mod tables;
+#[cfg(test)]
+mod tree;

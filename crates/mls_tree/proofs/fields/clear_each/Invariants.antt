@@ -1,6 +1,6 @@
 use Rattle.std.proofs.Common.{◌≡◌, ℕ, [], cond, eqb, length, take, get_or}
 use Rattle.std.specs.List.{list_any}
-use Rattle.mls_tree.proofs.tree.clear_each.Given as goal
+use Rattle.mls_tree.proofs.fields.clear_each.Given as goal
 
 abbrev pub invariant-loop-o : goal.invariant-loop-o
 invariant-loop-o g l =

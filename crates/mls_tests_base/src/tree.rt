@@ -1,12 +1,12 @@
-//! The worked tree, a chain of all numbers, and each allocation refused in turn.
-use crate::{Tree, TreeFault, inferiors_reach};
+//! The worked tree, a chain of all numbers, and each allocation failing in turn.
 use mls_tables::ObjectId;
+use mls_tree::{Tree, TreeFault, inferiors_reach};
 use refusing::Refusing;
 use std::alloc::{AllocError, Allocator, Global};
 use std::process::Abort;
 use std::test::Fail;
 
-/// Adds an object below an active one, again where memory was refused, and answers its number.
+/// Adds an object below an active one, and again where allocation failed, and returns its number.
 fn add_below<A: Allocator>(
     rt: &impl Abort,
     tree: &mut Tree<A>,
@@ -84,7 +84,7 @@ fn a_chain_of_all_numbers(rt: HostRuntime) -> Result<(), Fail> {
     Ok(())
 }
 
-/// Makes a tree, copies it, lists inferiors and takes them out; a call that was refused memory is made again.
+/// Makes a tree, copies it, lists inferiors and takes them out; a call whose allocation failed is made again.
 fn made(rt: &impl Abort, heap: &Refusing<Global>) -> Result<(), AllocError> {
     let mut tree = match Tree::new(heap) {
         Ok(tree) => tree,

@@ -1,6 +1,6 @@
 use Rattle.std.proofs.Common.{◌≡◌, ℕ, [], length, filter, take, get_or}
 use Rattle.mls_tree.specs.Kept.{stays_listed}
-use Rattle.mls_tree.proofs.tree.discard_each.Given as goal
+use Rattle.mls_tree.proofs.fields.discard_each.Given as goal
 
 abbrev pub invariant-loop-o : goal.invariant-loop-o
 invariant-loop-o g l =

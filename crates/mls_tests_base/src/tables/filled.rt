@@ -1,0 +1,119 @@
+//! Filled tables, from which a group of objects leaves, and each allocation failing in turn.
+use super::{MODES, has_just};
+use mls_tables::{AccessSet, MAX_OBJECTS, Matrix, Mode, ObjectId, SubjectId};
+use refusing::Refusing;
+use std::alloc::{AllocError, Allocator, Global};
+use std::process::Abort;
+use std::test::Fail;
+
+/// A matrix of four columns in which one subject may read each object; a call that fails to allocate is made again.
+fn matrix_of<A: Allocator>(rt: &impl Abort, alloc: A) -> Result<Matrix<A>, AllocError> {
+    let mut matrix = Matrix::new(alloc, 3);
+    for o in 0..4u16 {
+        if matrix.columns() < MAX_OBJECTS && matrix.add_object().is_err() {
+            assert!(rt; matrix.columns() == o, "at {o}");
+            matrix.add_object()?;
+        }
+        if matrix.subjects() > 2 && o < matrix.columns() {
+            matrix.give(SubjectId(2), ObjectId(o), Mode::Read);
+        }
+    }
+    Ok(matrix)
+}
+
+/// Inserts a triple that isn't there, again where that fails to allocate.
+fn inserted<A: Allocator>(
+    rt: &impl Abort,
+    set: &mut AccessSet<A>,
+    o: ObjectId,
+    x: Mode,
+) -> Result<(), AllocError> {
+    let s = SubjectId(2);
+    if s.0 < set.subjects() && o.0 < set.columns() {
+        match set.insert(s, o, x) {
+            Ok(new) => assert!(rt; new),
+            Err(_) => {
+                assert!(rt; !set.contains(s, o, x));
+                assert!(rt; set.insert(s, o, x)?);
+            }
+        }
+        assert!(rt; set.contains(s, o, x));
+    }
+    Ok(())
+}
+
+/// A set of four columns in which one subject has each access; a call that fails to allocate is made again.
+fn accesses_of<A: Allocator>(rt: &impl Abort, set: &mut AccessSet<A>) -> Result<(), AllocError> {
+    for o in 0..4u16 {
+        if set.columns() < MAX_OBJECTS && set.add_object().is_err() {
+            assert!(rt; set.columns() == o, "at {o}");
+            set.add_object()?;
+        }
+        for x in MODES {
+            inserted(rt, set, ObjectId(o), x)?;
+        }
+    }
+    Ok(())
+}
+
+#[test]
+fn a_group_of_objects_leaves(rt: HostRuntime) -> Result<(), Fail> {
+    let mut matrix = matrix_of(&rt, rt.alloc())?;
+    let mut set = AccessSet::new(rt.alloc(), 3)?;
+    accesses_of(&rt, &mut set)?;
+    assert!(rt; matrix.subjects() == 3 && matrix.columns() == 4);
+    assert!(rt; set.subjects() == 3 && set.columns() == 4);
+    assert!(rt; set.triples().len() == 16);
+    let group = [ObjectId(1), ObjectId(3)];
+    matrix.clear_objects(&group);
+    set.drop_objects(&group);
+    assert!(rt; matrix.columns() == 4 && set.columns() == 4);
+    for (o, kept) in [(0, true), (1, false), (2, true), (3, false)] {
+        let (s, o) = (SubjectId(2), ObjectId(o));
+        assert!(rt; matrix.modes(s, o).has(Mode::Read) == kept);
+        assert!(rt; set.contains(s, o, Mode::Append) == kept);
+    }
+    assert!(rt; set.triples().len() == 8);
+    assert!(rt; set.triples().iter().all(|t| t.0 == SubjectId(2) && t.1.0 % 2 == 0));
+    Ok(())
+}
+
+/// Fills both tables and copies them.
+fn filled(rt: &impl Abort, heap: &Refusing<Global>) -> Result<(), AllocError> {
+    let matrix = matrix_of(rt, heap)?;
+    let matrix = match matrix.duplicate(heap) {
+        Ok(copy) => copy,
+        Err(_) => matrix.duplicate(heap)?,
+    };
+    let mut set = match AccessSet::new(heap, 3) {
+        Ok(set) => set,
+        Err(_) => AccessSet::new(heap, 3)?,
+    };
+    accesses_of(rt, &mut set)?;
+    let set = match set.duplicate(heap) {
+        Ok(copy) => copy,
+        Err(_) => set.duplicate(heap)?,
+    };
+    assert!(rt; matrix.subjects() == 3 && matrix.columns() == 4);
+    assert!(rt; set.subjects() == 3 && set.columns() == 4);
+    for o in 0..4u16 {
+        let (s, o) = (SubjectId(2), ObjectId(o));
+        assert!(rt; has_just(matrix.modes(s, o), &[Mode::Read]));
+        assert!(rt; has_just(set.modes(s, o), &MODES) && set.modes(SubjectId(0), o).is_empty());
+    }
+    Ok(())
+}
+
+#[test]
+fn each_allocation_is_refused_once(rt: HostRuntime) -> Result<(), Fail> {
+    for number in 1..100 {
+        let heap = Refusing::new(rt.alloc(), number);
+        filled(&rt, &heap)?;
+        if !heap.has_refused() {
+            assert!(rt; number > 4, "only {number}");
+            return Ok(());
+        }
+    }
+    assert!(rt; false, "an allocation fails in every run");
+    Ok(())
+}
