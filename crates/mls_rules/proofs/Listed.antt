@@ -11,8 +11,7 @@ use Rattle.mls_tables.specs.Triples.{Triple, TripleSet, triple_cmp}
 use Rattle.mls_tables.proofs.Laws.{triples_total, same_triple}
 use Rattle.mls_tree.specs.Tree as tree
 use Rattle.mls_tree.specs.Tree.{Hierarchy, children}
-use Rattle.mls_tree.proofs.Inferiors.{is_active-tree}
-use Rattle.mls_tree.proofs.Listed.{list_any-children, parent_from_child, child_from_parent}
+use Rattle.mls_tree.proofs.Laws.{is_active-tree, list_any-children, parent_from_child, child_from_parent}
 use Rattle.mls_state.specs.State.{State, is_active}
 use Rattle.mls_state.specs.Properties.{HasTree}
 use Rattle.mls_rules.specs.Levels.{each_child}
@@ -49,10 +48,10 @@ module _ (v : State) (h : HasTree v) where
 
   -- the children of an object are those that are listed
   pub listed_child : (c o : ℕ) → map.get v.parent c ≡ Some o → list_any (eqb c) (children hierarchy o) ≡ true
-  listed_child c o step = list_any-children hierarchy by_parents c o ∙ child_from_parent (map.get v.parent c) o step
+  listed_child c o step = list_any-children hierarchy by_parents c o ∙ child_from_parent v.parent c o step
 
   pub child_listed : (c o : ℕ) → list_any (eqb c) (children hierarchy o) ≡ true → map.get v.parent c ≡ Some o
-  child_listed c o there = parent_from_child (map.get v.parent c) o (sym (list_any-children hierarchy by_parents c o) ∙ there)
+  child_listed c o there = parent_from_child v.parent c o (sym (list_any-children hierarchy by_parents c o) ∙ there)
 
   -- what passes for each child passes for one of them
   pub one_of_children : (o : ℕ) (p : ℕ → Bool) → each_child v o p ≡ true → (c : ℕ) → map.get v.parent c ≡ Some o → p c ≡ true

@@ -5,7 +5,7 @@ use Rattle.std.specs.FinSet as set
 use Rattle.mls_labels.specs.Label.{Label}
 use Rattle.mls_facts.specs.Each.{each}
 use Rattle.mls_facts.proofs.Each.{each-contains, contains-each}
-use Rattle.mls_labels.proofs.Dominance.{reflexive}
+use Rattle.mls_labels.proofs.Laws.{reflexive}
 use Rattle.mls_tables.specs.Triples.{Triple, TripleSet}
 use Rattle.mls_tables.proofs.Laws.{triples_total, same_triple}
 use Rattle.mls_state.specs.State.{State, is_subject, is_above}

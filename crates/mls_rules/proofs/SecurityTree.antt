@@ -6,7 +6,7 @@ use Rattle.std.specs.FinMap as map
 use Rattle.mls_labels.specs.Label.{Label}
 use Rattle.mls_tables.specs.Triples.{Triple}
 use Rattle.mls_tree.specs.Tree.{is_inferior}
-use Rattle.mls_tree.proofs.Inferiors.{inferior_below}
+use Rattle.mls_tree.proofs.Laws.{inferior_below}
 use Rattle.mls_requests.specs.declared.action.Action.TheVariants.{Create, Delete}
 use Rattle.mls_state.specs.State.{State, is_subject, is_active, is_above}
 use Rattle.mls_state.specs.Properties.{IsSecure, HasTree, compatible_holds}

@@ -6,8 +6,7 @@ use Rattle.std.specs.FinSet as set
 use Rattle.mls_labels.specs.Label.{Label, has_label}
 use Rattle.mls_tables.specs.Triples.{Triple, TripleSet}
 use Rattle.mls_tree.specs.Tree.{IsTree}
-use Rattle.mls_tree.proofs.Grown.{IsTree-insert}
-use Rattle.mls_tree.proofs.Inferiors.{IsTree-retain}
+use Rattle.mls_tree.proofs.Laws.{IsTree-insert, IsTree-retain}
 use Rattle.mls_requests.specs.declared.action.Action.{Action}
 use Rattle.mls_requests.specs.declared.action.Action.TheVariants.{Get, Release, Give, Rescind, Create, Delete, SubjectLevel, ObjectLevel}
 use Rattle.mls_requests.specs.declared.request.Request.{Request}

@@ -6,6 +6,7 @@ use Rattle.std.specs.FinMap as map
 use Rattle.std.specs.FinMap.{nat_cmp-IsAntisymmetric}
 use Rattle.std.specs.FinSet as finset
 use Rattle.std.proofs.lemmas.Bool.Decides.{nat_tests}
+use Rattle.std.proofs.lemmas.List.{length-set}
 use Rattle.mls_facts.proofs.Passing.{contains-passing}
 use Rattle.mls_facts.specs.Numbered.{numbered, holds_of, places_of}
 use Rattle.mls_facts.proofs.Numbered.{get-numbered}
@@ -21,11 +22,6 @@ module _ {A : Type 0} where
       let next : nat_eq (suc q) (suc n) ≡ nat_eq q n = grind (arith, nat_tests) in
       let inside : n < length items = omega arith in
       rw next (slice_get-set items n a q inside)
-
-  pub length-set : (items : List A) (n : ℕ) (a : A) → length (set items n a) ≡ length items
-  length-set [] n a = refl
-  length-set (x ∷ items) zero a = refl
-  length-set (x ∷ items) (suc n) a = ap suc (length-set items n a)
 
   -- what a field of the items is at a place after one item is replaced
   field-set : {X : Type 0} (f : A → X) (items : List A) (n : ℕ) (a : A) (q : ℕ) → n < length items

@@ -7,14 +7,11 @@ use Rattle.std.specs.FinMap as map
 use Rattle.std.proofs.lemmas.Bool.{eq-eqb}
 use Rattle.std.proofs.lemmas.List.Folds.{list_any_at}
 use Rattle.mls_tables.specs.Triples.{TripleSet}
-use Rattle.mls_tables.proofs.Laws.{same_triples}
+use Rattle.mls_tables.proofs.Laws.{same_triples, contains-without_objects}
 use Rattle.mls_tables.specs.Table.{Table, without_objects, IsAscending}
-use Rattle.mls_tables.proofs.Laws.{contains-without_objects}
 use Rattle.mls_tree.specs.Tree as tree
 use Rattle.mls_tree.specs.Tree.{Hierarchy, is_inferior, inferiors}
-use Rattle.mls_tree.proofs.Ranges.{rises}
-use Rattle.mls_tree.proofs.Listed.{list_any-inferiors, rises_inferiors}
-use Rattle.mls_tree.proofs.Inferiors.{is_active-retain, inferior_below_next}
+use Rattle.mls_tree.proofs.Laws.{list_any-inferiors, is_active-retain, IsNonDecreasing-inferiors}
 use Rattle.mls_state.specs.declared.state.State.TheInside.{Inside}
 use Rattle.mls_state.specs.declared.subject.Subject.{Subject}
 use Rattle.mls_state.specs.declared.subject.ObjectLabels.{ObjectLabels}
@@ -27,26 +24,8 @@ use Rattle.mls_state.proofs.EachTriple.{contains-retain-triple}
 use Rattle.mls_state.proofs.Tables.{has_tree}
 use Rattle.mls_state.proofs.TreeKept.{delete_tree}
 
--- numbers that rise ascend
-ascending_from_rises : (xs : List ℕ) → rises xs → IsAscending xs
-unfolding rises
-ascending_from_rises [] h i j low high = absurd (omega arith)
-ascending_from_rises (x ∷ xs) h zero zero low high = omega arith
-ascending_from_rises (x ∷ xs) h zero (suc j) low high =
-    let within : j < length xs = omega arith in
-    let less : x < get_or xs j 0 = h.0 (get_or xs j 0) (list_any_at (eqb (get_or xs j 0)) xs j 0 within (eq-eqb (get_or xs j 0) (get_or xs j 0) refl)) in omega (arith, less)
-ascending_from_rises (x ∷ xs) h (suc i) zero low high = absurd (omega arith)
-ascending_from_rises (x ∷ xs) h (suc i) (suc j) low high = ascending_from_rises xs h.1 i j (omega arith) (omega arith)
-
 pub ascending_inferiors : (h : Hierarchy) (o : ℕ) → IsAscending (inferiors h o)
-ascending_inferiors h o = ascending_from_rises (inferiors h o) (rises_inferiors h o)
-
--- each inferior is below the next number
-pub inferiors_below : (h : Hierarchy) (o : ℕ) → tree.IsTree h.parent (tree.is_active h.parent) h.next → (k d : ℕ) → k < length (inferiors h o) → get_or (inferiors h o) k d < h.next
-inferiors_below h o is_tree k d within =
-    let x : ℕ = get_or (inferiors h o) k d in
-    let listed : list_any (eqb x) (inferiors h o) ≡ true = list_any_at (eqb x) (inferiors h o) k d within (eq-eqb x x refl) in
-    inferior_below_next h.parent (tree.is_active h.parent) h.next is_tree x o (sym (list_any-inferiors h is_tree x o) ∙ listed)
+ascending_inferiors h o i j low high = IsNonDecreasing-inferiors h o i j 0 low high
 
 module _ {A : Type 0} (a b : Inside A) (h : Agrees a) (o : ℕ) (other : o ≡ 0 → ⊥)
     (subjects : b.subjects.items ≡ a.subjects.items) (objects : b.objects.items ≡ a.objects.items)

@@ -17,7 +17,8 @@ use Rattle.mls_state.specs.Changes.{with_current, with_object_label}
 use Rattle.mls_state.specs.StateView.{state_of, Agrees}
 use Rattle.mls_facts.specs.Numbered.{numbered, places_of}
 use Rattle.mls_facts.proofs.Entries.{retain_keys-insert}
-use Rattle.mls_state.proofs.NumberedSet.{length-set, numbered-set, numbered-kept, places-kept}
+use Rattle.std.proofs.lemmas.List.{length-set}
+use Rattle.mls_state.proofs.NumberedSet.{numbered-set, numbered-kept, places-kept}
 use Rattle.mls_state.proofs.Tables.{label_place, in_tree, has_tree}
 use Rattle.mls_state.proofs.TreeKept.{relabel_tree}
 

@@ -9,6 +9,7 @@ use Rattle.std.specs.FinSet as set
 use Rattle.std.specs.FinSet.{FinSet}
 use Rattle.std.proofs.lemmas.Bool.Decides.{nat_tests}
 use Rattle.mls_labels.specs.Label.{Label, dominates}
+use Rattle.mls_labels.proofs.Laws.{reflexive}
 use Rattle.mls_tables.specs.Triples.{Triple, triple_cmp}
 use Rattle.mls_tables.proofs.Laws.{triples_total, same_triple}
 use Rattle.mls_state.specs.declared.subject.Subject.{Subject}
@@ -44,13 +45,10 @@ within_any s = set.contains-is_subset nat_cmp_total set.empty s (λ q there. let
 above_plain : (l : Label) (n : ℕ) → nat_le n l.level ≡ true → dominates l (plain n) ≡ true
 above_plain l n high = and_from (nat_le n l.level) (set.is_subset set.empty l.categories) high (within_any l.categories)
 
-above_itself : (l : Label) → dominates l l ≡ true
-above_itself l = and_from (nat_le l.level l.level) (set.is_subset l.categories l.categories) (grind (arith, nat_tests)) (set.contains-is_subset nat_cmp_total l.categories l.categories (λ q there. there))
-
 -- each row's maximum label dominates its current one
 row_ceiling : (n : ℕ) → is_some (option_and_then (λ (s : Subject). Some s.maximum) (slice_get subject_rows n)) ≡ true
     → is_above (option_and_then (λ (s : Subject). Some s.maximum) (slice_get subject_rows n)) (option_and_then (λ (s : Subject). Some s.current) (slice_get subject_rows n)) ≡ true
-row_ceiling zero there = above_itself secret
+row_ceiling zero there = reflexive secret
 row_ceiling (suc zero) there = above_plain (plain 1) 0 refl
 row_ceiling (suc (suc zero)) there = above_plain top 0 refl
 row_ceiling (suc (suc (suc zero))) there = above_plain secret 0 refl
@@ -88,7 +86,7 @@ compatible child parent step = by_number 3 child (λ c. map.get (map.insert two 
     (λ not_three there. by_number 2 child (λ c. map.get two c ≡ Some parent → IsTrue (compatible_holds (opening standard_start) c parent))
     (λ at. below_root 2 parent (row_compatible 2 (above_plain (plain 1) 0 refl) (above_plain (plain 1) 0 refl)) (sym (at_new one 2 0) ∙ at))
     (λ not_two here. by_number 1 child (λ c. map.get one c ≡ Some parent → IsTrue (compatible_holds (opening standard_start) c parent))
-    (λ at. below_root 1 parent (row_compatible 1 (above_plain secret 0 refl) (above_itself (plain 1))) (sym (at_new map.empty 1 0) ∙ at))
+    (λ at. below_root 1 parent (row_compatible 1 (above_plain secret 0 refl) (reflexive (plain 1))) (sym (at_new map.empty 1 0) ∙ at))
     (λ not_one last. let none : map.get {X = ℕ} {R = nat_cmp} map.empty child ≡ None = map.get-empty nat_cmp child in let gone : None ≡ Some parent = sym (elsewhere map.empty 1 0 child not_one ∙ none) ∙ last in cc)
     (sym (elsewhere one 2 0 child not_two) ∙ here))
     (sym (elsewhere two 3 0 child not_three) ∙ there)) step

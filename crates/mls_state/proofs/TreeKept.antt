@@ -8,8 +8,7 @@ use Rattle.mls_labels.specs.Label.{Label}
 use Rattle.mls_tables.specs.Triples.{Triple, TripleSet}
 use Rattle.mls_tables.specs.declared.limits.TheConstants.{MAX_OBJECTS}
 use Rattle.mls_tree.specs.Tree.{IsTree}
-use Rattle.mls_tree.proofs.Grown.{IsTree-insert}
-use Rattle.mls_tree.proofs.Inferiors.{IsTree-retain}
+use Rattle.mls_tree.proofs.Laws.{IsTree-insert, IsTree-retain}
 use Rattle.mls_state.specs.declared.subject.ObjectLabels.{ObjectLabels}
 use Rattle.mls_state.specs.State.{State, is_subject, is_active}
 use Rattle.mls_state.specs.Properties.{Each, HasTree, is_known}

@@ -1,6 +1,7 @@
 //! The rows of the standard start.
 ghost use Rattle.std.specs.Prelude.{◌≡◌, ◌<◌};
 ghost use Rattle.std.specs.FinSet as set;
+ghost use Rattle.mls_labels.specs.declared.limits.TheConstants.{MAX_LEVELS};
 ghost use Rattle.mls_state.specs.Standard.{subject_rows, object_rows, cells};
 
 use crate::subject::{ObjectLabels, Subject};
@@ -9,7 +10,7 @@ use mls_tables::{Mode, ObjectId, SubjectId};
 
 /// A security label of the standard start: its levels are 0 to 3, its categories 0 and 1.
 fn security(level: u8, cats: CatSet) -> SecLabel
-    requires { level < 16 }
+    requires { level < MAX_LEVELS }
     ensures { result ≡ record { level = level; categories = cats } }
 {
     SecLabel::of(Label::new(level, cats))
@@ -17,7 +18,7 @@ fn security(level: u8, cats: CatSet) -> SecLabel
 
 /// An integrity label of the standard start: level 0 or 1, no category.
 fn integrity(level: u8) -> IntLabel
-    requires { level < 16 }
+    requires { level < MAX_LEVELS }
     ensures { result ≡ record { level = level; categories = set.empty } }
 {
     IntLabel::of(Label::new(level, CatSet::empty()))

@@ -1,6 +1,7 @@
 use Rattle.std.proofs.Common.{◌<◌, ◌≤◌, ◌∙◌, arith, get_or}
 use Rattle.mls_tree.specs.Tree.{inferiors}
-use Rattle.mls_state.proofs.Removing.{ascending_inferiors, inferiors_below}
+use Rattle.mls_tree.proofs.Laws.{inferiors_below}
+use Rattle.mls_state.proofs.Removing.{ascending_inferiors}
 use Rattle.mls_state.proofs.state.removing.take_out.Goals as goal
 
 pub clear_objects-requires : goal.clear_objects-requires
