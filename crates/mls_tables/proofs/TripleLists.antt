@@ -22,13 +22,14 @@ contains-joined modes t s o x subject object =
     ∙ ap (λ e. set.contains modes x || e) (rw (subject, object) refl)
 
 -- to keep the other triples of a list is to remove one
-pub from_list-filter : (ts : List Triple) (t : Triple) → set.from_list {R = triple_cmp} (filter (λ u. not (is_triple u t)) ts) ≡ set.remove (set.from_list {R = triple_cmp} ts) t
-from_list-filter ts t = same_triples _ _ (λ u. contains-from_list-filter (λ u. not (is_triple u t)) ts u ∙ sym (contains-remove-triple (set.from_list ts) t u))
+pub kept-remove : (ts kept : List Triple) (t : Triple) → kept ≡ filter (λ u. not (is_triple u t)) ts → set.from_list {R = triple_cmp} kept ≡ set.remove (set.from_list {R = triple_cmp} ts) t
+kept-remove ts kept t is =
+    ap set.from_list is ∙ same_triples _ _ (λ u. contains-from_list-filter (λ u. not (is_triple u t)) ts u ∙ sym (contains-remove-triple (set.from_list ts) t u))
 
--- to keep the triples of a list that are of no object is to take out the object's
-pub from_list-without_object : (ts : List Triple) (o : ℕ) → set.from_list {R = triple_cmp} (filter (λ t. not (nat_eq t.1 o)) ts) ≡ without_object (set.from_list ts) o
-from_list-without_object ts o = sets.from_list-filter triples_total same_triple (λ t. not (nat_eq t.1 o)) ts
+-- to keep the triples of a list that are of no object is to remove the object's
+pub kept-without_object : (ts kept : List Triple) (o : ℕ) → kept ≡ filter (λ t. not (nat_eq t.1 o)) ts → set.from_list {R = triple_cmp} kept ≡ without_object (set.from_list ts) o
+kept-without_object ts kept o is = ap set.from_list is ∙ sets.from_list-filter triples_total same_triple (λ t. not (nat_eq t.1 o)) ts
 
--- to keep the triples of a list that are of no object of a group is to take out the group's
-pub from_list-without_objects : (ts : List Triple) (group : List ℕ) → set.from_list {R = triple_cmp} (filter (λ t. not (list_any (λ o. nat_eq o t.1) group)) ts) ≡ without_objects (set.from_list ts) group
-from_list-without_objects ts group = sets.from_list-filter triples_total same_triple (λ t. not (list_any (λ o. nat_eq o t.1) group)) ts
+-- to keep the triples of a list that are of no object of a group is to remove the group's
+pub kept-without_objects : (ts kept : List Triple) (group : List ℕ) → kept ≡ filter (λ t. not (list_any (λ o. nat_eq o t.1) group)) ts → set.from_list {R = triple_cmp} kept ≡ without_objects (set.from_list ts) group
+kept-without_objects ts kept group is = ap set.from_list is ∙ sets.from_list-filter triples_total same_triple (λ t. not (list_any (λ o. nat_eq o t.1) group)) ts

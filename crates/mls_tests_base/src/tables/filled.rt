@@ -78,28 +78,39 @@ fn a_group_of_objects_leaves(rt: HostRuntime) -> Result<(), Fail> {
     Ok(())
 }
 
-/// Fills both tables and copies them.
-fn filled(rt: &impl Abort, heap: &Refusing<Global>) -> Result<(), AllocError> {
+/// Fills a matrix and copies it; a call that fails to allocate is made again.
+fn matrix_copied(rt: &impl Abort, heap: &Refusing<Global>) -> Result<(), AllocError> {
     let matrix = matrix_of(rt, heap)?;
-    let matrix = match matrix.duplicate(heap) {
+    let copy = match matrix.duplicate(heap) {
         Ok(copy) => copy,
         Err(_) => matrix.duplicate(heap)?,
     };
+    assert!(rt; copy.subjects() == 3 && copy.columns() == 4);
+    for o in 0..4u16 {
+        assert!(rt; has_just(copy.modes(SubjectId(2), ObjectId(o)), &[Mode::Read]));
+    }
+    Ok(())
+}
+
+/// Asserts that the set has each access of one subject, and none of another.
+fn assert_filled<A: Allocator>(rt: &impl Abort, set: &AccessSet<A>) {
+    assert!(rt; set.subjects() == 3 && set.columns() == 4);
+    for o in 0..4u16 {
+        let (s, o) = (SubjectId(2), ObjectId(o));
+        assert!(rt; has_just(set.modes(s, o), &MODES) && set.modes(SubjectId(0), o).is_empty());
+    }
+}
+
+/// Fills a set of accesses and copies it; a call that fails to allocate is made again.
+fn set_copied(rt: &impl Abort, heap: &Refusing<Global>) -> Result<(), AllocError> {
     let mut set = match AccessSet::new(heap, 3) {
         Ok(set) => set,
         Err(_) => AccessSet::new(heap, 3)?,
     };
     accesses_of(rt, &mut set)?;
-    let set = match set.duplicate(heap) {
-        Ok(copy) => copy,
-        Err(_) => set.duplicate(heap)?,
-    };
-    assert!(rt; matrix.subjects() == 3 && matrix.columns() == 4);
-    assert!(rt; set.subjects() == 3 && set.columns() == 4);
-    for o in 0..4u16 {
-        let (s, o) = (SubjectId(2), ObjectId(o));
-        assert!(rt; has_just(matrix.modes(s, o), &[Mode::Read]));
-        assert!(rt; has_just(set.modes(s, o), &MODES) && set.modes(SubjectId(0), o).is_empty());
+    match set.duplicate(heap) {
+        Ok(copy) => assert_filled(rt, &copy),
+        Err(_) => assert_filled(rt, &set.duplicate(heap)?),
     }
     Ok(())
 }
@@ -108,7 +119,8 @@ fn filled(rt: &impl Abort, heap: &Refusing<Global>) -> Result<(), AllocError> {
 fn each_allocation_is_refused_once(rt: HostRuntime) -> Result<(), Fail> {
     for number in 1..100 {
         let heap = Refusing::new(rt.alloc(), number);
-        filled(&rt, &heap)?;
+        matrix_copied(&rt, &heap)?;
+        set_copied(&rt, &heap)?;
         if !heap.has_refused() {
             assert!(rt; number > 4, "only {number}");
             return Ok(());
