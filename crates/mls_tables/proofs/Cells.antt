@@ -168,7 +168,7 @@ module _ (cells : List ModeSet) (n m o : ℕ) (object : o < m) (whole : length c
       rw (same, emptied_within cells (o * n) n column_fits a set.empty row, set.contains-empty mode_cmp y, eq-eqb o o refl, and-false (nat_lt a n), and-false (nat_lt o m)) (sym (and-false _))
   in_cleared a b y (inl row) (inr from) (inr other) = let after : o < b = omega arith in rw (kept_after a b row after, ne_eqb b o other) (sym (and-true _))
 
-  -- to empty the cells of a column is to take out the triples of its object
+  -- to empty the cells of a column is to remove the triples of its object
   pub triples_of-without_object : triples_of cleared n m ≡ without_object (triples_of cells n m) o
   triples_of-without_object = same_triples _ _ (λ t.
       contains-triples_of cleared n m t

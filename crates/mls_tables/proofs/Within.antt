@@ -34,7 +34,7 @@ not_either true true c = refl
 not_either true false c = refl
 not_either false b c = refl
 
--- to take out one object's triples, and then those of more, is to take out those of all
+-- to remove one object's triples, and then those of more, is to remove those of all
 pub without_objects-first : (ts : TripleSet) (o : ℕ) (group : List ℕ) → without_objects (without_object ts o) group ≡ without_objects ts (o ∷ group)
 without_objects-first ts o group = same_triples _ _ (λ t.
     contains-without_objects (without_object ts o) group t
