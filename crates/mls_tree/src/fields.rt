@@ -50,7 +50,8 @@ pub fn enter<A: Allocator>(
     requires few { length (slice_index_or lists.old parent []) ≤ MAX_OBJECTS }
     ensures parents { OnOk result (parents.new.items ≡ parents.old.items ++ Some parent ∷ []) }
     ensures lists { OnOk result (lists.new ≡ slice_set lists.old parent (slice_index_or lists.old parent [] ++ next ∷ [])) }
-    ensures err { OnErr result ((parents.new.items ≡ parents.old.items) × (lists.new ≡ lists.old)) }
+    ensures same_parents { OnErr result (parents.new.items ≡ parents.old.items) }
+    ensures same_lists { OnErr result (lists.new ≡ lists.old) }
 {
     parents.reserve(1)?;
     lists.push(parent.number() as usize, ObjectId::new(next))?;

@@ -1,5 +1,4 @@
 use Rattle.std.proofs.Common.{◌≡◌, ℕ, ◌<◌, ◌≤◌, length, get_or, ap, subst, ◌∙◌, arith, rules}
-use Rattle.std.proofs.lemmas.List.{get_or_default}
 use Rattle.std.proofs.lemmas.List.Sorted.{IsNonDecreasingBy-from_sort_by_key}
 use Rattle.mls_tree.specs.Tree.{Hierarchy, IsTree, is_active, children}
 use Rattle.mls_tree.proofs.Found.{Finds-first, Finds-more, found_few, found_below, inferiors_found}
