@@ -67,6 +67,10 @@ position-map f p xs =
     ap (λ n. cond (nat_lt n (length (map f xs))) (Some n) None) (front_mapped f (λ y. not (p y)) xs)
     ∙ ap (λ k. cond (nat_lt (prefix_len (λ x. not (p (f x))) xs) k) (Some (prefix_len (λ x. not (p (f x))) xs)) None) (length-map xs f)
 
+-- the place of a name, as a set of texts finds it
+pub place_word : {Z : Type 0} (keys : List (String Z)) (name : List ℕ) → place_of (map string_bytes keys) name ≡ position (λ key. bytes_eq name (string_bytes key)) keys
+place_word keys name = sym (position-place_of name (map string_bytes keys)) ∙ position-map string_bytes (bytes_eq name) keys
+
 any_mapped : {X Y : Type 0} (f : X → Y) (p : Y → Bool) (xs : List X) → list_any p (map f xs) ≡ list_any (λ x. p (f x)) xs
 any_mapped f p [] = refl
 any_mapped f p (x ∷ xs) = ap (λ t. p (f x) || t) (any_mapped f p xs)

@@ -37,6 +37,7 @@ impl Model for CatSet {
 
 impl CatSet {
     /// The set without a category.
+    #[tactic(auto, using(crate::proofs::CategoryWords::empty_word))]
     pub fn empty() -> CatSet
         ensures { result ≡ set.empty }
     {
@@ -44,6 +45,7 @@ impl CatSet {
     }
 
     /// Whether category `n` is in the set.
+    #[tactic(auto, using(crate::proofs::CategoryWords::contains_word))]
     pub fn contains(self, n: u8) -> bool
         requires { n < MAX_CATEGORIES }
         ensures { result ≡ set.contains self n }
@@ -52,6 +54,7 @@ impl CatSet {
     }
 
     /// The set with category `n` added; the same set where it is there already.
+    #[tactic(auto, using(crate::proofs::CategoryWords::with_word))]
     pub fn with(self, n: u8) -> CatSet
         requires { n < MAX_CATEGORIES }
         ensures { result ≡ set.insert self n }
@@ -62,6 +65,7 @@ impl CatSet {
     }
 
     /// Whether each category of this set is in `other`.
+    #[tactic(auto, using(crate::proofs::CategoryWords::subset_word))]
     pub fn is_subset(self, other: &CatSet) -> bool
         ensures { result ≡ set.is_subset self other.now }
     {
@@ -104,6 +108,7 @@ impl PartialEq for CatSet {
 
     ghost laws = { partial_equiv_from_equiv (is_same_set_laws nat_cmp_total nat_cmp-IsAntisymmetric) };
 
+    #[tactic(auto, using(crate::proofs::CategoryWords::same_word))]
     fn eq(&self, other: &CatSet) -> bool {
         self.bits == other.bits
     }

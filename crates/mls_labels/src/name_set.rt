@@ -70,7 +70,8 @@ impl<A: Allocator> NameSet<A> {
         self.names.len()
     }
 
-    /// The place of a name, from 0 on. `None` where it isn't one of them.
+    /// The place of a name, counted from 0; `None` where it isn't one of them.
+    #[tactic(auto, using(crate::proofs::NamePlaces::place_word))]
     pub fn place(&self, name: &str) -> Option<usize>
         ensures place { result ≡ place_of self.now name.now }
         ensures within { IfSome result (λ place. place < length self.now) }

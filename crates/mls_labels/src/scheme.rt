@@ -107,6 +107,7 @@ impl<A: Allocator> Scheme<A> {
         ensures exact { (fault : LabelFault) → IsRefused self.now text.now fault → result ≡ Err fault }
         ensures steps { result ≡ label_at self.now text.now }
     {
+        // (that the names have no fault)
         let _ = self.bounds();
         read_label(&self.levels, &self.categories, text)
     }

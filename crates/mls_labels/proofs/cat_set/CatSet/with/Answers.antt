@@ -1,12 +1,8 @@
 use Rattle.std.proofs.Common.{◌<◌, ◌*◌, ◌^◌, ◌%◌, arith}
 use Rattle.std.proofs.lemmas.Nat.{or_lt}
-use Rattle.mls_labels.proofs.CategoryWords.{categories_of-with}
 use Rattle.mls_labels.proofs.cat_set.CatSet.with.Goals as goal
 
 pub invariant_of-result : goal.invariant_of-result
 invariant_of-result c =
     let one : 1 * 2 ^ c.args.n % 2 ^ 64 < 2 ^ 64 = omega arith in
     or_lt 64 c.self.inside.bits _ c.self.invariant one
-
-pub returns : goal.returns
-returns c = rw (← c.self.view_is) (categories_of-with c.self.inside.bits c.args.n c.requires)

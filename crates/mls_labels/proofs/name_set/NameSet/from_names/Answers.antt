@@ -1,3 +1,4 @@
+use Rattle.std.proofs.Common.{rules}
 use Rattle.mls_labels.proofs.NamePlaces.{added_is, added_once, twice_where_not_added}
 use Rattle.mls_labels.proofs.name_set.NameSet.from_names.Goals as goal
 
@@ -9,4 +10,4 @@ loop-name-preserved g c = (
 
 pub returns-then-not-added-clause-repeated : goal.returns-then-not-added-clause-repeated
 returns-then-not-added-clause-repeated g c =
-    λ _. twice_where_not_added c.args.names.now c.loop-name.name-index _ c.loop-name.kept c.in_ok-added.added c.loop-name-test.true c.loop-name.invariant.0 c.in_ok-added.ensures.added c.if-not-added.true
+    search (rules, twice_where_not_added)
