@@ -1,5 +1,5 @@
 -- What a line of a script asks, by cases on its tokens.
-use Rattle.std.specs.Prelude.{ℕ, List, [], ◌∷◌, if◌then◌else◌, Option, Some, None, Result, Ok, Err, option_map, ◌==◌, ◌&&◌, nat_lt, length, codes}
+use Rattle.std.specs.Prelude.{ℕ, List, [], ◌∷◌, if◌then◌else◌, Option, Some, None, Result, Ok, Err, ◌==◌, ◌&&◌, nat_lt, length, codes}
 use Rattle.std.specs.Str.{bytes_eq}
 use Rattle.mls_labels.specs.Label.{Label}
 use Rattle.mls_labels.specs.Names.{is_name}
@@ -9,35 +9,20 @@ use Rattle.mls_rules.specs.declared.request.Action.{Action}
 use Rattle.mls_rules.specs.declared.request.Action.TheVariants as action
 use Rattle.mls_lines.specs.declared.ask.Ask.{Ask}
 use Rattle.mls_lines.specs.declared.ask.Ask.TheVariants as ask
-use Rattle.mls_lines.specs.declared.ask.Line.{Line}
-use Rattle.mls_lines.specs.declared.ask.Line.TheVariants as line
 use Rattle.mls_lines.specs.declared.fault.LineFault.{LineFault}
 use Rattle.mls_lines.specs.declared.fault.LineFault.TheVariants.{BadForm, UnknownName}
+use Rattle.mls_lines.specs.declared.line.TheConstants.{MAX_LINE}
 use Rattle.mls_lines.specs.declared.words.Change.{Change}
 use Rattle.mls_lines.specs.declared.words.Change.TheVariants as change
 use Rattle.mls_lines.specs.declared.words.Word.{Word}
 use Rattle.mls_lines.specs.declared.words.Word.TheVariants as word
 use Rattle.mls_lines.specs.Fault.{both}
 use Rattle.mls_lines.specs.Labels.{label_named}
+pub use Rattle.mls_lines.specs.LineView.{LineView, Blank, Asks, said_by, line_view, submits}
 use Rattle.mls_lines.specs.Names.{Names, bound_to}
 use Rattle.mls_lines.specs.Numbers.{number_of}
 use Rattle.mls_lines.specs.Tokens.{tokens_of, one_of, two_of, three_of, name_of}
 use Rattle.mls_lines.specs.Words.{mode_of, word_of}
-
--- What a line says: nothing, or what it asks, and the name of the variable to bind where it has one. (own)
-pub data LineView : Type 0 where
-  Blank : LineView
-  Asks : Option (List ℕ) → Ask → LineView
-
--- what a line of the program says
-abbrev pub said_by : Line → LineView
-said_by line.Blank = Blank
-said_by (line.Ask bind a) = Asks (option_map (λ name. name.now) bind) a
-
--- what the program's reading of a line says
-abbrev pub line_view : Result Line LineFault → Result LineView LineFault
-line_view (Ok l) = Ok (said_by l)
-line_view (Err f) = Err f
 
 -- The number that was found for a name, or the fault that the name is unknown. (own)
 abbrev pub known : Option ℕ → Result ℕ LineFault
@@ -116,10 +101,6 @@ abbrev pub made_of : {X Y : Type 0} → (X → Y) → Result X LineFault → Res
 made_of f (Ok x) = Ok (f x)
 made_of f (Err fault) = Err fault
 
--- The request of a subject for an action. (own)
-abbrev pub submits : ℕ → Action → Ask
-submits s a = ask.Submit (record { subject = s; action = a })
-
 -- What a subject, a change's word and its operands ask. (own)
 abbrev pub change_asked : Names → List (List ℕ × ℕ) → Result ℕ LineFault → List (List ℕ) → Change → Result Ask LineFault
 change_asked names vars subject operands change.Give =
@@ -189,4 +170,4 @@ said_of names vars (token ∷ rest) = said_first names vars token rest
 
 -- What a line says: at most 20,000 bytes, and then what its tokens say. (own)
 abbrev pub line_of : Names → List (List ℕ × ℕ) → List ℕ → Result LineView LineFault
-line_of names vars line = if nat_lt 20000 (length line) then Err BadForm else said_of names vars (tokens_of line)
+line_of names vars line = if nat_lt MAX_LINE (length line) then Err BadForm else said_of names vars (tokens_of line)
