@@ -1,0 +1,87 @@
+//! Actions without what they are about, and the words for them.
+ghost use Rattle.std.specs.Prelude.{◌≡◌};
+ghost use Rattle.mls_requests.specs.ActionWords.{action_word, read_action, word_of_action};
+
+use crate::action::Action;
+use mls_tables::Mode;
+
+/// Which action it is, without its operands: an access is asked for by a word of its own for each mode.
+#[derive(Clone, Copy, Debug, PartialEq, Eq)]
+pub enum ActionWord {
+    Get(Mode),
+    Release,
+    Give,
+    Rescind,
+    Create,
+    Delete,
+    Level,
+    Relabel,
+}
+
+impl ActionWord {
+    /// Which action this is.
+    pub fn of(action: Action) -> ActionWord
+        ensures { result ≡ word_of_action action }
+    {
+        match action {
+            Action::Get(mode, _) => ActionWord::Get(mode),
+            Action::Release(..) => ActionWord::Release,
+            Action::Give(..) => ActionWord::Give,
+            Action::Rescind(..) => ActionWord::Rescind,
+            Action::Create(..) => ActionWord::Create,
+            Action::Delete(_) => ActionWord::Delete,
+            Action::SubjectLevel(_) => ActionWord::Level,
+            Action::ObjectLevel(..) => ActionWord::Relabel,
+        }
+    }
+
+    /// The word of the action.
+    pub fn word(self) -> &'static str
+        ensures { result.now ≡ action_word self }
+    {
+        match self {
+            ActionWord::Get(Mode::Execute) => "get-execute",
+            ActionWord::Get(Mode::Read) => "get-read",
+            ActionWord::Get(Mode::Append) => "get-append",
+            ActionWord::Get(Mode::Write) => "get-write",
+            ActionWord::Release => "release",
+            ActionWord::Give => "give",
+            ActionWord::Rescind => "rescind",
+            ActionWord::Create => "create",
+            ActionWord::Delete => "delete",
+            ActionWord::Level => "level",
+            ActionWord::Relabel => "relabel",
+        }
+    }
+
+    /// The action that has this word, where one has it.
+    pub fn read(word: &[u8]) -> Option<ActionWord>
+        ensures { result ≡ read_action word.now }
+    {
+        if word == ActionWord::Get(Mode::Execute).word().as_bytes() {
+            Some(ActionWord::Get(Mode::Execute))
+        } else if word == ActionWord::Get(Mode::Read).word().as_bytes() {
+            Some(ActionWord::Get(Mode::Read))
+        } else if word == ActionWord::Get(Mode::Append).word().as_bytes() {
+            Some(ActionWord::Get(Mode::Append))
+        } else if word == ActionWord::Get(Mode::Write).word().as_bytes() {
+            Some(ActionWord::Get(Mode::Write))
+        } else if word == ActionWord::Release.word().as_bytes() {
+            Some(ActionWord::Release)
+        } else if word == ActionWord::Give.word().as_bytes() {
+            Some(ActionWord::Give)
+        } else if word == ActionWord::Rescind.word().as_bytes() {
+            Some(ActionWord::Rescind)
+        } else if word == ActionWord::Create.word().as_bytes() {
+            Some(ActionWord::Create)
+        } else if word == ActionWord::Delete.word().as_bytes() {
+            Some(ActionWord::Delete)
+        } else if word == ActionWord::Level.word().as_bytes() {
+            Some(ActionWord::Level)
+        } else if word == ActionWord::Relabel.word().as_bytes() {
+            Some(ActionWord::Relabel)
+        } else {
+            None
+        }
+    }
+}

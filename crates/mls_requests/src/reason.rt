@@ -1,0 +1,72 @@
+//! Why a request is denied, and the word for it.
+ghost use Rattle.std.specs.Prelude.{◌≡◌};
+ghost use Rattle.mls_requests.specs.ReasonWords.{reason_word, read_reason};
+
+/// Why a request is denied: the first condition of its rule that fails.
+#[derive(Clone, Copy, Debug, PartialEq, Eq)]
+pub enum Reason {
+    /// The matrix doesn't permit the access.
+    Discretionary,
+    /// The subject's maximum label doesn't dominate the object's label.
+    Simple,
+    /// The access would go the wrong way between the subject's current label and the object's.
+    Star,
+    /// The access would go the wrong way between the integrity labels.
+    Integrity,
+    /// The subject has no authority over the object.
+    Authority,
+    /// A child's labels wouldn't fit its parent's.
+    Compatibility,
+    /// The new current label is above the subject's maximum.
+    Ceiling,
+    /// The root can't be deleted.
+    Root,
+    /// All object numbers are used.
+    Full,
+}
+
+impl Reason {
+    /// The word of the reason.
+    pub fn word(self) -> &'static str
+        ensures { result.now ≡ reason_word self }
+    {
+        match self {
+            Reason::Discretionary => "discretionary",
+            Reason::Simple => "simple",
+            Reason::Star => "star",
+            Reason::Integrity => "integrity",
+            Reason::Authority => "authority",
+            Reason::Compatibility => "compatibility",
+            Reason::Ceiling => "ceiling",
+            Reason::Root => "root",
+            Reason::Full => "full",
+        }
+    }
+
+    /// The reason that has this word, where one has it.
+    pub fn read(word: &[u8]) -> Option<Reason>
+        ensures { result ≡ read_reason word.now }
+    {
+        if word == Reason::Discretionary.word().as_bytes() {
+            Some(Reason::Discretionary)
+        } else if word == Reason::Simple.word().as_bytes() {
+            Some(Reason::Simple)
+        } else if word == Reason::Star.word().as_bytes() {
+            Some(Reason::Star)
+        } else if word == Reason::Integrity.word().as_bytes() {
+            Some(Reason::Integrity)
+        } else if word == Reason::Authority.word().as_bytes() {
+            Some(Reason::Authority)
+        } else if word == Reason::Compatibility.word().as_bytes() {
+            Some(Reason::Compatibility)
+        } else if word == Reason::Ceiling.word().as_bytes() {
+            Some(Reason::Ceiling)
+        } else if word == Reason::Root.word().as_bytes() {
+            Some(Reason::Root)
+        } else if word == Reason::Full.word().as_bytes() {
+            Some(Reason::Full)
+        } else {
+            None
+        }
+    }
+}
