@@ -1,4 +1,7 @@
 pub mod Bits
 pub mod Each
+pub mod Keys
+pub mod Lists
 pub mod Numbered
 pub mod Passing
+pub mod Sets

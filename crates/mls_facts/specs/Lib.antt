@@ -1,4 +1,5 @@
 pub mod Bits
 pub mod Each
+pub mod Keys
 pub mod Numbered
 pub mod Passing

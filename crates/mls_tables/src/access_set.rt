@@ -1,6 +1,7 @@
 //! The current accesses.
 ghost use Rattle.std.specs.Prelude.{◌≡◌, ◌<◌, ◌≤◌, ◌+◌, IfOk, OnOk, OnErr, not};
 ghost use Rattle.std.specs.FinSet as set;
+ghost use Rattle.mls_tables.specs.declared.limits.TheConstants.{MAX_SUBJECTS, MAX_OBJECTS};
 ghost use Rattle.mls_tables.specs.declared.mode.Mode.{Mode as ModeName};
 ghost use Rattle.mls_tables.specs.Triples.{triple_cmp};
 ghost use Rattle.mls_tables.specs.Table.{IsWithin, IsAscending, empty_table, without_object, without_objects};
@@ -23,6 +24,7 @@ pub struct AccessSet<A: Allocator = Global> {
 impl<A: Allocator> Model for AccessSet<A> {
     ghost use Rattle.std.specs.Prelude.{◌≤◌};
     ghost use Rattle.std.specs.FinSet as set;
+    ghost use Rattle.mls_tables.specs.declared.limits.TheConstants.{MAX_SUBJECTS, MAX_OBJECTS};
     ghost use Rattle.mls_tables.specs.Table.{Table, table_code, IsWithin};
 
     ghost Value = { Table };
@@ -37,8 +39,8 @@ impl<A: Allocator> Model for AccessSet<A> {
 
     ghost invariant = { λ b. record {
       least : 1 ≤ b.subjects;
-      most : b.subjects ≤ 256;
-      columns : b.columns ≤ 4096;
+      most : b.subjects ≤ MAX_SUBJECTS;
+      columns : b.columns ≤ MAX_OBJECTS;
       within : IsWithin b.subjects b.columns (set.from_list b.triples.items);
     } };
 }
@@ -47,7 +49,7 @@ impl<A: Allocator> AccessSet<A> {
     /// A set with rows for 1 to 256 subjects, no column and no triple.
     pub fn new(alloc: A, subjects: u16) -> Result<AccessSet<A>, AllocError>
         requires least { 1 ≤ subjects }
-        requires most { subjects ≤ 256 }
+        requires most { subjects ≤ MAX_SUBJECTS }
         ensures { IfOk result (λ b. b ≡ empty_table subjects) }
     {
         Ok(AccessSet {
@@ -61,7 +63,7 @@ impl<A: Allocator> AccessSet<A> {
     pub fn subjects(&self) -> u16
         ensures reply { result ≡ self.now.subjects }
         ensures least { 1 ≤ result }
-        ensures most { result ≤ 256 }
+        ensures most { result ≤ MAX_SUBJECTS }
     {
         self.subjects
     }
@@ -69,7 +71,7 @@ impl<A: Allocator> AccessSet<A> {
     /// For how many object numbers there are columns. No triple names a subject or an object beyond the two.
     pub fn columns(&self) -> u16
         ensures reply { result ≡ self.now.columns }
-        ensures most { result ≤ 4096 }
+        ensures most { result ≤ MAX_OBJECTS }
         ensures within { IsWithin self.now.subjects self.now.columns self.now.triples }
     {
         self.columns
@@ -77,7 +79,7 @@ impl<A: Allocator> AccessSet<A> {
 
     /// Adds an empty column for the next object number. Where memory is refused, nothing has changed.
     pub fn add_object(&mut self) -> Result<(), AllocError>
-        requires { self.old.columns < 4096 }
+        requires { self.old.columns < MAX_OBJECTS }
         ensures ok { OnOk result (self.new ≡ record self.old { columns = self.old.columns + 1 }) }
         ensures err { OnErr result (self.new ≡ self.old) }
     {

@@ -3,6 +3,7 @@
 
 mod access_set;
 mod ids;
+mod limits;
 mod matrix;
 mod mode;
 mod modes;
@@ -12,6 +13,7 @@ mod triple_list;
 
 pub use access_set::AccessSet;
 pub use ids::{ObjectId, SubjectId};
+pub use limits::{MAX_OBJECTS, MAX_SUBJECTS};
 pub use matrix::Matrix;
 pub use mode::Mode;
 pub use modes::Modes;

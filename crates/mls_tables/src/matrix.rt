@@ -1,6 +1,7 @@
 //! The access matrix.
 ghost use Rattle.std.specs.Prelude.{◌≡◌, ◌<◌, ◌≤◌, ◌+◌, ◌*◌, ℕ, IfOk, OnOk, OnErr, All, length, replicate};
 ghost use Rattle.std.specs.FinSet as set;
+ghost use Rattle.mls_tables.specs.declared.limits.TheConstants.{MAX_SUBJECTS, MAX_OBJECTS};
 ghost use Rattle.mls_tables.specs.declared.mode.Mode.{Mode as ModeName};
 ghost use Rattle.mls_tables.specs.Table.{IsWithin, empty_table, without_object, without_objects};
 
@@ -22,6 +23,7 @@ pub struct Matrix<A: Allocator = Global> {
 
 impl<A: Allocator> Model for Matrix<A> {
     ghost use Rattle.std.specs.Prelude.{◌≡◌, ◌≤◌, ◌*◌, length};
+    ghost use Rattle.mls_tables.specs.declared.limits.TheConstants.{MAX_SUBJECTS, MAX_OBJECTS};
     ghost use Rattle.mls_tables.specs.Table.{Table, table_code};
     ghost use Rattle.mls_tables.specs.Cells.{triples_of};
 
@@ -37,8 +39,8 @@ impl<A: Allocator> Model for Matrix<A> {
 
     ghost invariant = { λ m. record {
       least : 1 ≤ m.subjects;
-      most : m.subjects ≤ 256;
-      columns : m.columns ≤ 4096;
+      most : m.subjects ≤ MAX_SUBJECTS;
+      columns : m.columns ≤ MAX_OBJECTS;
       cells : length m.cells.items ≡ m.columns * m.subjects;
     } };
 }
@@ -61,7 +63,7 @@ impl<A: Allocator> Matrix<A> {
     /// A matrix with rows for 1 to 256 subjects, no column and no triple.
     pub fn new(alloc: A, subjects: u16) -> Matrix<A>
         requires least { 1 ≤ subjects }
-        requires most { subjects ≤ 256 }
+        requires most { subjects ≤ MAX_SUBJECTS }
         ensures { result ≡ empty_table subjects }
     {
         Matrix {
@@ -75,7 +77,7 @@ impl<A: Allocator> Matrix<A> {
     pub fn subjects(&self) -> u16
         ensures reply { result ≡ self.now.subjects }
         ensures least { 1 ≤ result }
-        ensures most { result ≤ 256 }
+        ensures most { result ≤ MAX_SUBJECTS }
     {
         self.subjects
     }
@@ -83,7 +85,7 @@ impl<A: Allocator> Matrix<A> {
     /// For how many object numbers there are columns. No triple names a subject or an object beyond the two.
     pub fn columns(&self) -> u16
         ensures reply { result ≡ self.now.columns }
-        ensures most { result ≤ 4096 }
+        ensures most { result ≤ MAX_OBJECTS }
         ensures within { IsWithin self.now.subjects self.now.columns self.now.triples }
     {
         self.columns
@@ -91,7 +93,7 @@ impl<A: Allocator> Matrix<A> {
 
     /// Adds an empty column for the next object number. Where memory is refused, nothing has changed.
     pub fn add_object(&mut self) -> Result<(), AllocError>
-        requires { self.old.columns < 4096 }
+        requires { self.old.columns < MAX_OBJECTS }
         ensures ok { OnOk result (self.new ≡ record self.old { columns = self.old.columns + 1 }) }
         ensures err { OnErr result (self.new ≡ self.old) }
     {

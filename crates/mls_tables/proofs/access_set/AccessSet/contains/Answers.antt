@@ -1,4 +1,4 @@
-use Rattle.mls_tables.specs.Triples.{contains-from_list-triple}
+use Rattle.mls_tables.proofs.Laws.{contains-from_list-triple}
 use Rattle.mls_tables.proofs.access_set.AccessSet.contains.Goals as goal
 
 pub returns : goal.returns

@@ -1,6 +1,7 @@
 use Rattle.std.proofs.Common.{refl}
 use Rattle.std.specs.FinSet as set
-use Rattle.mls_tables.specs.Triples.{from_list-filter, contains-from_list-triple}
+use Rattle.mls_tables.proofs.Laws.{contains-from_list-triple}
+use Rattle.mls_tables.proofs.TripleLists.{from_list-filter}
 use Rattle.mls_tables.proofs.Within.{IsWithin-remove}
 use Rattle.mls_tables.proofs.access_set.AccessSet.remove.Goals as goal
 

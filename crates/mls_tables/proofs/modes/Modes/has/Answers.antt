@@ -1,6 +1,6 @@
 use Rattle.std.proofs.Common.{refl}
 use Rattle.std.proofs.lemmas.Nat.Bits.{shr_and_one}
-use Rattle.mls_tables.specs.ModeBits.{contains-modes_of}
+use Rattle.mls_tables.proofs.ModeBits.{contains-modes_of}
 use Rattle.mls_tables.proofs.modes.Modes.has.Goals as goal
 
 pub returns : goal.returns
