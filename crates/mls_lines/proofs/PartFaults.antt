@@ -49,7 +49,7 @@ no_number b token n other (small, is) = let first : b ≡ 35 = cc in clash (b ==
 
 unread_number : (token : List ℕ) → number_of token ≡ None → IsSubjectForm (35 ∷ token) → ⊥
 unread_number token none (inl named) = clash (35 == 35) refl (plain_name 35 token named).no_number
-unread_number token none (inr (n, small, is)) =
+unread_number token none (inr (n, (small, is))) =
     let text : token ≡ decimal n = cc in
     let read : number_of token ≡ Some n = ap number_of text ∙ number-read n small in
     cc
@@ -100,7 +100,7 @@ module _ (names : Names) (vars : List (List ℕ × ℕ)) where
   subject_judged [] = λ form. empty form where
     empty : IsSubjectForm [] → ⊥
     empty (inl named) = cc
-    empty (inr (n, small, is)) = cc
+    empty (inr (n, (small, is))) = cc
   subject_judged (b ∷ token) = elim (b == 35) as (λ t. (b == 35) ≡ t → Judged (Subject (b ∷ token)) (fault_in (cond t (numbered (number_of token)) (subject_named names (b ∷ token))))) [
     | true ↦ λ e. subst (λ x. Judged (Subject (x ∷ token)) (fault_in (numbered (number_of token)))) (sym (is_byte b 35 e)) (subject_numbered token (number_of token) refl)
     | false ↦ λ e. subject_plain b token e
@@ -112,7 +112,7 @@ module _ (names : Names) (vars : List (List ℕ × ℕ)) where
   object_numbered token None e = λ form. unread form where
     unread : IsObjectForm (35 ∷ token) → ⊥
     unread (inl form) = unread_number token e form
-    unread (inr (name, is, named)) = let first : 35 ≡ 36 = cc in absurd (omega (arith, first))
+    unread (inr (name, is, named)) = let first : ◌≡◌ {A = ℕ} 35 36 = cc in absurd (omega (arith, first))
   object_numbered token (Some n) e = (inl (inr (n, number_is token n e)), (n, inr (inl (number_is token n e))), tt)
 
   object_bound : (name : List ℕ) → is_name name ≡ true → (found : Option ℕ) → bound_to name vars ≡ found → Judged (Object (36 ∷ name)) (fault_in (known found))
@@ -158,7 +158,7 @@ module _ (names : Names) (vars : List (List ℕ × ℕ)) where
   object_judged [] = λ form. empty form where
     empty : IsObjectForm [] → ⊥
     empty (inl (inl named)) = cc
-    empty (inl (inr (n, small, is))) = cc
+    empty (inl (inr (n, (small, is)))) = cc
     empty (inr (name, is, named)) = cc
   object_judged (b ∷ token) = elim (b == 35) as (λ t. (b == 35) ≡ t → Judged (Object (b ∷ token)) (fault_in (cond t (numbered (number_of token)) (cond (b == 36) (variable_of vars token) (object_named names (b ∷ token)))))) [
     | true ↦ λ e. subst (λ x. Judged (Object (x ∷ token)) (fault_in (numbered (number_of token)))) (sym (is_byte b 35 e)) (object_numbered token (number_of token) refl)
@@ -176,7 +176,7 @@ module _ (names : Names) (vars : List (List ℕ × ℕ)) where
 
   label_found : LabelLaw → (s : Scheme) → IsScheme s → (token : List ℕ) → list_all is_label_byte token ≡ true → (found : Result Label LabelFault) → label_at s token ≡ found
       → LabelJudged s token (fault_in (label_read found))
-  label_found law s is token bytes (Ok l) e = (bytes, tt, (l, bytes, (law s token l is).0 e))
+  label_found law s is token bytes (Ok l) e = (bytes, tt, (l, (bytes, (law s token l is).0 e)))
   label_found law s is token bytes (Err f) e = (bytes, tt, λ one. unspelled one.0 one.1.1) where
     unspelled : (l : Label) → label.Spells s token l → ⊥
     unspelled l spells = let read : label_at s token ≡ Ok l = (law s token l is).1 spells in cc
@@ -208,10 +208,10 @@ module _ (names : Names) (vars : List (List ℕ × ℕ)) where
       Judgement (All IsInForm parts) (All (IsKnown names vars) parts) (SomeNot (IsKnown names vars) parts) (All (IsSpelled names) parts) (SomeNot (IsSpelled names) parts) fault
 
   first_not : (P : Part → Type 0) (part : Part) (parts : List Part) → (P part → ⊥) → SomeNot P (part ∷ parts)
-  first_not P part parts no = (part, (0, omega arith, refl), no)
+  first_not P part parts refuted = (part, (0, omega arith, refl), refuted)
 
   later_not : (P : Part → Type 0) (part : Part) (parts : List Part) → SomeNot P parts → SomeNot P (part ∷ parts)
-  later_not P part parts (other, (k, below, is), no) = (other, (suc k, omega arith, is), no)
+  later_not P part parts (other, (k, below, is), refuted) = (other, (suc k, omega arith, is), refuted)
 
   joined : (part : Part) (parts : List Part) (a b : Option LineFault) → Judged part a → PartsJudged parts b → PartsJudged (part ∷ parts) (join a b)
   joined part parts None None h t = (All-cons IsInForm part parts h.0 t.0, All-cons (IsKnown names vars) part parts h.1 t.1, All-cons (IsSpelled names) part parts h.2 t.2)

@@ -1,21 +1,10 @@
 -- The forms of a script's line: which token stands where, before it is asked what the tokens name.
 use Rattle.std.specs.Prelude.{ℕ, List, [], ◌∷◌, codes}
 use Rattle.mls_tables.specs.declared.mode.Mode.{Mode}
-use Rattle.mls_tables.specs.declared.mode.Mode.TheVariants.{Execute, Read, Append, Write}
-
--- The word of a mode. (own)
-abbrev pub mode_word : Mode → List ℕ
-mode_word Execute = codes "execute"
-mode_word Read = codes "read"
-mode_word Append = codes "append"
-mode_word Write = codes "write"
-
--- The word that asks for an access in a mode. (own)
-abbrev pub get_word : Mode → List ℕ
-get_word Execute = codes "get-execute"
-get_word Read = codes "get-read"
-get_word Append = codes "get-append"
-get_word Write = codes "get-write"
+use Rattle.mls_requests.specs.ActionWords.{action_word}
+use Rattle.mls_requests.specs.ModeWords.{mode_word}
+use Rattle.mls_requests.specs.declared.action_word.ActionWord.TheVariants as word
+use Rattle.mls_lines.specs.Words.{check_word}
 
 -- The forms, each with the tokens and the modes that fill its places in their order. (own)
 pub data Form : Type 0 where
@@ -39,25 +28,25 @@ tokens_in Empty = []
 -- `;`, and whatever stands after it
 tokens_in (Note note rest) = (59 ∷ note) ∷ rest
 -- `SUBJ check MODE OBJ`
-tokens_in (Check subj x obj) = subj ∷ codes "check" ∷ mode_word x ∷ obj ∷ []
+tokens_in (Check subj x obj) = subj ∷ check_word ∷ mode_word x ∷ obj ∷ []
 -- `SUBJ get-MODE OBJ`
-tokens_in (Get subj x obj) = subj ∷ get_word x ∷ obj ∷ []
+tokens_in (Get subj x obj) = subj ∷ action_word (word.Get x) ∷ obj ∷ []
 -- `SUBJ release MODE OBJ`
-tokens_in (Release subj x obj) = subj ∷ codes "release" ∷ mode_word x ∷ obj ∷ []
+tokens_in (Release subj x obj) = subj ∷ action_word word.Release ∷ mode_word x ∷ obj ∷ []
 -- `SUBJ give MODE SUBJ OBJ`
-tokens_in (Give subj x to obj) = subj ∷ codes "give" ∷ mode_word x ∷ to ∷ obj ∷ []
+tokens_in (Give subj x to obj) = subj ∷ action_word word.Give ∷ mode_word x ∷ to ∷ obj ∷ []
 -- `SUBJ rescind MODE SUBJ OBJ`
-tokens_in (Rescind subj x of obj) = subj ∷ codes "rescind" ∷ mode_word x ∷ of ∷ obj ∷ []
+tokens_in (Rescind subj x of obj) = subj ∷ action_word word.Rescind ∷ mode_word x ∷ of ∷ obj ∷ []
 -- `SUBJ create OBJ LABEL LABEL`
-tokens_in (Create subj obj sec int) = subj ∷ codes "create" ∷ obj ∷ sec ∷ int ∷ []
+tokens_in (Create subj obj sec int) = subj ∷ action_word word.Create ∷ obj ∷ sec ∷ int ∷ []
 -- `$NAME = SUBJ create OBJ LABEL LABEL`
-tokens_in (Bind name subj obj sec int) = (36 ∷ name) ∷ codes "=" ∷ subj ∷ codes "create" ∷ obj ∷ sec ∷ int ∷ []
+tokens_in (Bind name subj obj sec int) = (36 ∷ name) ∷ codes "=" ∷ subj ∷ action_word word.Create ∷ obj ∷ sec ∷ int ∷ []
 -- `SUBJ delete OBJ`
-tokens_in (Delete subj obj) = subj ∷ codes "delete" ∷ obj ∷ []
+tokens_in (Delete subj obj) = subj ∷ action_word word.Delete ∷ obj ∷ []
 -- `SUBJ level LABEL`
-tokens_in (Level subj lab) = subj ∷ codes "level" ∷ lab ∷ []
+tokens_in (Level subj lab) = subj ∷ action_word word.Level ∷ lab ∷ []
 -- `SUBJ relabel OBJ LABEL`
-tokens_in (Relabel subj obj lab) = subj ∷ codes "relabel" ∷ obj ∷ lab ∷ []
+tokens_in (Relabel subj obj lab) = subj ∷ action_word word.Relabel ∷ obj ∷ lab ∷ []
 
 -- A part of a line: the name of the variable that is bound, or a token that stands for a subject, for an object, for a security label
 -- or for an integrity label. (own)

@@ -7,8 +7,8 @@ use Rattle.mls_labels.specs.Names.{is_name}
 use Rattle.mls_labels.specs.Reading.{place_of}
 use Rattle.mls_labels.specs.Scheme.{Scheme}
 use Rattle.mls_labels.specs.LabelText as label
-use Rattle.mls_rules.specs.declared.request.Action.TheVariants as action
-use Rattle.mls_lines.specs.declared.ask.Ask.TheVariants as ask
+use Rattle.mls_requests.specs.declared.action.Action.TheVariants as action
+use Rattle.mls_requests.specs.declared.ask.Ask.TheVariants as ask
 use Rattle.mls_lines.specs.declared.fault.LineFault.{LineFault}
 use Rattle.mls_lines.specs.declared.fault.LineFault.TheVariants.{BadForm, UnknownName, BadLabel}
 use Rattle.mls_lines.specs.declared.line.TheConstants.{MAX_LINE}

@@ -1,10 +1,10 @@
 -- What a line of a script says.
 use Rattle.std.specs.Prelude.{ℕ, List, Option, Result, Ok, Err, option_map}
-use Rattle.mls_rules.specs.declared.request.Action.{Action}
-use Rattle.mls_lines.specs.declared.ask.Ask.{Ask}
-use Rattle.mls_lines.specs.declared.ask.Ask.TheVariants as ask
-use Rattle.mls_lines.specs.declared.ask.Line.{Line}
-use Rattle.mls_lines.specs.declared.ask.Line.TheVariants as line
+use Rattle.mls_requests.specs.declared.action.Action.{Action}
+use Rattle.mls_requests.specs.declared.ask.Ask.{Ask}
+use Rattle.mls_requests.specs.declared.ask.Ask.TheVariants as ask
+use Rattle.mls_lines.specs.declared.line.Line.{Line}
+use Rattle.mls_lines.specs.declared.line.Line.TheVariants as line
 use Rattle.mls_lines.specs.declared.fault.LineFault.{LineFault}
 
 -- What a line says: nothing, or what it asks, and the name of the variable to bind where it has one. (own)
