@@ -1,9 +1,10 @@
 //! The program `mls`: without words it answers the script on standard input over the standard start.
 #![tactic(auto)]
 
-use mls_cli::{LoadFault, Names, ServeFault, serve, standard_start};
+use mls_cli::{LoadFault, Loaded, Names, ServeFault, serve, standard_start};
 use mls_labels::SchemeFault;
 use mls_monitor::Monitor;
+use mls_rules::Start;
 use std::alloc::Global;
 use std::env::FillError;
 use std::io::BufWriter;
@@ -59,13 +60,22 @@ fn serve_input(
     serve(rt.alloc(), names, monitor, 0, &mut reader, &mut writer).map_err(serve_line)
 }
 
-/// Opens a monitor over the standard start, and answers the script over it.
-fn serve_standard(rt: &HostRuntime) -> Result<u64, &'static str> {
-    let loaded = standard_start(rt.alloc()).map_err(start_line)?;
-    match Monitor::open(rt.alloc(), loaded.start) {
-        Ok(mut monitor) => serve_input(rt, &loaded.names, &mut monitor),
+/// Opens a monitor over a start, and answers the script over it.
+fn serve_start(
+    rt: &HostRuntime,
+    names: &Names<Global>,
+    start: Start<Global>,
+) -> Result<u64, &'static str> {
+    match Monitor::open(rt.alloc(), start) {
+        Ok(mut monitor) => serve_input(rt, names, &mut monitor),
         Err(_) => Err(NO_MEMORY),
     }
+}
+
+/// Answers the script over the standard start.
+fn serve_standard(rt: &HostRuntime) -> Result<u64, &'static str> {
+    let Loaded { names, start } = standard_start(rt.alloc()).map_err(start_line)?;
+    serve_start(rt, &names, start)
 }
 
 /// Writes a line to standard error, where that can be written, and gives the status to end with.

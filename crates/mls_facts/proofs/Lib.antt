@@ -1,5 +1,6 @@
 pub mod Bits
 pub mod Each
+pub mod Entries
 pub mod Keys
 pub mod Lists
 pub mod Numbered

@@ -3,3 +3,4 @@ pub mod Each
 pub mod Keys
 pub mod Numbered
 pub mod Passing
+pub mod Sets

@@ -1,5 +1,6 @@
 //! Actions without what they are about, and the words for them.
 ghost use Rattle.std.specs.Prelude.{◌≡◌};
+ghost use Rattle.std.specs.Str.{bytes_eq};
 ghost use Rattle.mls_requests.specs.ActionWords.{action_word, read_action, word_of_action};
 
 use crate::action::Action;
@@ -54,31 +55,38 @@ impl ActionWord {
         }
     }
 
+    /// Whether this is its word.
+    fn is_named(self, word: &[u8]) -> bool
+        ensures { result ≡ bytes_eq word.now (action_word self) }
+    {
+        word == self.word().as_bytes()
+    }
+
     /// The action that has this word, where one has it.
     pub fn read(word: &[u8]) -> Option<ActionWord>
         ensures { result ≡ read_action word.now }
     {
-        if word == ActionWord::Get(Mode::Execute).word().as_bytes() {
+        if ActionWord::Get(Mode::Execute).is_named(word) {
             Some(ActionWord::Get(Mode::Execute))
-        } else if word == ActionWord::Get(Mode::Read).word().as_bytes() {
+        } else if ActionWord::Get(Mode::Read).is_named(word) {
             Some(ActionWord::Get(Mode::Read))
-        } else if word == ActionWord::Get(Mode::Append).word().as_bytes() {
+        } else if ActionWord::Get(Mode::Append).is_named(word) {
             Some(ActionWord::Get(Mode::Append))
-        } else if word == ActionWord::Get(Mode::Write).word().as_bytes() {
+        } else if ActionWord::Get(Mode::Write).is_named(word) {
             Some(ActionWord::Get(Mode::Write))
-        } else if word == ActionWord::Release.word().as_bytes() {
+        } else if ActionWord::Release.is_named(word) {
             Some(ActionWord::Release)
-        } else if word == ActionWord::Give.word().as_bytes() {
+        } else if ActionWord::Give.is_named(word) {
             Some(ActionWord::Give)
-        } else if word == ActionWord::Rescind.word().as_bytes() {
+        } else if ActionWord::Rescind.is_named(word) {
             Some(ActionWord::Rescind)
-        } else if word == ActionWord::Create.word().as_bytes() {
+        } else if ActionWord::Create.is_named(word) {
             Some(ActionWord::Create)
-        } else if word == ActionWord::Delete.word().as_bytes() {
+        } else if ActionWord::Delete.is_named(word) {
             Some(ActionWord::Delete)
-        } else if word == ActionWord::Level.word().as_bytes() {
+        } else if ActionWord::Level.is_named(word) {
             Some(ActionWord::Level)
-        } else if word == ActionWord::Relabel.word().as_bytes() {
+        } else if ActionWord::Relabel.is_named(word) {
             Some(ActionWord::Relabel)
         } else {
             None

@@ -1,5 +1,6 @@
 //! Why a request is denied, and the word for it.
 ghost use Rattle.std.specs.Prelude.{◌≡◌};
+ghost use Rattle.std.specs.Str.{bytes_eq};
 ghost use Rattle.mls_requests.specs.ReasonWords.{reason_word, read_reason};
 
 /// Why a request is denied: the first condition of its rule that fails.
@@ -43,27 +44,34 @@ impl Reason {
         }
     }
 
+    /// Whether this is its word.
+    fn is_named(self, word: &[u8]) -> bool
+        ensures { result ≡ bytes_eq word.now (reason_word self) }
+    {
+        word == self.word().as_bytes()
+    }
+
     /// The reason that has this word, where one has it.
     pub fn read(word: &[u8]) -> Option<Reason>
         ensures { result ≡ read_reason word.now }
     {
-        if word == Reason::Discretionary.word().as_bytes() {
+        if Reason::Discretionary.is_named(word) {
             Some(Reason::Discretionary)
-        } else if word == Reason::Simple.word().as_bytes() {
+        } else if Reason::Simple.is_named(word) {
             Some(Reason::Simple)
-        } else if word == Reason::Star.word().as_bytes() {
+        } else if Reason::Star.is_named(word) {
             Some(Reason::Star)
-        } else if word == Reason::Integrity.word().as_bytes() {
+        } else if Reason::Integrity.is_named(word) {
             Some(Reason::Integrity)
-        } else if word == Reason::Authority.word().as_bytes() {
+        } else if Reason::Authority.is_named(word) {
             Some(Reason::Authority)
-        } else if word == Reason::Compatibility.word().as_bytes() {
+        } else if Reason::Compatibility.is_named(word) {
             Some(Reason::Compatibility)
-        } else if word == Reason::Ceiling.word().as_bytes() {
+        } else if Reason::Ceiling.is_named(word) {
             Some(Reason::Ceiling)
-        } else if word == Reason::Root.word().as_bytes() {
+        } else if Reason::Root.is_named(word) {
             Some(Reason::Root)
-        } else if word == Reason::Full.word().as_bytes() {
+        } else if Reason::Full.is_named(word) {
             Some(Reason::Full)
         } else {
             None

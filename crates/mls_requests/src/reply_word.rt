@@ -1,5 +1,6 @@
 //! Replies without what they tell, and the words for them.
 ghost use Rattle.std.specs.Prelude.{◌≡◌};
+ghost use Rattle.std.specs.Str.{bytes_eq};
 ghost use Rattle.mls_requests.specs.ReplyWords.{reply_word, read_reply, word_of_reply};
 
 use crate::reply::Reply;
@@ -38,17 +39,24 @@ impl ReplyWord {
         }
     }
 
+    /// Whether this is its word.
+    fn is_named(self, word: &[u8]) -> bool
+        ensures { result ≡ bytes_eq word.now (reply_word self) }
+    {
+        word == self.word().as_bytes()
+    }
+
     /// The reply that begins with this word, where one does.
     pub fn read(word: &[u8]) -> Option<ReplyWord>
         ensures { result ≡ read_reply word.now }
     {
-        if word == ReplyWord::Yes.word().as_bytes() {
+        if ReplyWord::Yes.is_named(word) {
             Some(ReplyWord::Yes)
-        } else if word == ReplyWord::Created.word().as_bytes() {
+        } else if ReplyWord::Created.is_named(word) {
             Some(ReplyWord::Created)
-        } else if word == ReplyWord::No.word().as_bytes() {
+        } else if ReplyWord::No.is_named(word) {
             Some(ReplyWord::No)
-        } else if word == ReplyWord::Undefined.word().as_bytes() {
+        } else if ReplyWord::Undefined.is_named(word) {
             Some(ReplyWord::Undefined)
         } else {
             None

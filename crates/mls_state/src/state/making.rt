@@ -1,0 +1,148 @@
+//! Making states: the first one of some subjects and the root, objects and cells joining it, and copies.
+ghost use Rattle.std.specs.Prelude.{◌≡◌, ◌<◌, ◌≤◌, ◌+◌, IsTrue, IfOk, OnOk, OnErr, length, All};
+ghost use Rattle.std.specs.FinSet as set;
+ghost use Rattle.std.specs.FinMap as map;
+ghost use Rattle.mls_tables.specs.declared.limits.TheConstants.{MAX_SUBJECTS, MAX_OBJECTS};
+ghost use Rattle.mls_state.specs.State.{is_subject, is_active};
+ghost use Rattle.mls_state.specs.Properties.{is_known};
+ghost use Rattle.mls_state.specs.First.{first_state, with_triples, SameCells};
+
+use crate::state::State;
+use crate::subject::{ObjectLabels, Subject};
+use mls_labels::Bounds;
+use mls_tables::{AccessSet, Matrix, Mode, ObjectId, SubjectId};
+use mls_tree::Tree;
+use std::alloc::{AllocError, Allocator};
+
+/// Sees that the matrix has a column for the next object.
+fn widen_matrix<A: Allocator>(matrix: &mut Matrix<A>, next: u16) -> Result<(), AllocError>
+    requires room { next < MAX_OBJECTS }
+    requires near { next ≤ matrix.old.columns }
+    ensures ok { OnOk result (next < matrix.new.columns) }
+    ensures kept { SameCells matrix.old matrix.new }
+{
+    if matrix.columns() <= next {
+        matrix.add_object()?;
+    }
+    Ok(())
+}
+
+/// Sees that the current accesses have a column for the next object.
+fn widen_accesses<A: Allocator>(accesses: &mut AccessSet<A>, next: u16) -> Result<(), AllocError>
+    requires room { next < MAX_OBJECTS }
+    requires near { next ≤ accesses.old.columns }
+    ensures ok { OnOk result (next < accesses.new.columns) }
+    ensures kept { SameCells accesses.old accesses.new }
+{
+    if accesses.columns() <= next {
+        accesses.add_object()?;
+    }
+    Ok(())
+}
+
+impl<A: Allocator> State<A> {
+    /// Adds an object with the next number below an active parent: what a creation changes. It doesn't ask whether the
+    /// labels fit, nor whether they are within the bounds.
+    ///
+    /// # Errors
+    /// `AllocError` where an allocation failed; no read then tells the state from what it was.
+    pub fn add_object(&mut self, parent: ObjectId, labels: ObjectLabels) -> Result<(), AllocError>
+        requires room { self.old.next < MAX_OBJECTS }
+        requires parent { IsTrue (is_active self.old parent) }
+        ensures ok { OnOk result (self.new ≡ record self.old {
+          object_label = map.insert self.old.object_label self.old.next labels.security;
+          object_integrity = map.insert self.old.object_integrity self.old.next labels.integrity;
+          parent = map.insert self.old.parent self.old.next parent;
+          next = self.old.next + 1;
+        }) }
+        ensures err { OnErr result (self.new ≡ self.old) }
+    {
+        let next = self.next();
+        widen_matrix(&mut self.matrix, next)?;
+        widen_accesses(&mut self.accesses, next)?;
+        self.objects.reserve(1)?;
+        let Ok(_) = self.tree.add(parent) else {
+            return Err(AllocError);
+        };
+        self.objects.push_reserved(labels);
+        // that the objects are a tree with the new one
+        let _ = self.tree.next();
+        Ok(())
+    }
+
+    /// Permits a triple: what a give changes. It doesn't ask who controls the object.
+    pub fn permit(&mut self, s: SubjectId, o: ObjectId, x: Mode)
+        requires subject { IsTrue (is_subject self.old s) }
+        requires object { IsTrue (is_active self.old o) }
+        ensures { self.new ≡ record self.old { matrix = set.insert self.old.matrix (s, o, x) } }
+    {
+        self.matrix.give(s, o, x);
+    }
+
+    /// Permits some triples.
+    pub(crate) fn permit_all(&mut self, cells: &[(SubjectId, ObjectId, Mode)])
+        requires { All (λ t. IsTrue (is_known self.old t)) cells.now }
+        ensures { self.new ≡ record self.old { matrix = with_triples self.old.matrix cells.now } }
+    {
+        for cell in cells {
+            self.permit(cell.0, cell.1, cell.2);
+        }
+    }
+}
+
+impl<A: Allocator + Clone> State<A> {
+    /// A state of these subjects and the root, in which nothing is permitted and nothing accessed.
+    pub(crate) fn first(
+        alloc: A,
+        subjects: &[Subject],
+        root: ObjectLabels,
+        security: Bounds,
+        integrity: Bounds,
+    ) -> Result<State<A>, AllocError>
+        requires some { 1 ≤ length subjects.now }
+        requires few { length subjects.now ≤ MAX_SUBJECTS }
+        ensures { IfOk result (λ v. v ≡ first_state subjects.now root security integrity) }
+    {
+        let count = subjects.len() as u16;
+        let mut matrix = Matrix::new(alloc.clone()?, count);
+        matrix.add_object()?;
+        let mut accesses = AccessSet::new(alloc.clone()?, count)?;
+        accesses.add_object()?;
+        let mut objects = Vec::new(alloc.clone()?);
+        objects.push(root)?;
+        let subjects = Vec::from_slice(alloc.clone()?, subjects)?;
+        let group = Vec::new(alloc.clone()?);
+        let tree = Tree::new(alloc)?;
+        // that the root alone is a tree
+        let _ = tree.next();
+        Ok(State {
+            subjects,
+            objects,
+            tree,
+            matrix,
+            accesses,
+            group,
+            security,
+            integrity,
+        })
+    }
+
+    /// A copy of the state, which takes no room to spare.
+    ///
+    /// # Errors
+    /// `AllocError` where an allocation failed.
+    pub fn duplicate(&self, alloc: A) -> Result<State<A>, AllocError>
+        ensures { IfOk result (λ v. v ≡ self.now) }
+    {
+        Ok(State {
+            subjects: Vec::from_slice(alloc.clone()?, &self.subjects)?,
+            objects: Vec::from_slice(alloc.clone()?, &self.objects)?,
+            tree: self.tree.duplicate(alloc.clone()?)?,
+            matrix: self.matrix.duplicate(alloc.clone()?)?,
+            accesses: self.accesses.duplicate(alloc.clone()?)?,
+            group: Vec::new(alloc),
+            security: self.security,
+            integrity: self.integrity,
+        })
+    }
+}
