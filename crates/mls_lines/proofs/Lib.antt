@@ -1,6 +1,6 @@
+pub mod AsciiBytes
 pub mod FormsFound
 pub mod FormsRead
-pub mod LabelBytes
 pub mod LinesRead
 pub mod NumberLemmas
 pub mod NumbersLaw

@@ -12,6 +12,7 @@ use Rattle.mls_requests.specs.declared.ask.Ask.TheVariants as ask
 use Rattle.mls_lines.specs.declared.fault.LineFault.{LineFault}
 use Rattle.mls_lines.specs.declared.fault.LineFault.TheVariants.{BadForm, UnknownName, BadLabel}
 use Rattle.mls_lines.specs.declared.line.TheConstants.{MAX_LINE}
+use Rattle.mls_lines.specs.declared.number.TheConstants.{MAX_NUMBER}
 use Rattle.mls_lines.specs.Forms.{Form, Empty, Note, Check, Get, Release, Give, Rescind, Create, Bind, Delete, Level, Relabel, tokens_in, Part, Variable, Subject, Object, Security, Integrity, parts_in}
 use Rattle.mls_lines.specs.Labels.{is_label_byte}
 use Rattle.mls_lines.specs.LineView.{LineView, Blank, Asks, submits}
@@ -20,7 +21,7 @@ use Rattle.mls_lines.specs.Tokens.{Spells}
 
 -- A token is `#` and the decimal text of a number that is at most 65,535. (own)
 abbrev pub IsNumber : List ℕ → ℕ → Type 0
-IsNumber token n = (n ≤ 65535) × (token ≡ 35 ∷ decimal n)
+IsNumber token n = (n ≤ MAX_NUMBER) × (token ≡ 35 ∷ decimal n)
 
 -- A token is a NAME, and the one with this place among names. (own)
 abbrev pub IsNamed : List (List ℕ) → List ℕ → ℕ → Type 0

@@ -10,7 +10,7 @@ use std::hash::{BuildHasherDefault, FoldHasher};
 use std::marker::Model;
 
 /// The variables of a script, each bound to an object. Contracts see the pairs of a name and a number, and how many names more fit
-/// with no new memory. A name is written without the `$`.
+/// without an allocation. A name is written without the `$`.
 #[derive(Drop)]
 pub struct Vars<A: Allocator = Global> {
     pairs: IndexMap<String<A>, ObjectId, BuildHasherDefault<FoldHasher>, A>,
@@ -44,7 +44,7 @@ impl<A: Allocator + Copy> Vars<A> {
     /// Binds a variable to an object, in place of what it was bound to.
     ///
     /// # Errors
-    /// `AllocError` where a growth was refused; every variable then stays as it was.
+    /// `AllocError` where an allocation failed; every variable then stays as it was.
     pub fn bind(&mut self, name: &str, object: ObjectId) -> Result<(), AllocError>
         ensures ok { OnOk result (self.new.bound ≡ with_binding self.old.bound name.now object) }
         ensures bound { OnOk result (Binds self.old.bound name.now object self.new.bound) }
@@ -55,10 +55,10 @@ impl<A: Allocator + Copy> Vars<A> {
         Ok(())
     }
 
-    /// Makes all the room that it takes to bind a variable: a copy of its name, for `bind_reserved`, and a place for it.
+    /// Makes the room that binding a variable needs: a copy of its name, for `bind_reserved`, and a place for it.
     ///
     /// # Errors
-    /// `AllocError` where a growth was refused. All variables stay bound as they were on both results.
+    /// `AllocError` where an allocation failed. All variables stay bound as they were on both results.
     pub fn reserve(&mut self, name: &str) -> Result<String<A>, AllocError>
         ensures name { IfOk result (λ copy. string_bytes copy ≡ name.now) }
         ensures room { OnOk result (0 < self.new.room) }
@@ -71,11 +71,12 @@ impl<A: Allocator + Copy> Vars<A> {
 }
 
 impl<A: Allocator> Vars<A> {
-    /// Binds a variable to an object, in place of what it was bound to. It takes no memory.
+    /// Binds a variable to an object, in place of what it was bound to. It doesn't allocate.
     pub fn bind_reserved(&mut self, name: String<A>, object: ObjectId)
         requires { 0 < self.old.room }
         ensures { self.new.bound ≡ with_binding self.old.bound (string_bytes name) object }
     {
+        // the room was made before, so that this can't fail
         let _ = self.pairs.insert(name, object);
     }
 

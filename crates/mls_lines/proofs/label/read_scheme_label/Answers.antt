@@ -1,5 +1,5 @@
 use Rattle.std.proofs.Common.{sym}
-use Rattle.mls_lines.proofs.LabelBytes.{label_is_ascii}
+use Rattle.mls_lines.proofs.AsciiBytes.{label_is_ascii}
 use Rattle.mls_lines.proofs.label.read_scheme_label.Goals as goal
 
 pub as_text-requires : goal.as_text-requires

@@ -1,5 +1,5 @@
 use Rattle.std.proofs.Common.{sym}
-use Rattle.mls_lines.proofs.TokenLemmas.{name_is_ascii}
+use Rattle.mls_lines.proofs.AsciiBytes.{name_is_ascii}
 use Rattle.mls_lines.proofs.token.read_name.Goals as goal
 
 pub as_text-requires : goal.as_text-requires
