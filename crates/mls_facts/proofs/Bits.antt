@@ -45,7 +45,7 @@ one_bit b h = grind (arith, nat_tests)
 
 -- the number of the bits of a number is that number
 pub number_of-has_bit : (n b : ℕ) → b < 2 ^ n → number_of (has_bit b) n ≡ b
-number_of-has_bit n b h = same_from_bits_below n _ b (number_of-lt _ n) h (λ i within. bit_at-number_of _ n i ∙ rw (true_below i n within) (one_bit _ (bit_at-lt b i)))
+number_of-has_bit n b h = same_from_bits_below n _ b (number_of-lt _ n) h (λ i within. bit_at-number_of _ n i ∙ rw (lt-ltb i n within) (one_bit _ (bit_at-lt b i)))
 
 -- and so where the bits are a set of numbers
 pub number_of-bits : (n b : ℕ) → b < 2 ^ n → number_of (contains (passing (has_bit b) n)) n ≡ b

@@ -189,11 +189,11 @@ module _ (modes : ModeLaw) (actions : ActionLaw) (names : Names) (vars : List (L
   binding_found token rest (Some name) (Some p) n e = elim (three_or p.1) [
     | inl none ↦ inl (bad_said (Some name) _ (subject_of names p.0) (action_of names vars p.1 word.Create) (rw none refl))
     | inr three ↦ inr (
-        Bind token p.0 three.0 three.1 three.2,
-        ap (λ ts. (36 ∷ token) ∷ ts) (created_says rest p e ∙ ap (λ ts. codes "=" ∷ p.0 ∷ action_word word.Create ∷ ts) three.3),
-        ap (λ ts. binding_line names vars (Some name) (Some (p.0, ts))) three.3
-        ∙ ap (λ found. binding_line names vars found (Some (p.0, three.0 ∷ three.1 ∷ three.2 ∷ []))) (sym n),
-      )
+      Bind token p.0 three.0 three.1 three.2,
+      ap (λ ts. (36 ∷ token) ∷ ts) (created_says rest p e ∙ ap (λ ts. codes "=" ∷ p.0 ∷ action_word word.Create ∷ ts) three.3),
+      ap (λ ts. binding_line names vars (Some name) (Some (p.0, ts))) three.3
+          ∙ ap (λ found. binding_line names vars found (Some (p.0, three.0 ∷ three.1 ∷ three.2 ∷ []))) (sym n),
+    )
   ]
 
   -- the tokens of a line

@@ -1,5 +1,6 @@
 //! The names of a start's subjects and objects, and its schemes of labels.
-ghost use Rattle.std.specs.Prelude.{◌≡◌, ◌≢◌, false, true, Some, None, IfOk, IfErr, OnOk};
+ghost use Rattle.std.specs.Prelude.{◌≡◌, ◌≢◌, ◌≤◌, false, true, length, Some, None, IfNone, IfOk, IfErr, OnOk};
+ghost use Rattle.mls_tables.specs.declared.limits.TheConstants.{MAX_SUBJECTS, MAX_OBJECTS};
 ghost use Rattle.mls_labels.specs.Names.{has_twice};
 ghost use Rattle.mls_labels.specs.Reading.{place_of};
 ghost use Rattle.mls_lines.specs.Names.{texts, fault_of_counts, names_fault};
@@ -36,7 +37,8 @@ impl<A: Allocator> Model for Names<A> {
 
 /// The fault of how many names there are.
 fn count_fault(subjects: &[&str], objects: &[&str]) -> Option<NamesFault>
-    ensures { result ≡ fault_of_counts (texts subjects.now) (texts objects.now) }
+    ensures fault { result ≡ fault_of_counts (texts subjects.now) (texts objects.now) }
+    ensures few { IfNone result ((length subjects.now ≤ MAX_SUBJECTS) × (length objects.now ≤ MAX_OBJECTS)) }
 {
     if subjects.len() > MAX_SUBJECTS as usize {
         Some(NamesFault::TooManySubjects)
@@ -71,6 +73,7 @@ fn name_sets<A: Allocator + Copy>(
     objects: &[&str],
 ) -> Result<(NameSet<A>, NameSet<A>), NamesFault>
     ensures ok { IfOk result (λ p. (p.0 ≡ texts subjects.now) × (p.1 ≡ texts objects.now)) }
+    ensures few { OnOk result ((length subjects.now ≤ MAX_SUBJECTS) × (length objects.now ≤ MAX_OBJECTS)) }
     ensures faultless { OnOk result (names_fault (texts subjects.now) (texts objects.now) ≡ None) }
     ensures fault { IfErr result (λ fault. fault ≢ NamesFault.Memory → names_fault (texts subjects.now) (texts objects.now) ≡ Some fault) }
     ensures memory { IfErr result (λ fault. fault ≡ NamesFault.Memory → fault_of_counts (texts subjects.now) (texts objects.now) ≡ None) }
