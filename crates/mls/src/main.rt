@@ -57,25 +57,41 @@ fn serve_input(
         return Err(NO_MEMORY);
     };
     let mut reader = rt.stdin();
-    serve(rt.alloc(), names, monitor, 0, &mut reader, &mut writer).map_err(serve_line)
+    match serve(rt.alloc(), names, monitor, 0, &mut reader, &mut writer) {
+        Ok(entries) => Ok(entries),
+        Err(fault) => Err(serve_line(fault)),
+    }
 }
 
-/// Opens a monitor over a start, and answers the script over it.
+/// Opens a monitor over a start; there is none where memory ran out.
+fn open(rt: &HostRuntime, start: Start<Global>) -> Option<Monitor<Global>> {
+    Monitor::open(rt.alloc(), start).ok()
+}
+
+/// Answers the script over a start.
 fn serve_start(
     rt: &HostRuntime,
     names: &Names<Global>,
     start: Start<Global>,
 ) -> Result<u64, &'static str> {
-    match Monitor::open(rt.alloc(), start) {
-        Ok(mut monitor) => serve_input(rt, names, &mut monitor),
-        Err(_) => Err(NO_MEMORY),
+    match open(rt, start) {
+        Some(mut monitor) => serve_input(rt, names, &mut monitor),
+        None => Err(NO_MEMORY),
     }
+}
+
+/// Answers the script over a start and its names.
+fn serve_loaded(rt: &HostRuntime, loaded: Loaded<Global>) -> Result<u64, &'static str> {
+    let Loaded { names, start } = loaded;
+    serve_start(rt, &names, start)
 }
 
 /// Answers the script over the standard start.
 fn serve_standard(rt: &HostRuntime) -> Result<u64, &'static str> {
-    let Loaded { names, start } = standard_start(rt.alloc()).map_err(start_line)?;
-    serve_start(rt, &names, start)
+    match standard_start(rt.alloc()) {
+        Ok(loaded) => serve_loaded(rt, loaded),
+        Err(fault) => Err(start_line(fault)),
+    }
 }
 
 /// Writes a line to standard error, where that can be written, and gives the status to end with.
