@@ -14,6 +14,7 @@ use std::alloc::{AllocError, Allocator, Global};
 use std::marker::Model;
 
 mod changes;
+mod copying;
 mod listing;
 mod making;
 mod removing;
