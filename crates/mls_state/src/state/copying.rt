@@ -1,7 +1,9 @@
 //! The first state of some subjects and the root, and copies of states.
-ghost use Rattle.std.specs.Prelude.{◌≡◌, ◌≤◌, IfOk, length};
+ghost use Rattle.std.specs.Prelude.{◌≡◌, ◌≤◌, IfOk, length, [], ◌∷◌};
 ghost use Rattle.std.specs.FinSet as set;
+ghost use Rattle.std.specs.FinMap as map;
 ghost use Rattle.mls_tables.specs.declared.limits.TheConstants.{MAX_SUBJECTS};
+ghost use Rattle.mls_tree.specs.Tree.{IsTree, is_active};
 ghost use Rattle.mls_state.specs.First.{first_state};
 
 use crate::state::State;
@@ -54,6 +56,29 @@ fn first_tables<A: Allocator + Clone>(
     Ok((matrix, accesses))
 }
 
+/// What is known of some subjects, copied, and the labels of the root alone.
+fn first_rows<A: Allocator + Clone>(
+    alloc: &A,
+    subjects: &[Subject],
+    root: ObjectLabels,
+) -> Result<(Vec<Subject, A>, Vec<ObjectLabels, A>), AllocError>
+    ensures subjects { IfOk result (λ rows. rows.0.items ≡ subjects.now) }
+    ensures objects { IfOk result (λ rows. rows.1.items ≡ root ∷ []) }
+{
+    copy_rows(alloc, subjects, &[root])
+}
+
+/// The tree of the root alone.
+fn first_tree<A: Allocator + Clone>(alloc: &A) -> Result<Tree<A>, AllocError>
+    ensures root { IfOk result (λ tree. tree ≡ record { parent = map.empty; next = 1 }) }
+    ensures tree { IfOk result (λ tree. IsTree tree.parent (is_active tree.parent) tree.next) }
+{
+    let tree = Tree::new(alloc.clone()?)?;
+    // that the root alone is a tree
+    let _ = tree.next();
+    Ok(tree)
+}
+
 impl<A: Allocator + Clone> State<A> {
     /// A state of these subjects and the root, in which nothing is permitted and nothing accessed.
     pub(crate) fn first(
@@ -67,11 +92,9 @@ impl<A: Allocator + Clone> State<A> {
         requires few { length subjects.now ≤ MAX_SUBJECTS }
         ensures { IfOk result (λ v. v ≡ first_state subjects.now root security integrity) }
     {
-        let rows = copy_rows(&alloc, subjects, &[root])?;
+        let rows = first_rows(&alloc, subjects, root)?;
         let tables = first_tables(&alloc, subjects.len() as u16)?;
-        let tree = Tree::new(alloc.clone()?)?;
-        // that the root alone is a tree
-        let _ = tree.next();
+        let tree = first_tree(&alloc)?;
         let group = Vec::new(alloc);
         Ok(State {
             subjects: rows.0,

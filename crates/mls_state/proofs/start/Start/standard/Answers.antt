@@ -2,8 +2,7 @@ use Rattle.std.proofs.Common.{◌≡◌, ◌∙◌, ap, get_or}
 use Rattle.std.specs.FinSet as set
 use Rattle.mls_state.specs.State.{State}
 use Rattle.mls_state.specs.First.{first_state}
-use Rattle.mls_state.specs.Start.{opening, tables_of}
-use Rattle.mls_state.specs.Standard.{standard_start}
+use Rattle.mls_state.specs.Start.{tables_of}
 use Rattle.mls_state.proofs.StandardSecure.{standard_secure}
 use Rattle.mls_state.proofs.StandardState.{root}
 use Rattle.mls_state.proofs.start.Start.standard.Goals as goal

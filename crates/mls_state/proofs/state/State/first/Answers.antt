@@ -13,9 +13,9 @@ invariant_of-result g c =
       group = c.new-group.result;
       security = c.args.security;
       integrity = c.args.integrity;
-    }) c.args.subjects.now c.args.root (length c.args.subjects.now) c.in_ok-rows.ensures.subjects c.in_ok-rows.ensures.objects c.in_ok-tree.ensures
+    }) c.args.subjects.now c.args.root (length c.args.subjects.now) c.in_ok-rows.ensures.subjects c.in_ok-rows.ensures.objects c.in_ok-tree.ensures.root
     c.in_ok-tables.ensures.matrix c.in_ok-tables.ensures.accesses
-    refl c.next.ensures.tree
+    refl c.in_ok-tree.ensures.tree
 
 pub returns : goal.returns
 returns g c =
@@ -28,5 +28,5 @@ returns g c =
       group = c.new-group.result;
       security = c.args.security;
       integrity = c.args.integrity;
-    }) c.args.subjects.now c.args.root (length c.args.subjects.now) c.in_ok-rows.ensures.subjects c.in_ok-rows.ensures.objects c.in_ok-tree.ensures
+    }) c.args.subjects.now c.args.root (length c.args.subjects.now) c.in_ok-rows.ensures.subjects c.in_ok-rows.ensures.objects c.in_ok-tree.ensures.root
     c.in_ok-tables.ensures.matrix c.in_ok-tables.ensures.accesses
