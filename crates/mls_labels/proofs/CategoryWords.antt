@@ -3,6 +3,7 @@ use Rattle.std.specs.Prelude.{◌≡◌, ℕ, ◌*◌, ◌/◌, ◌^◌, ◌<◌
 use Rattle.std.specs.Ordering.{nat_cmp}
 use Rattle.std.specs.Cmp.{nat_cmp_total, unsigned_tied, nat_eq_equiv, both_ways}
 use Rattle.std.specs.Int.{bit_at, bit_not, w64}
+use Rattle.std.proofs.lemmas.Nat.{or_lt}
 use Rattle.std.proofs.lemmas.Nat.Bits.{bit_at-lt, bit_at_above, bit_at-zero, bit_at_set_same, bit_at_set_other, bit_at_and, bit_at_not, same_from_bits, shr_and_one}
 use Rattle.std.specs.FinSet.{empty, contains, insert, same_set, is_subset, is_subset-contains, contains-is_subset, contains-empty, contains-insert, nat_cmp-IsAntisymmetric}
 use Rattle.std.proofs.Common.{◌-◌, min, ◌%◌, ◌⊎◌, inl, inr, arith, sym, ap, ◌∙◌}
@@ -66,6 +67,10 @@ bit_gone a b q small_a small kept (inr above) which =
     let none : bit_at a q ≡ 0 = bit_at_above a 64 q small_a above in
     let parts : bit_at (bit_and a (bit_not w64 b)) q ≡ min (bit_at a q) (bit_at (bit_not w64 b) q) = bit_at_and a (bit_not w64 b) q in
     omega arith
+
+-- a word with a bit more is one of 64 bits
+pub with_fits : (b n : ℕ) → b < 2 ^ 64 → bit_or b (1 * 2 ^ n % 2 ^ 64) < 2 ^ 64
+with_fits b n small = let one : 1 * 2 ^ n % 2 ^ 64 < 2 ^ 64 = omega arith in or_lt 64 b _ small one
 
 -- one word's set contains another's where the other has no bit that the one lacks
 pub subset_word : (a b : ℕ) → a < 2 ^ 64 → b < 2 ^ 64 → is_subset (categories_of a) (categories_of b) ≡ nat_eq (bit_and a (bit_not w64 b)) 0

@@ -54,7 +54,7 @@ impl CatSet {
     }
 
     /// The set with category `n` added; the same set where it is there already.
-    #[tactic(auto, using(crate::proofs::CategoryWords::with_word))]
+    #[tactic(auto, using(crate::proofs::CategoryWords::with_word, crate::proofs::CategoryWords::with_fits))]
     pub fn with(self, n: u8) -> CatSet
         requires { n < MAX_CATEGORIES }
         ensures { result ≡ set.insert self n }
