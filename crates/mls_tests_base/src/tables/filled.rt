@@ -56,38 +56,55 @@ fn accesses_of<A: Allocator>(rt: &impl Abort, set: &mut AccessSet<A>) -> Result<
     Ok(())
 }
 
-#[test]
-fn a_group_of_objects_leaves(rt: HostRuntime) -> Result<(), Fail> {
-    let mut matrix = matrix_of(&rt, rt.alloc())?;
-    let mut set = AccessSet::new(rt.alloc(), 3)?;
-    accesses_of(&rt, &mut set)?;
+/// Clears two of four columns.
+fn group_leaves_matrix(rt: &impl Abort, matrix: &mut Matrix) {
     assert!(rt; matrix.subjects() == 3 && matrix.columns() == 4);
+    matrix.clear_objects(&[ObjectId(1), ObjectId(3)]);
+    assert!(rt; matrix.columns() == 4);
+    for (o, kept) in [(0, true), (1, false), (2, true), (3, false)] {
+        assert!(rt; matrix.modes(SubjectId(2), ObjectId(o)).has(Mode::Read) == kept);
+    }
+}
+
+/// Removes the triples of two of four objects.
+fn group_leaves_set(rt: &impl Abort, set: &mut AccessSet) {
     assert!(rt; set.subjects() == 3 && set.columns() == 4);
     assert!(rt; set.triples().len() == 16);
-    let group = [ObjectId(1), ObjectId(3)];
-    matrix.clear_objects(&group);
-    set.drop_objects(&group);
-    assert!(rt; matrix.columns() == 4 && set.columns() == 4);
+    set.drop_objects(&[ObjectId(1), ObjectId(3)]);
+    assert!(rt; set.columns() == 4);
     for (o, kept) in [(0, true), (1, false), (2, true), (3, false)] {
-        let (s, o) = (SubjectId(2), ObjectId(o));
-        assert!(rt; matrix.modes(s, o).has(Mode::Read) == kept);
-        assert!(rt; set.contains(s, o, Mode::Append) == kept);
+        assert!(rt; set.contains(SubjectId(2), ObjectId(o), Mode::Append) == kept);
     }
     assert!(rt; set.triples().len() == 8);
     assert!(rt; set.triples().iter().all(|t| t.0 == SubjectId(2) && t.1.0 % 2 == 0));
+}
+
+#[test]
+fn a_group_of_objects_leaves(rt: HostRuntime) -> Result<(), Fail> {
+    {
+        let mut matrix = matrix_of(&rt, rt.alloc())?;
+        group_leaves_matrix(&rt, &mut matrix);
+    }
+    let mut set = AccessSet::new(rt.alloc(), 3)?;
+    accesses_of(&rt, &mut set)?;
+    group_leaves_set(&rt, &mut set);
     Ok(())
+}
+
+/// Asserts that the matrix lets one subject read each object.
+fn assert_readable<A: Allocator>(rt: &impl Abort, matrix: &Matrix<A>) {
+    assert!(rt; matrix.subjects() == 3 && matrix.columns() == 4);
+    for o in 0..4u16 {
+        assert!(rt; has_just(matrix.modes(SubjectId(2), ObjectId(o)), &[Mode::Read]));
+    }
 }
 
 /// Fills a matrix and copies it; a call that fails to allocate is made again.
 fn matrix_copied(rt: &impl Abort, heap: &Refusing<Global>) -> Result<(), AllocError> {
     let matrix = matrix_of(rt, heap)?;
-    let copy = match matrix.duplicate(heap) {
-        Ok(copy) => copy,
-        Err(_) => matrix.duplicate(heap)?,
-    };
-    assert!(rt; copy.subjects() == 3 && copy.columns() == 4);
-    for o in 0..4u16 {
-        assert!(rt; has_just(copy.modes(SubjectId(2), ObjectId(o)), &[Mode::Read]));
+    match matrix.duplicate(heap) {
+        Ok(copy) => assert_readable(rt, &copy),
+        Err(_) => assert_readable(rt, &matrix.duplicate(heap)?),
     }
     Ok(())
 }
