@@ -1,22 +1,17 @@
 -- Each request leaves the objects a tree, and the triples known.
-use Rattle.std.proofs.Common.{◌≡◌, ℕ, true, false, not, ◌&&◌, ◌==◌, nat_eq, ◌<◌, refl, sym, ap, subst, ◌∙◌, arith}
+use Rattle.std.proofs.Common.{◌≡◌, ℕ, true, false, not, ◌&&◌, ◌==◌, nat_eq, ap, arith}
 use Rattle.std.proofs.lemmas.Bool.Decides.{nat_tests}
 use Rattle.std.specs.FinMap as map
 use Rattle.std.specs.FinSet as set
 use Rattle.mls_labels.specs.Label.{Label, has_label}
-use Rattle.mls_tables.specs.Triples.{Triple, TripleSet}
-use Rattle.mls_tree.specs.Tree.{IsTree}
-use Rattle.mls_tree.proofs.Laws.{IsTree-insert, IsTree-retain}
 use Rattle.mls_requests.specs.declared.action.Action.{Action}
 use Rattle.mls_requests.specs.declared.action.Action.TheVariants.{Get, Release, Give, Rescind, Create, Delete, SubjectLevel, ObjectLevel}
 use Rattle.mls_requests.specs.declared.request.Request.{Request}
 use Rattle.mls_state.specs.State.{State, is_subject, is_active}
-use Rattle.mls_state.specs.Properties.{Each, HasTree, is_known}
-use Rattle.mls_state.specs.Changes.{with_object_label, stays}
+use Rattle.mls_state.specs.Properties.{HasTree, is_known}
 use Rattle.mls_rules.specs.Rules.{conditions, change, after, names_known, AllHold}
 use Rattle.mls_state.proofs.Laws.{Each-insert, Each-remove, delete_tree, grown_tree, relabel_tree}
-use Rattle.std.proofs.lemmas.Bool.{and_parts, and_from, or_right}
-use Rattle.mls_facts.proofs.Entries.{has-inserted, has-kept, has-replaced}
+use Rattle.std.proofs.lemmas.Bool.{and_parts}
 use Rattle.mls_rules.proofs.AfterKeeps.{after_keeps}
 
 not_zero : (o : ℕ) → not (o == 0) ≡ true → o ≡ 0 → ⊥

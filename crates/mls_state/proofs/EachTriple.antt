@@ -1,5 +1,5 @@
 -- Tests that each triple of a set passes, as the set changes.
-use Rattle.std.proofs.Common.{◌≡◌, Bool, true, not, ◌&&◌, ◌||◌, sym, ap, ◌∙◌, ◌⊎◌, inl, inr}
+use Rattle.std.proofs.Common.{◌≡◌, Bool, true, not, ◌&&◌, sym, ap, ◌∙◌, ◌⊎◌, inl, inr}
 use Rattle.std.proofs.Math.Bool.{and_assoc}
 use Rattle.std.proofs.lemmas.Bool.{and_from, and_parts, or_cases, or_right}
 use Rattle.std.specs.FinSet as set

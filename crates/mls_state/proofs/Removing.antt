@@ -1,11 +1,9 @@
 -- A state without the inferiors of an object: what it stands for, and that its tables agree.
-use Rattle.std.proofs.Common.{◌≡◌, ℕ, zero, suc, ◌<◌, Bool, true, List, [], ◌∷◌, length, refl, sym, ap, ◌∙◌, arith, ◌&&◌, not, nat_eq, eqb, get_or, Some}
+use Rattle.std.proofs.Common.{◌≡◌, ℕ, Bool, length, sym, ap, ◌∙◌, ◌&&◌, not, nat_eq, Some}
 use Rattle.std.specs.List.{list_any}
 use Rattle.std.specs.Cmp.{nat_eq_equiv}
 use Rattle.std.specs.FinSet as set
 use Rattle.std.specs.FinMap as map
-use Rattle.std.proofs.lemmas.Bool.{eq-eqb}
-use Rattle.std.proofs.lemmas.List.Folds.{list_any_at}
 use Rattle.mls_tables.specs.Triples.{TripleSet}
 use Rattle.mls_tables.proofs.Laws.{same_triples, contains-without_objects}
 use Rattle.mls_tables.specs.Table.{Table, without_objects, IsAscending}

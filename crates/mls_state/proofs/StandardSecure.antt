@@ -1,5 +1,5 @@
 -- The standard start is what its rows make, and its opening is secure.
-use Rattle.std.proofs.Common.{◌≡◌, ℕ, zero, suc, Bool, true, false, List, [], ◌∷◌, ◌++◌, Some, None, is_some, refl, sym, ap, ◌∙◌, subst, arith, ◌&&◌, nat_le, append_assoc}
+use Rattle.std.proofs.Common.{◌≡◌, ℕ, zero, suc, Bool, true, false, List, [], ◌∷◌, ◌++◌, Some, None, is_some, refl, sym, ap, ◌∙◌, subst, ◌&&◌, nat_le, append_assoc}
 use Rattle.std.specs.Prelude.{slice_get, option_and_then, IsTrue}
 use Rattle.std.specs.Ordering.{nat_cmp}
 use Rattle.std.specs.Cmp.{nat_cmp_total}
@@ -7,7 +7,6 @@ use Rattle.std.specs.FinMap as map
 use Rattle.std.specs.FinMap.{FinMap}
 use Rattle.std.specs.FinSet as set
 use Rattle.std.specs.FinSet.{FinSet}
-use Rattle.std.proofs.lemmas.Bool.Decides.{nat_tests}
 use Rattle.mls_labels.specs.Label.{Label, dominates}
 use Rattle.mls_labels.proofs.Laws.{reflexive}
 use Rattle.mls_tables.specs.Triples.{Triple, triple_cmp}

@@ -10,9 +10,9 @@ use Rattle.mls_state.specs.declared.subject.Subject.{Subject}
 use Rattle.mls_state.specs.declared.subject.ObjectLabels.{ObjectLabels}
 use Rattle.mls_state.specs.State.{State, is_active}
 use Rattle.mls_state.specs.Properties.{is_known}
-use Rattle.mls_state.specs.First.{first_state, with_triples}
+use Rattle.mls_state.specs.First.{with_triples}
 use Rattle.mls_state.specs.Start.{opening}
-use Rattle.mls_state.specs.Standard.{standard_start, subject_rows, object_rows, cells, plain, secret}
+use Rattle.mls_state.specs.Standard.{standard_first, standard_start, subject_rows, object_rows, cells, plain, secret}
 use Rattle.mls_facts.specs.Numbered.{numbered}
 use Rattle.mls_facts.proofs.Numbered.{numbered-one, numbered-push, is_some-numbered}
 use Rattle.mls_facts.proofs.Entries.{at_new, elsewhere, by_number}
@@ -33,7 +33,7 @@ tool = record { security = plain 0; integrity = plain 0 }
 
 -- with the root alone, and with each object more
 abbrev pub with_root : State
-with_root = first_state subject_rows root (record { levels = 4; categories = 2 }) (record { levels = 2; categories = 0 })
+with_root = standard_first
 
 abbrev pub with_plans : State
 with_plans = grown with_root plans 0

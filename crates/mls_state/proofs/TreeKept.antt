@@ -1,5 +1,5 @@
 -- A change of the objects leaves them a tree, and the triples known.
-use Rattle.std.proofs.Common.{◌≡◌, ℕ, true, ◌&&◌, nat_eq, ◌<◌, refl, sym, ap, subst, ◌∙◌}
+use Rattle.std.proofs.Common.{◌≡◌, ℕ, true, nat_eq, ◌<◌, refl, sym, ap, subst, ◌∙◌}
 use Rattle.std.proofs.lemmas.Bool.{and_parts, and_from, or_right}
 use Rattle.std.specs.FinMap as map
 use Rattle.std.specs.FinSet as set

@@ -8,6 +8,8 @@ use Rattle.mls_tables.specs.declared.mode.Mode.TheVariants.{Execute, Read, Appen
 use Rattle.mls_state.specs.declared.subject.Subject.{Subject}
 use Rattle.mls_state.specs.declared.subject.ObjectLabels.{ObjectLabels}
 use Rattle.mls_facts.specs.Numbered.{numbered, places_of}
+use Rattle.mls_state.specs.State.{State}
+use Rattle.mls_state.specs.First.{first_state}
 use Rattle.mls_state.specs.Start.{Start}
 
 -- A label without categories. (own)
@@ -64,3 +66,7 @@ standard_start = record {
   security = record { levels = 4; categories = 2 };
   integrity = record { levels = 2; categories = 0 };
 }
+
+-- The first state of the standard start: its subjects and its root, and nothing permitted or accessed. (own)
+abbrev pub standard_first : State
+standard_first = first_state subject_rows (record { security = plain 0; integrity = plain 1 }) (record { levels = 4; categories = 2 }) (record { levels = 2; categories = 0 })

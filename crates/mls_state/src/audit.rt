@@ -2,7 +2,7 @@
 ghost use Rattle.std.specs.Prelude.{◌≡◌, ◌↔◌, IsTrue, All};
 ghost use Rattle.std.specs.List.{list_all};
 ghost use Rattle.mls_state.specs.State.{is_subject, is_active};
-ghost use Rattle.mls_state.specs.Properties.{IsSecure, HasTree, Each, is_known};
+ghost use Rattle.mls_state.specs.Properties.{IsSecure, HasTree, Each};
 ghost use Rattle.mls_state.specs.Audit.{access_holds, fits_parent, ceiling_holds, EachBelow, EachSubject};
 
 use crate::conditions::{discretionary_holds, integrity_holds, simple_holds, star_holds};

@@ -1,8 +1,8 @@
 //! A secure start.
-ghost use Rattle.std.specs.Prelude.{◌≡◌, IfOk};
+ghost use Rattle.std.specs.Prelude.{◌≡◌, IfOk, OnOk};
 ghost use Rattle.mls_state.specs.Properties.{IsSecure};
 ghost use Rattle.mls_state.specs.Start.{opening};
-ghost use Rattle.mls_state.specs.Standard.{standard_start};
+ghost use Rattle.mls_state.specs.Standard.{standard_first, standard_start};
 
 use crate::standard::{standard_cells, standard_objects, standard_subjects};
 use crate::state::State;
@@ -10,6 +10,20 @@ use mls_labels::Bounds;
 use mls_tables::ObjectId;
 use std::alloc::{AllocError, Allocator, Global};
 use std::marker::Model;
+
+/// Adds the objects below the root and the cells of the standard start.
+fn fill_standard<A: Allocator>(state: &mut State<A>) -> Result<(), AllocError>
+    requires { state.old ≡ standard_first }
+    ensures { OnOk result (state.new ≡ opening standard_start) }
+{
+    let [_, plans, memo, tool] = standard_objects();
+    let parent = ObjectId::new(0);
+    state.add_object(parent, plans)?;
+    state.add_object(parent, memo)?;
+    state.add_object(parent, tool)?;
+    state.permit_all(&standard_cells());
+    Ok(())
+}
 
 /// The tables that a monitor starts from: subjects with their labels, a tree of objects with theirs, and the matrix.
 /// Its opening is secure, always.
@@ -41,14 +55,10 @@ impl<A: Allocator + Clone> Start<A> {
     pub fn standard(alloc: A) -> Result<Start<A>, AllocError>
         ensures { IfOk result (λ start. start ≡ standard_start) }
     {
-        let [root, plans, memo, tool] = standard_objects();
+        let [root, _, _, _] = standard_objects();
         let (security, integrity) = (Bounds::new(4, 2), Bounds::new(2, 0));
         let mut state = State::first(alloc, &standard_subjects(), root, security, integrity)?;
-        let parent = ObjectId::new(0);
-        state.add_object(parent, plans)?;
-        state.add_object(parent, memo)?;
-        state.add_object(parent, tool)?;
-        state.permit_all(&standard_cells());
+        fill_standard(&mut state)?;
         // that the objects are a tree
         let _ = state.next();
         Ok(Start { state })

@@ -1,5 +1,5 @@
 //! The state: subjects, objects, the matrix and the current accesses.
-ghost use Rattle.std.specs.Prelude.{◌≡◌, ◌<◌, IsTrue, Some, IfSome, IfOk, OnOk, OnErr, not, nat_lt, ℕ};
+ghost use Rattle.std.specs.Prelude.{◌≡◌, ◌<◌, IsTrue, Some, IfSome, nat_lt, ℕ};
 ghost use Rattle.std.specs.FinMap as map;
 ghost use Rattle.std.specs.FinSet as set;
 ghost use Rattle.mls_tables.specs.declared.mode.Mode.{Mode};
@@ -10,10 +10,11 @@ use crate::subject::{ObjectLabels, Subject};
 use mls_labels::{Bounds, IntLabel, SecLabel};
 use mls_tables::{AccessSet, Matrix, Mode, Modes, ObjectId, SubjectId};
 use mls_tree::Tree;
-use std::alloc::{AllocError, Allocator, Global};
+use std::alloc::{Allocator, Global};
 use std::marker::Model;
 
 mod changes;
+mod copying;
 mod listing;
 mod making;
 mod removing;

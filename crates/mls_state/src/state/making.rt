@@ -1,17 +1,15 @@
-//! Making states: the first one of some subjects and the root, objects and cells joining it, and copies.
-ghost use Rattle.std.specs.Prelude.{◌≡◌, ◌<◌, ◌≤◌, ◌+◌, IsTrue, IfOk, OnOk, OnErr, length, All};
+//! Objects and cells that join a state.
+ghost use Rattle.std.specs.Prelude.{◌≡◌, ◌<◌, ◌≤◌, ◌+◌, IsTrue, OnOk, OnErr, All};
 ghost use Rattle.std.specs.FinSet as set;
 ghost use Rattle.std.specs.FinMap as map;
-ghost use Rattle.mls_tables.specs.declared.limits.TheConstants.{MAX_SUBJECTS, MAX_OBJECTS};
+ghost use Rattle.mls_tables.specs.declared.limits.TheConstants.{MAX_OBJECTS};
 ghost use Rattle.mls_state.specs.State.{is_subject, is_active};
 ghost use Rattle.mls_state.specs.Properties.{is_known};
-ghost use Rattle.mls_state.specs.First.{first_state, with_triples, SameCells};
+ghost use Rattle.mls_state.specs.First.{with_triples, SameCells};
 
 use crate::state::State;
-use crate::subject::{ObjectLabels, Subject};
-use mls_labels::Bounds;
+use crate::subject::ObjectLabels;
 use mls_tables::{AccessSet, Matrix, Mode, ObjectId, SubjectId};
-use mls_tree::Tree;
 use std::alloc::{AllocError, Allocator};
 
 /// Sees that the matrix has a column for the next object.
@@ -87,62 +85,5 @@ impl<A: Allocator> State<A> {
         for cell in cells {
             self.permit(cell.0, cell.1, cell.2);
         }
-    }
-}
-
-impl<A: Allocator + Clone> State<A> {
-    /// A state of these subjects and the root, in which nothing is permitted and nothing accessed.
-    pub(crate) fn first(
-        alloc: A,
-        subjects: &[Subject],
-        root: ObjectLabels,
-        security: Bounds,
-        integrity: Bounds,
-    ) -> Result<State<A>, AllocError>
-        requires some { 1 ≤ length subjects.now }
-        requires few { length subjects.now ≤ MAX_SUBJECTS }
-        ensures { IfOk result (λ v. v ≡ first_state subjects.now root security integrity) }
-    {
-        let count = subjects.len() as u16;
-        let mut matrix = Matrix::new(alloc.clone()?, count);
-        matrix.add_object()?;
-        let mut accesses = AccessSet::new(alloc.clone()?, count)?;
-        accesses.add_object()?;
-        let mut objects = Vec::new(alloc.clone()?);
-        objects.push(root)?;
-        let subjects = Vec::from_slice(alloc.clone()?, subjects)?;
-        let group = Vec::new(alloc.clone()?);
-        let tree = Tree::new(alloc)?;
-        // that the root alone is a tree
-        let _ = tree.next();
-        Ok(State {
-            subjects,
-            objects,
-            tree,
-            matrix,
-            accesses,
-            group,
-            security,
-            integrity,
-        })
-    }
-
-    /// A copy of the state, which takes no room to spare.
-    ///
-    /// # Errors
-    /// `AllocError` where an allocation failed.
-    pub fn duplicate(&self, alloc: A) -> Result<State<A>, AllocError>
-        ensures { IfOk result (λ v. v ≡ self.now) }
-    {
-        Ok(State {
-            subjects: Vec::from_slice(alloc.clone()?, &self.subjects)?,
-            objects: Vec::from_slice(alloc.clone()?, &self.objects)?,
-            tree: self.tree.duplicate(alloc.clone()?)?,
-            matrix: self.matrix.duplicate(alloc.clone()?)?,
-            accesses: self.accesses.duplicate(alloc.clone()?)?,
-            group: Vec::new(alloc),
-            security: self.security,
-            integrity: self.integrity,
-        })
     }
 }

@@ -1,4 +1,4 @@
-use Rattle.std.proofs.Common.{◌<◌, ◌≤◌, ◌∙◌, arith, get_or}
+use Rattle.std.proofs.Common.{◌<◌, ◌∙◌, arith, get_or}
 use Rattle.mls_tree.specs.Tree.{inferiors}
 use Rattle.mls_tree.proofs.Laws.{inferiors_below}
 use Rattle.mls_state.proofs.Removing.{ascending_inferiors}
