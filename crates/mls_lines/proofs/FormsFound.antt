@@ -1,9 +1,8 @@
 -- The tokens of a line are those of a form, and are read as that form is, or else they are read as of bad form.
-use Rattle.std.proofs.Common.{◌≡◌, ℕ, Bool, true, false, cond, ◌&&◌, ◌⊎◌, List, [], ◌∷◌, Option, Some, None, Result, Ok, Err, refl, sym, ap, ◌∙◌, inl, inr}
+use Rattle.std.proofs.Common.{◌≡◌, ℕ, true, false, cond, ◌&&◌, ◌⊎◌, List, [], ◌∷◌, Option, Some, None, Result, Ok, Err, refl, sym, ap, ◌∙◌, inl, inr}
 use Rattle.std.specs.Prelude.{◌==◌, codes, option_map}
 use Rattle.std.specs.Str.{bytes_eq}
 use Rattle.std.proofs.lemmas.Slice.Eq.{bytes_eq-Decides}
-use Rattle.mls_labels.specs.Names.{is_name}
 use Rattle.mls_tables.specs.declared.mode.Mode.{Mode}
 use Rattle.mls_requests.specs.declared.action_word.ActionWord.{ActionWord}
 use Rattle.mls_requests.specs.declared.action_word.ActionWord.TheVariants as word
@@ -18,7 +17,7 @@ use Rattle.mls_lines.specs.Fault.{both}
 use Rattle.mls_lines.specs.Forms.{Form, Empty, Note, Check, Get, Release, Give, Rescind, Create, Bind, Delete, Level, Relabel, tokens_in}
 use Rattle.mls_lines.specs.LineView.{LineView, Blank}
 use Rattle.mls_lines.specs.Names.{Names}
-use Rattle.mls_lines.specs.ScriptLine.{subject_of, object_of, object_operand, mode_and_object, cell_operands, create_operands, level_operand, relabel_operands, made_of, action_of, asked, submitted, command_of, command_line, created_by, binding_line, said_of}
+use Rattle.mls_lines.specs.ScriptLine.{subject_of, mode_and_object, cell_operands, made_of, action_of, asked, command_of, command_line, created_by, binding_line, said_of}
 use Rattle.mls_lines.specs.Tokens.{name_of, one_of, two_of, three_of}
 use Rattle.mls_lines.specs.Words.{check_word, word_of}
 use Rattle.mls_lines.proofs.FormsRead.{spoken, read_form}

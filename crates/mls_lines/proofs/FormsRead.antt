@@ -1,6 +1,6 @@
 -- How a line of each form is read: as what it means, or with the first fault of its parts.
 use Rattle.std.proofs.Common.{◌≡◌, ℕ, true, false, cond, List, [], ◌∷◌, Option, Some, None, Result, Ok, Err, refl, sym, ap, ◌∙◌, inl, inr}
-use Rattle.std.specs.Prelude.{◌==◌, All}
+use Rattle.std.specs.Prelude.{All}
 use Rattle.std.proofs.lemmas.List.Elements.{All-head}
 use Rattle.mls_labels.specs.Label.{Label}
 use Rattle.mls_labels.specs.Scheme.{IsScheme}
@@ -9,14 +9,13 @@ use Rattle.mls_tables.specs.declared.mode.Mode.{Mode}
 use Rattle.mls_tables.specs.declared.mode.Mode.TheVariants.{Execute, Read, Append, Write}
 use Rattle.mls_requests.specs.declared.action.Action.{Action}
 use Rattle.mls_requests.specs.declared.action.Action.TheVariants as action
-use Rattle.mls_requests.specs.declared.action_word.ActionWord.{ActionWord}
 use Rattle.mls_requests.specs.declared.action_word.ActionWord.TheVariants as word
 use Rattle.mls_requests.specs.ActionWords.{action_word}
 use Rattle.mls_requests.specs.ModeWords.{mode_word, read_mode}
 use Rattle.mls_requests.specs.declared.ask.Ask.{Ask}
 use Rattle.mls_requests.specs.declared.ask.Ask.TheVariants as ask
 use Rattle.mls_lines.specs.declared.fault.LineFault.{LineFault}
-use Rattle.mls_lines.specs.declared.fault.LineFault.TheVariants.{BadForm, UnknownName, BadLabel}
+use Rattle.mls_lines.specs.declared.fault.LineFault.TheVariants.{BadForm}
 use Rattle.mls_lines.specs.declared.command.Word.{Word}
 use Rattle.mls_lines.specs.declared.command.Word.TheVariants as asks
 use Rattle.mls_lines.specs.Fault.{both}

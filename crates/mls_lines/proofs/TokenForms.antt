@@ -1,5 +1,5 @@
 -- Tokens that name a subject, an object or a label by the grammar are just those that are read so.
-use Rattle.std.proofs.Common.{◌≡◌, ℕ, Bool, true, false, cond, List, [], ◌∷◌, Option, None, Some, Result, Ok, Err, refl, sym, ap, ◌∙◌, inl, inr, arith}
+use Rattle.std.proofs.Common.{◌≡◌, ℕ, Bool, true, false, cond, List, [], ◌∷◌, Option, None, Some, Result, Ok, Err, refl, ap, ◌∙◌, inl, inr, arith}
 use Rattle.std.specs.Prelude.{◌==◌}
 use Rattle.std.specs.List.{list_all}
 use Rattle.std.proofs.lemmas.Bool.{and_parts}
@@ -11,7 +11,7 @@ use Rattle.mls_labels.specs.Reading.{place_of, label_at}
 use Rattle.mls_labels.specs.LabelText as label
 use Rattle.mls_labels.specs.declared.label_fault.LabelFault.{LabelFault}
 use Rattle.mls_lines.specs.declared.fault.LineFault.{LineFault}
-use Rattle.mls_lines.specs.declared.fault.LineFault.TheVariants.{BadForm, UnknownName, BadLabel}
+use Rattle.mls_lines.specs.declared.fault.LineFault.TheVariants.{BadForm}
 use Rattle.mls_lines.specs.Labels.{is_label_byte, label_read, label_named}
 use Rattle.mls_lines.specs.Names.{Names, bound_to}
 use Rattle.mls_lines.specs.Numbers.{number_of}

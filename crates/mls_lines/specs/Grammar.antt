@@ -1,5 +1,5 @@
 -- What a line of a script says and for which fault it is refused: the grammar in its own shape, apart from how lines are read.
-use Rattle.std.specs.Prelude.{◌≡◌, ◌≤◌, ◌⊎◌, ℕ, IsTrue, List, [], ◌∷◌, length, None, Some, All, Contains}
+use Rattle.std.specs.Prelude.{◌≡◌, ◌≤◌, ◌⊎◌, ℕ, IsTrue, List, ◌∷◌, length, None, Some, All, Contains}
 use Rattle.std.specs.List.{list_all}
 use Rattle.std.specs.Fmt.{decimal}
 use Rattle.mls_labels.specs.Label.{Label}
