@@ -18,8 +18,8 @@ use Rattle.mls_tree.proofs.Ways.{above, above-zero, above-step, above-from_Reach
 use Rattle.mls_tree.proofs.Inferiors.{inferior_below, inferior_itself, inferior_below_next, Reaches-from_inferior}
 use Rattle.mls_tree.proofs.Listed.{parent_from_child, child_from_parent, list_any-children, list_any-inferiors, IsStrictlyIncreasing-children, IsStrictlyIncreasing-inferiors}
 
--- Of the inferiors of o those that were found, and of which the first i were looked at: what is found is an inferior; o is found; what is below one of the first i is
--- found; and what else is found is below one of them.
+-- Of the inferiors of o those that were found, of which the first i were looked at: what is found is an inferior; o is
+-- found; what is below one of the first i is found; and what else is found is below one of them.
 pub record Finds (h : Hierarchy) (o : ℕ) (found : List ℕ) (i : ℕ) : Type 0 where
   sound : (q : ℕ) → list_any (eqb q) found ≡ true → is_inferior h.parent q o ≡ true
   top : list_any (eqb o) found ≡ true

@@ -1,4 +1,5 @@
-//! Lists of objects in one piece of memory: each has a stretch of it, and moves to a longer one at the end when its own is full.
+//! Lists of objects in one piece of memory: each has a stretch of it, and moves to a longer one at the end when its own is
+//! full.
 ghost use Rattle.std.specs.Prelude.{◌≡◌, ◌+◌, ◌*◌, ◌<◌, ◌≤◌, ◌==◌, ◌++◌, [], ◌∷◌, not, length, take, drop, filter, slice_set, slice_index_or, IfOk, OnOk, OnErr, vec_len};
 ghost use Rattle.mls_tables.specs.declared.limits.TheConstants.{MAX_OBJECTS};
 ghost use Rattle.mls_tree.specs.Lists.{FindsRoom, list_at};
