@@ -1,9 +1,10 @@
 //! The program `mls`: without words it answers the script on standard input over the standard start.
 #![tactic(auto)]
 
-use mls_cli::{LoadFault, Names, ServeFault, serve, standard_start};
+use mls_cli::{LoadFault, Loaded, Names, ServeFault, serve, standard_start};
 use mls_labels::SchemeFault;
 use mls_monitor::Monitor;
+use mls_rules::Start;
 use std::alloc::Global;
 use std::env::FillError;
 use std::io::BufWriter;
@@ -56,15 +57,40 @@ fn serve_input(
         return Err(NO_MEMORY);
     };
     let mut reader = rt.stdin();
-    serve(rt.alloc(), names, monitor, 0, &mut reader, &mut writer).map_err(serve_line)
+    match serve(rt.alloc(), names, monitor, 0, &mut reader, &mut writer) {
+        Ok(entries) => Ok(entries),
+        Err(fault) => Err(serve_line(fault)),
+    }
 }
 
-/// Opens a monitor over the standard start, and answers the script over it.
+/// Opens a monitor over a start; there is none where memory ran out.
+fn open(rt: &HostRuntime, start: Start<Global>) -> Option<Monitor<Global>> {
+    Monitor::open(rt.alloc(), start).ok()
+}
+
+/// Answers the script over a start.
+fn serve_start(
+    rt: &HostRuntime,
+    names: &Names<Global>,
+    start: Start<Global>,
+) -> Result<u64, &'static str> {
+    match open(rt, start) {
+        Some(mut monitor) => serve_input(rt, names, &mut monitor),
+        None => Err(NO_MEMORY),
+    }
+}
+
+/// Answers the script over a start and its names.
+fn serve_loaded(rt: &HostRuntime, loaded: Loaded<Global>) -> Result<u64, &'static str> {
+    let Loaded { names, start } = loaded;
+    serve_start(rt, &names, start)
+}
+
+/// Answers the script over the standard start.
 fn serve_standard(rt: &HostRuntime) -> Result<u64, &'static str> {
-    let loaded = standard_start(rt.alloc()).map_err(start_line)?;
-    match Monitor::open(rt.alloc(), loaded.start) {
-        Ok(mut monitor) => serve_input(rt, &loaded.names, &mut monitor),
-        Err(_) => Err(NO_MEMORY),
+    match standard_start(rt.alloc()) {
+        Ok(loaded) => serve_loaded(rt, loaded),
+        Err(fault) => Err(start_line(fault)),
     }
 }
 

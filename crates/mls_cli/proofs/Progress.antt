@@ -6,8 +6,9 @@ use Rattle.std.proofs.KnownBytes.{Consumes-trans, Consumes-nil, Consumes-kept}
 use Rattle.std.specs.Io.KnownBytes.{Consumes, Keeps, IsAtEnd}
 use Rattle.mls_cli.specs.Lines.{lines_of, has_newline, open_part, closed_lines, kept_of}
 use Rattle.mls_lines.specs.Names.{Names}
-use Rattle.mls_lines.specs.ScriptLine.{LineView, Blank, Asks, line_of}
-use Rattle.mls_lines.specs.declared.ask.Ask.TheVariants.{Submit, Check}
+use Rattle.mls_lines.specs.LineView.{LineView, Blank, Asks}
+use Rattle.mls_lines.specs.ScriptLine.{line_of}
+use Rattle.mls_requests.specs.declared.ask.Ask.TheVariants.{Submit, Check}
 use Rattle.mls_lines.specs.declared.fault.LineFault.{LineFault}
 use Rattle.mls_cli.specs.Script.{Standing, after_lines, after_line, left_by}
 use Rattle.mls_cli.specs.Serve.{Answers, AnswersUnlessRefused, Fails, Takes, Due, Ends}

@@ -1,8 +1,12 @@
 -- What a writer took of a text.
-use Rattle.std.proofs.Common.{◌≡◌, ℕ, ◌-◌, arith, List, ◌++◌, Option, Result, Ok, Err, length, take, drop, sym, ap, ◌∙◌, subst, append_assoc, take-append-drop, length-append}
+use Rattle.std.proofs.Common.{◌≡◌, ℕ, ◌-◌, ◌≤◌, arith, List, [], ◌∷◌, ◌++◌, Option, Result, Ok, Err, length, take, drop, sym, ap, ◌∙◌, subst, append_assoc, take-append-drop, length-append}
 use Rattle.std.proofs.lemmas.Slice.{between_to_end}
-use Rattle.std.proofs.KnownBytes.{Appends-trans}
-use Rattle.std.specs.Io.KnownBytes.{Appends}
+use Rattle.mls_requests.specs.declared.reason.Reason.{Reason}
+use Rattle.mls_requests.specs.declared.reason.Reason.TheVariants.{Discretionary, Simple, Star, Integrity, Authority, Compatibility, Ceiling, Root, Full}
+use Rattle.mls_requests.specs.ReasonWords.{reason_word}
+use Rattle.mls_lines.specs.declared.fault.LineFault.{LineFault}
+use Rattle.mls_lines.specs.declared.fault.LineFault.TheVariants.{BadForm, UnknownName, BadLabel}
+use Rattle.mls_lines.specs.Fault.{fault_text}
 use Rattle.mls_cli.specs.Script.{Standing}
 use Rattle.mls_cli.specs.Serve.{Writes, Replies}
 use Rattle.mls_cli.specs.declared.serving.ServeFault.{ServeFault}
@@ -13,30 +17,29 @@ pub taken_more : (text written rest : List ℕ) (n : ℕ) → text ≡ written +
 taken_more text written rest n whole =
     whole ∙ ap (λ r. written ++ r) (sym (ap (λ d. take n rest ++ d) (between_to_end rest n (length rest) (omega arith)) ∙ take-append-drop n rest)) ∙ sym (append_assoc written (take n rest) _)
 
--- a text, and then another
-pub Writes-then : {X : Type 0} (a b c : Option (List ℕ)) (first second : List ℕ) (result : Result X ServeFault)
-    → Appends a b first → Writes b c second result → Writes a c (first ++ second) result
-Writes-then a b c first second (Ok x) p q = Appends-trans a b c first second p q
-Writes-then a b c first second (Err Read) p q = q
-Writes-then a b c first second (Err Write) p (taken, lost, parts, short, written) =
-    (first ++ taken, lost, ap (λ t. first ++ t) parts ∙ sym (append_assoc first taken lost), short, Appends-trans a b c first taken p written)
-Writes-then a b c first second (Err Memory) p q = q
-Writes-then a b c first second (Err TooLong) p q = q
+-- every reason's word has room in a line
+pub reason_fits : (r : Reason) → length (reason_word r) ≤ 40
+reason_fits Discretionary = omega arith
+reason_fits Simple = omega arith
+reason_fits Star = omega arith
+reason_fits Integrity = omega arith
+reason_fits Authority = omega arith
+reason_fits Compatibility = omega arith
+reason_fits Ceiling = omega arith
+reason_fits Root = omega arith
+reason_fits Full = omega arith
 
--- a text that broke off, where another was to follow
-pub Writes-cut : (a b : Option (List ℕ)) (first second : List ℕ) (fault : ServeFault)
-    → Writes {X = Unit {0}} a b first (Err fault) → Writes {X = Unit {0}} a b (first ++ second) (Err fault)
-Writes-cut a b first second Read q = q
-Writes-cut a b first second Write (taken, lost, parts, short, written) =
-    (taken, lost ++ second, ap (λ t. t ++ second) parts ∙ append_assoc taken lost second, simp length-append (omega (arith, short)), written)
-Writes-cut a b first second Memory q = q
-Writes-cut a b first second TooLong q = q
+-- every fault's text has
+pub fault_fits : (f : LineFault) → length (fault_text f) ≤ 40
+fault_fits BadForm = omega arith
+fault_fits UnknownName = omega arith
+fault_fits BadLabel = omega arith
 
--- a text that broke off between two others
-pub Writes-middle : (a b c : Option (List ℕ)) (front text middle back : List ℕ) (fault : ServeFault) → text ≡ middle
-    → Appends a b front → Writes {X = Unit {0}} b c text (Err fault) → Writes {X = Unit {0}} a c (front ++ (middle ++ back)) (Err fault)
-Writes-middle a b c front text middle back fault is p q =
-    Writes-then {X = Unit {0}} a b c front (middle ++ back) (Err fault) p (Writes-cut b c middle back fault (subst (λ t. Writes {X = Unit {0}} b c t (Err fault)) is q))
+-- two words that are those of a text
+pub written_pair : {X : Type 0} (held holds : Option (List ℕ)) (first second word told : List ℕ) (result : Result X ServeFault) → first ≡ word → second ≡ told
+    → Writes held holds (first ++ 32 ∷ second ++ 10 ∷ []) result → Writes held holds (word ++ 32 ∷ told ++ 10 ∷ []) result
+written_pair held holds first second word told result same_word same_told w =
+    subst (λ f. Writes held holds (f ++ 32 ∷ told ++ 10 ∷ []) result) same_word (subst (λ s. Writes held holds (first ++ 32 ∷ s ++ 10 ∷ []) result) same_told w)
 
 -- an answer that was written, or broke off, after its line was asked
 pub written_reply : {X : Type 0} (held holds : Option (List ℕ)) (before after next : Standing) (text : List ℕ) (result : Result X ServeFault)

@@ -1,50 +1,24 @@
 -- What the lines of a script are answered, and what they leave.
 use Rattle.std.specs.Prelude.{ℕ, List, [], ◌∷◌, ◌++◌, length, codes, Bool, true, false, Option, Some, None, Result, Ok, Err}
-use Rattle.std.specs.Fmt.{decimal}
 use Rattle.std.specs.FinSet as set
-use Rattle.mls_rules.specs.State.{State}
-use Rattle.mls_rules.specs.Start.{Start, opening}
+use Rattle.mls_state.specs.State.{State}
+use Rattle.mls_state.specs.Start.{Start, opening}
 use Rattle.mls_rules.specs.Rules.{reply}
-use Rattle.mls_rules.specs.declared.request.Request.{Request}
-use Rattle.mls_rules.specs.declared.request.Reason.{Reason}
-use Rattle.mls_rules.specs.declared.request.Reason.TheVariants.{Discretionary, Simple, Star, Integrity, Authority, Compatibility, Ceiling, Root, Full}
-use Rattle.mls_rules.specs.declared.request.Reply.{Reply}
-use Rattle.mls_rules.specs.declared.request.Reply.TheVariants.{Yes, Created, No, Undefined}
-use Rattle.mls_monitor.specs.declared.entry.Entry.{Entry}
+use Rattle.mls_requests.specs.declared.request.Request.{Request}
+use Rattle.mls_requests.specs.declared.reply.Reply.{Reply}
+use Rattle.mls_requests.specs.declared.reply.Reply.TheVariants.{Yes, Created, No, Undefined}
+use Rattle.mls_requests.specs.declared.entry.Entry.{Entry}
 use Rattle.mls_monitor.specs.Journal.{Monitor, fold}
-use Rattle.mls_lines.specs.declared.ask.Ask.TheVariants.{Submit, Check}
+use Rattle.mls_requests.specs.declared.ask.Ask.TheVariants.{Submit, Check}
 use Rattle.mls_lines.specs.declared.fault.LineFault.{LineFault}
-use Rattle.mls_lines.specs.declared.fault.LineFault.TheVariants.{BadForm, UnknownName, BadLabel}
 use Rattle.mls_cli.specs.declared.answer.Answer.{Answer}
 use Rattle.mls_cli.specs.declared.answer.Answer.TheVariants.{Nothing, Fault, Held, Replied}
+use Rattle.mls_requests.specs.ReplyWords.{reply_text}
+use Rattle.mls_lines.specs.Fault.{fault_text}
 use Rattle.mls_lines.specs.Names.{Names}
-use Rattle.mls_lines.specs.ScriptLine.{LineView, Blank, Asks, line_of}
+use Rattle.mls_lines.specs.LineView.{LineView, Blank, Asks}
+use Rattle.mls_lines.specs.ScriptLine.{line_of}
 use Rattle.mls_lines.specs.Vars.{with_binding}
-
--- The word of a reason. (own)
-abbrev pub reason_word : Reason → List ℕ
-reason_word Discretionary = codes "discretionary"
-reason_word Simple = codes "simple"
-reason_word Star = codes "star"
-reason_word Integrity = codes "integrity"
-reason_word Authority = codes "authority"
-reason_word Compatibility = codes "compatibility"
-reason_word Ceiling = codes "ceiling"
-reason_word Root = codes "root"
-reason_word Full = codes "full"
-
--- The text of a reply. (own)
-abbrev pub reply_text : Reply → List ℕ
-reply_text Yes = codes "yes"
-reply_text (Created o) = codes "created " ++ decimal o
-reply_text (No reason) = codes "no " ++ reason_word reason
-reply_text Undefined = codes "undefined"
-
--- The text of a line's fault. (own)
-abbrev pub fault_text : LineFault → List ℕ
-fault_text BadForm = codes "bad form"
-fault_text UnknownName = codes "bad name"
-fault_text BadLabel = codes "bad label"
 
 -- The text that tells whether an access is held. (own)
 abbrev pub held_text : Bool → List ℕ

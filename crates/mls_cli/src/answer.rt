@@ -5,9 +5,9 @@ ghost use Rattle.mls_monitor.specs.Journal.{state_of};
 ghost use Rattle.mls_lines.specs.ScriptLine.{line_of};
 ghost use Rattle.mls_cli.specs.Script.{standing_of, said_to, left_by, vars_after, entry_for};
 
-use mls_lines::{Ask, Line, LineFault, Names, Vars, read_line};
+use mls_lines::{Line, LineFault, Names, Vars, read_line};
 use mls_monitor::Monitor;
-use mls_rules::{Reply, Request};
+use mls_requests::{Ask, Reply, Request};
 use std::alloc::{AllocError, Allocator};
 
 /// The answer to a line.

@@ -1,11 +1,11 @@
 //! A start with the names that its lines may use.
 ghost use Rattle.std.specs.Prelude.{◌≡◌, IfOk, IfErr};
-ghost use Rattle.mls_rules.specs.Standard as rules;
+ghost use Rattle.mls_state.specs.Standard as rules;
 ghost use Rattle.mls_cli.specs.Standard.{standard_names};
 
 use mls_labels::{Scheme, SchemeFault};
 use mls_lines::Names;
-use mls_rules::Start;
+use mls_state::Start;
 use std::alloc::{AllocError, Allocator, Global};
 use thiserror::Error;
 
@@ -65,7 +65,10 @@ fn standard_names<A: Allocator + Copy>(alloc: A) -> Result<Names<A>, LoadFault>
     let integrity = Scheme::new(alloc, &["lo", "hi"], &[])?;
     let subjects = ["ann", "bob", "sec", "aud"];
     let objects = ["root", "plans", "memo", "tool"];
-    let names = Names::new(alloc, &subjects, &objects, security, integrity)?;
+    // These names have no fault of their own, so that memory is all that can fail.
+    let Ok(names) = Names::new(alloc, &subjects, &objects, security, integrity) else {
+        return Err(LoadFault::Memory);
+    };
     Ok(names)
 }
 

@@ -1,17 +1,22 @@
 //! Writing answers.
-ghost use Rattle.std.specs.Prelude.{◌≡◌, ◌++◌, ◌∷◌, ◌⊎◌, [], List, ℕ, codes, Err, false};
-ghost use Rattle.std.specs.Fmt.{decimal};
+ghost use Rattle.std.specs.Prelude.{◌≡◌, ◌≤◌, ◌++◌, ◌∷◌, ◌⊎◌, [], List, ℕ, length, Err, false};
 ghost use Rattle.std.specs.Io.KnownBytes.{Keeps};
-ghost use Rattle.mls_cli.specs.Script.{reason_word, reply_text, answer_bytes};
+ghost use Rattle.mls_requests.specs.ReplyWords.{reply_text};
+ghost use Rattle.mls_cli.specs.Script.{answer_bytes};
 ghost use Rattle.mls_cli.specs.Serve.{Writes};
 
 use crate::answer::Answer;
 use crate::serving::ServeFault;
+use arrayvec::ArrayString;
 use itoa::Buffer;
-use mls_lines::LineFault;
-use mls_rules::{Reason, Reply};
-use mls_tables::ObjectId;
+use mls_requests::{Reply, ReplyWord};
 use std::io::Write;
+
+/// The most bytes of a word of an answer; a number has fewer, too.
+const LONGEST_WORD: usize = 40;
+
+/// Room for a line of two words.
+const LINE_ROOM: usize = 2 * LONGEST_WORD + 2;
 
 /// Hands bytes to a writer until all are taken. A write that fails or takes nothing is a fault.
 fn write_out<W: Write>(writer: &mut W, text: &[u8]) -> Result<(), ServeFault>
@@ -27,57 +32,70 @@ fn write_out<W: Write>(writer: &mut W, text: &[u8]) -> Result<(), ServeFault>
     Ok(())
 }
 
-/// The line that answers a denied request.
-fn denial_line(reason: Reason) -> &'static [u8]
-    ensures { result.now ≡ codes "no " ++ reason_word reason ++ 10 ∷ [] }
+/// Writes a text as a line. The line is made up first, so that the writer is handed it at once.
+///
+/// # Errors
+/// `Write` where the writer failed.
+fn write_line<W: Write>(writer: &mut W, text: &str) -> Result<(), ServeFault>
+    requires { length text.now ≤ LONGEST_WORD }
+    ensures { Writes (W.contents writer.old) (W.contents writer.new) (text.now ++ 10 ∷ []) result }
 {
-    match reason {
-        Reason::Discretionary => b"no discretionary\n",
-        Reason::Simple => b"no simple\n",
-        Reason::Star => b"no star\n",
-        Reason::Integrity => b"no integrity\n",
-        Reason::Authority => b"no authority\n",
-        Reason::Compatibility => b"no compatibility\n",
-        Reason::Ceiling => b"no ceiling\n",
-        Reason::Root => b"no root\n",
-        Reason::Full => b"no full\n",
-    }
+    let mut line = ArrayString::<LINE_ROOM>::new();
+    line.push_str(text);
+    line.push_str("\n");
+    write_out(writer, line.as_str().as_bytes())
 }
 
-/// Writes the answer to a request that made an object.
-fn write_created<W: Write>(writer: &mut W, object: ObjectId) -> Result<(), ServeFault>
-    ensures { Writes (W.contents writer.old) (W.contents writer.new) (codes "created " ++ decimal object ++ 10 ∷ []) result }
+/// Writes two words as a line, with a space between them. The line is made up first, so that the writer is handed it at once.
+///
+/// # Errors
+/// `Write` where the writer failed.
+fn write_pair<W: Write>(writer: &mut W, first: &str, second: &str) -> Result<(), ServeFault>
+    requires first { length first.now ≤ LONGEST_WORD }
+    requires second { length second.now ≤ LONGEST_WORD }
+    ensures { Writes (W.contents writer.old) (W.contents writer.new) (first.now ++ 32 ∷ second.now ++ 10 ∷ []) result }
 {
-    let mut buffer = Buffer::new();
-    let digits = buffer.format(object.number());
-    write_out(writer, b"created ")?;
-    write_out(writer, digits.as_bytes())?;
-    write_out(writer, b"\n")
+    let mut line = ArrayString::<LINE_ROOM>::new();
+    line.push_str(first);
+    line.push_str(" ");
+    line.push_str(second);
+    line.push_str("\n");
+    write_out(writer, line.as_str().as_bytes())
 }
 
 /// Writes a reply.
+///
+/// # Errors
+/// `Write` where the writer failed.
+#[tactic(auto, using(crate::proofs::Texts::reason_fits))]
 fn write_reply<W: Write>(writer: &mut W, reply: Reply) -> Result<(), ServeFault>
     ensures { Writes (W.contents writer.old) (W.contents writer.new) (reply_text reply ++ 10 ∷ []) result }
 {
     match reply {
-        Reply::Yes => write_out(writer, b"yes\n"),
-        Reply::Created(object) => write_created(writer, object),
-        Reply::No(reason) => write_out(writer, denial_line(reason)),
-        Reply::Undefined => write_out(writer, b"undefined\n"),
+        Reply::Yes => write_line(writer, ReplyWord::Yes.word()),
+        Reply::Created(object) => {
+            let mut buffer = Buffer::new();
+            let number = buffer.format(object.number());
+            write_pair(writer, ReplyWord::Created.word(), number)
+        }
+        Reply::No(reason) => write_pair(writer, ReplyWord::No.word(), reason.word()),
+        Reply::Undefined => write_line(writer, ReplyWord::Undefined.word()),
     }
 }
 
 /// Writes an answer.
+///
+/// # Errors
+/// `Write` where the writer failed.
+#[tactic(auto, using(crate::proofs::Texts::fault_fits))]
 pub fn write_answer<W: Write>(writer: &mut W, answer: Answer) -> Result<(), ServeFault>
     ensures { Writes (W.contents writer.old) (W.contents writer.new) (answer_bytes answer) result }
 {
     match answer {
         Answer::Nothing => Ok(()),
-        Answer::Fault(LineFault::BadForm) => write_out(writer, b"bad form\n"),
-        Answer::Fault(LineFault::UnknownName) => write_out(writer, b"bad name\n"),
-        Answer::Fault(LineFault::BadLabel) => write_out(writer, b"bad label\n"),
-        Answer::Held(true) => write_out(writer, b"held\n"),
-        Answer::Held(false) => write_out(writer, b"not held\n"),
+        Answer::Fault(fault) => write_line(writer, fault.text()),
+        Answer::Held(true) => write_line(writer, "held"),
+        Answer::Held(false) => write_line(writer, "not held"),
         Answer::Replied(reply) => write_reply(writer, reply),
     }
 }

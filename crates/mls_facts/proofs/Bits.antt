@@ -4,14 +4,12 @@ use Rattle.std.specs.Int.{bit_at}
 use Rattle.std.specs.FinSet.{contains}
 use Rattle.std.proofs.lemmas.Nat.Bits.{bit_at-lt, same_from_bits_below, bit_at_cat_low, bit_at_cat_high, bit_at_above, bit_at-zero}
 use Rattle.std.proofs.Common.{◌-◌, ◌⊎◌, inl, inr, arith, ◌∙◌, ap}
-use Rattle.std.proofs.lemmas.Bool.{cases_lt, cases_eq}
+use Rattle.std.proofs.lemmas.Bool.{cases_lt, cases_eq, le-ltb, lt-ltb}
+use Rattle.std.proofs.Math.Nat.{sub_self}
 use Rattle.std.proofs.lemmas.Bool.Decides.{nat_tests}
 use Rattle.mls_facts.specs.Bits.{has_bit, number_of}
 use Rattle.mls_facts.specs.Passing.{passing}
-use Rattle.mls_facts.proofs.Passing.{contains-passing, true_below}
-
-none_below_zero : (p : ℕ → Bool) (q : ℕ) → (nat_lt q 0 && p q) ≡ false
-none_below_zero p q = let none : nat_lt q 0 ≡ false = grind (arith, nat_tests) in ap (λ b. b && p q) none
+use Rattle.mls_facts.proofs.Passing.{contains-passing, none_below_zero}
 
 pub number_of-lt : (p : ℕ → Bool) (n : ℕ) → number_of p n < 2 ^ n
 unfolding number_of
@@ -28,18 +26,12 @@ high_bit : (b : Bool) (k : ℕ) → bit_at (cond b 1 0) (suc k) ≡ 0
 high_bit true k = bit_at_above 1 1 (suc k) (omega arith) (omega arith)
 high_bit false k = bit_at-zero (suc k)
 
-false_from : (i n : ℕ) → n ≤ i → nat_lt i n ≡ false
-false_from i n h = grind (arith, nat_tests)
-
-itself_less : (n : ℕ) → n - n ≡ 0
-itself_less n = omega arith
-
 bit_at-step : (p : ℕ → Bool) (n i rest : ℕ) → rest < 2 ^ n → bit_at rest i ≡ cond (nat_lt i n && p i) 1 0 → (i < n) ⊎ (n ≤ i) → (i ≡ n) ⊎ (i ≡ n → ⊥) → bit_at (cond (p n) 1 0 * 2 ^ n + rest) i ≡ cond (nat_lt i (suc n) && p i) 1 0
-bit_at-step p n i rest small bits (inl below) _ = bit_at_cat_low _ n _ i below ∙ bits ∙ rw (true_below i n below, true_below i (suc n) (omega arith)) refl
-bit_at-step p n i rest small bits (inr from) (inl same) = bit_at_cat_high _ n rest i small from ∙ rw (same, true_below n (suc n) (omega arith), itself_less n) (low_bit (p n))
+bit_at-step p n i rest small bits (inl below) _ = bit_at_cat_low _ n _ i below ∙ bits ∙ rw (lt-ltb i n below, lt-ltb i (suc n) (omega arith)) refl
+bit_at-step p n i rest small bits (inr from) (inl same) = bit_at_cat_high _ n rest i small from ∙ rw (same, lt-ltb n (suc n) (omega arith), sub_self n) (low_bit (p n))
 bit_at-step p n i rest small bits (inr from) (inr other) =
     let at : i - n ≡ suc (i - n - 1) = omega arith in
-    bit_at_cat_high _ n rest i small from ∙ rw (at, false_from i (suc n) (omega arith)) (high_bit (p n) _)
+    bit_at_cat_high _ n rest i small from ∙ rw (at, le-ltb i (suc n) (omega arith)) (high_bit (p n) _)
 
 -- the bits of a number given by a test are that test
 pub bit_at-number_of : (p : ℕ → Bool) (n i : ℕ) → bit_at (number_of p n) i ≡ cond (nat_lt i n && p i) 1 0
@@ -52,5 +44,9 @@ pub one_bit : (b : ℕ) → b < 2 → cond (nat_eq b 1) 1 0 ≡ b
 one_bit b h = grind (arith, nat_tests)
 
 -- the number of the bits of a number is that number
+pub number_of-has_bit : (n b : ℕ) → b < 2 ^ n → number_of (has_bit b) n ≡ b
+number_of-has_bit n b h = same_from_bits_below n _ b (number_of-lt _ n) h (λ i within. bit_at-number_of _ n i ∙ rw (lt-ltb i n within) (one_bit _ (bit_at-lt b i)))
+
+-- and so where the bits are a set of numbers
 pub number_of-bits : (n b : ℕ) → b < 2 ^ n → number_of (contains (passing (has_bit b) n)) n ≡ b
-number_of-bits n b h = same_from_bits_below n _ b (number_of-lt _ n) h (λ i within. bit_at-number_of _ n i ∙ rw (contains-passing (has_bit b) n i, true_below i n within) (one_bit _ (bit_at-lt b i)))
+number_of-bits n b h = same_from_bits_below n _ b (number_of-lt _ n) h (λ i within. bit_at-number_of _ n i ∙ rw (contains-passing (has_bit b) n i, lt-ltb i n within) (one_bit _ (bit_at-lt b i)))

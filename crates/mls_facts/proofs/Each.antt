@@ -7,6 +7,7 @@ use Rattle.std.specs.Cmp.{IsTotalOrder, tied_itself, Equal-is}
 use Rattle.std.specs.FinSet as set
 use Rattle.std.specs.FinSet.{FinSet, IsAntisymmetric}
 use Rattle.std.proofs.Common.{sym, ap, ◌∙◌}
+use Rattle.std.proofs.Math.Bool.{or-true}
 use Rattle.mls_facts.specs.Each.{each}
 
 module _ {K : Type 0} (p : K → Bool) where
@@ -26,10 +27,7 @@ module _ {K : Type 0} (p : K → Bool) where
   all_of_each (x ∷ xs) e itself known =
       let first : p x ≡ true = known x (ap (λ b. b || list_any (e x) xs) (itself x)) in
       let rest : list_all p xs ≡ true = all_of_each xs e itself (λ q one. known q (ap (λ b. e q x || b) one ∙ or-true (e q x))) in
-      ap (λ b. b && list_all p xs) first ∙ rest where
-        or-true : (b : Bool) → (b || true) ≡ true
-        or-true true = refl
-        or-true false = refl
+      ap (λ b. b && list_all p xs) first ∙ rest
 
 module _ {K : Type 0} {R : K → K → Ordering} (o : IsTotalOrder R) (exact : IsAntisymmetric R) where
   -- what passes for each member passes for one of them

@@ -1,4 +1,13 @@
 pub mod Bits
+pub mod Distinct
 pub mod Each
+pub mod Entries
+pub mod Filters
+pub mod Increasing
+pub mod Keys
+pub mod Lists
 pub mod Numbered
 pub mod Passing
+pub mod Places
+pub mod Ranges
+pub mod Sets

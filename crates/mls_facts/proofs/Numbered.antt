@@ -6,11 +6,11 @@ use Rattle.std.specs.FinMap as map
 use Rattle.std.specs.FinSet as set
 use Rattle.std.specs.FinMap.{FinMap, nat_cmp-IsAntisymmetric}
 use Rattle.std.proofs.Common.{◌⊎◌, inl, inr, arith, sym, ◌∙◌, ap, get_or}
-use Rattle.std.proofs.lemmas.Bool.{cases_lt}
+use Rattle.std.proofs.lemmas.Bool.{cases_lt, lt-ltb}
 use Rattle.std.proofs.lemmas.Bool.Decides.{nat_tests}
 use Rattle.std.proofs.lemmas.Option.{slice_get_past, slice_get_read}
 use Rattle.mls_facts.specs.Numbered.{with_entry, numbered_from, numbered, holds_of, places_of}
-use Rattle.mls_facts.proofs.Passing.{contains-passing, true_below}
+use Rattle.mls_facts.proofs.Passing.{contains-passing}
 
 module _ {X : Type 0} where
   get-with_entry_same : (e : Option X) (k : ℕ) (m : FinMap nat_cmp X) → map.get m k ≡ None → map.get (with_entry e k m) k ≡ e
@@ -68,7 +68,7 @@ module _ {A X : Type 0} (f : A → Option X) where
 pub contains-passing-read : {A : Type 0} (test : A → Bool) (items : List A) (n : ℕ) (x : A) → n < length items → x ≡ get_or items n x → set.contains (places_of test items) n ≡ test x
 contains-passing-read test items n x within is =
     contains-passing (λ k. holds_of test (slice_get items k)) (length items) n
-    ∙ (λ i. true_below n (length items) within i && holds_of test (slice_get_read items (length items) n x refl within is i))
+    ∙ (λ i. lt-ltb n (length items) within i && holds_of test (slice_get_read items (length items) n x refl within is i))
 
 -- what the map has past the list
 pub get-numbered-past : {A X : Type 0} (f : A → Option X) (items : List A) (n : ℕ) → length items ≤ n → map.get (numbered f items) n ≡ None
@@ -111,3 +111,11 @@ numbered-one f a x is = rw is refl
 pub numbered-none : {A X : Type 0} (f : A → Option X) (a : A) → f a ≡ None → numbered f (a ∷ []) ≡ map.empty
 unfolding numbered
 numbered-none f a is = rw is refl
+
+-- where the items of a list may be missing: the map of those that are there has at a place what the list has
+pub get-numbered-option : {X : Type 0} (items : List (Option X)) (n : ℕ) → map.get (numbered (λ x. x) items) n ≡ get_or items n None
+get-numbered-option {X = X} items n = get-numbered (λ x. x) items n ∙ read items n where
+  read : (items : List (Option X)) (n : ℕ) → option_and_then (λ x. x) (slice_get items n) ≡ get_or items n None
+  read [] n = refl
+  read (x ∷ items) zero = refl
+  read (x ∷ items) (suc n) = read items n

@@ -15,7 +15,7 @@ next_false : (t : Bool) (p : ℕ → Bool) (n q : ℕ) → nat_eq q n ≡ t → 
 next_false true p n q is e = let same : q ≡ n = grind (arith, nat_tests, is) in rw same (grind (arith, nat_tests, e))
 next_false false p n q is e = grind (arith, nat_tests, is)
 
-none_below_zero : (p : ℕ → Bool) (q : ℕ) → (nat_lt q 0 && p q) ≡ false
+pub none_below_zero : (p : ℕ → Bool) (q : ℕ) → (nat_lt q 0 && p q) ≡ false
 none_below_zero p q = let none : nat_lt q 0 ≡ false = grind (arith, nat_tests) in ap (λ b. b && p q) none
 
 in_passing : (b : Bool) (p : ℕ → Bool) (n q : ℕ) (s : FinSet nat_cmp) → p n ≡ b → contains s q ≡ (nat_lt q n && p q) → contains (cond b (insert s n) s) q ≡ (nat_lt q (suc n) && p q)

@@ -1,4 +1,6 @@
 pub mod Bits
 pub mod Each
+pub mod Keys
 pub mod Numbered
 pub mod Passing
+pub mod Sets

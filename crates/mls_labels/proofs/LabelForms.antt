@@ -2,7 +2,7 @@
 use Rattle.std.specs.Prelude.{◌≡◌, ℕ, suc, ◌+◌, Bool, true, false, cond, ◌&&◌, nat_eq, List, [], ◌∷◌, take, drop, refl}
 use Rattle.std.specs.List.{list_all, prefix_len, onto_first}
 use Rattle.std.proofs.Common.{inl, inr, arith, sym, ap, ◌∙◌}
-use Rattle.std.proofs.lemmas.Bool.{and_parts, both_ways}
+use Rattle.std.proofs.lemmas.Bool.{and_parts, both_ways, eqb-true}
 use Rattle.std.specs.Cmp.Derive.{both_true}
 use Rattle.std.proofs.lemmas.Bool.Decides.{nat_tests}
 use Rattle.mls_labels.specs.Names.{is_name, is_name_byte}
@@ -24,9 +24,6 @@ not_colon b h = elim (nat_eq b 58) as (λ t. nat_eq b 58 ≡ t → nat_eq b 58 �
   | true ↦ λ e. let is : b ≡ 58 = grind (arith, nat_tests, e) in absurd (both_ways (is_name_byte 58) refl (rw is at h))
   | false ↦ λ e. e
 ] refl
-
-same_number : (a b : ℕ) → nat_eq a b ≡ true → a ≡ b
-same_number a b h = grind (arith, nat_tests, h)
 
 -- the words of a text are those between its commas
 pub words_are : (text : List ℕ) (words : List (List ℕ)) → AreWords text words → words_of text ≡ words
@@ -55,7 +52,7 @@ pub are_words : (text : List ℕ) → list_all clean (words_of text) ≡ true �
 are_words [] h = refl
 are_words (b ∷ text) h =
     elim (nat_eq b 44) as (λ t. nat_eq b 44 ≡ t → list_all clean (cond t ([] ∷ words_of text) (onto_first b (words_of text))) ≡ true → AreWords (b ∷ text) (cond t ([] ∷ words_of text) (onto_first b (words_of text)))) [
-      | true ↦ λ e h. inl (same_number b 44 e, words_of text, refl, are_words text h)
+      | true ↦ λ e h. inl (eqb-true b 44 e, words_of text, refl, are_words text h)
       | false ↦ λ e h. let more = first_part text in goes_on b text more.0 more.1 more.2 (are_words text) h
     ] refl h
 

@@ -1,16 +1,17 @@
 -- Reading a label text gives the label that it spells, or the fault for which it is refused.
 use Rattle.std.specs.Prelude.{◌≡◌, ◌<◌, ℕ, Bool, true, false, cond, ◌&&◌, ◌||◌, nat_eq, nat_lt, IsTrue, List, [], ◌∷◌, ◌++◌, length, Option, None, Some, Result, Ok, Err, IfOk, IfErr, slice_get, refl}
 use Rattle.std.specs.Ordering.{nat_cmp}
+use Rattle.std.specs.Cmp as cmp
 use Rattle.std.specs.Cmp.{nat_cmp_total, unsigned_tied}
 use Rattle.std.specs.List.{list_all}
 use Rattle.std.specs.FinSet.{FinSet, empty, insert, contains, contains-empty, contains-insert, same_set, nat_cmp-IsAntisymmetric}
 use Rattle.std.proofs.Common.{◌⊎◌, inl, inr, arith, sym, ap, ◌∙◌, subst, append-nil}
-use Rattle.std.proofs.lemmas.Bool.{and_parts, both_ways}
+use Rattle.std.proofs.lemmas.Bool.{and_parts, both_ways, eq-eqb, eqb-true, lt-ltb, or_cases, or_right}
 use Rattle.std.proofs.lemmas.Bool.Decides.{nat_tests}
 use Rattle.std.proofs.lemmas.List.{append_assoc}
 use Rattle.std.proofs.lemmas.Option.{slice_get_within}
-use Rattle.mls_labels.specs.CategoryBits.{same_tests, true_below}
-use Rattle.mls_labels.specs.Each.{each, contains-each}
+use Rattle.mls_facts.specs.Each.{each}
+use Rattle.mls_facts.proofs.Each.{contains-each}
 use Rattle.std.specs.Cmp.Derive.{both_true}
 use Rattle.mls_labels.specs.Label.{Label, has_label}
 use Rattle.mls_labels.specs.Names.{is_name, has_twice}
@@ -66,14 +67,11 @@ module _ (names : List (List ℕ)) (once : has_twice names ≡ false) where
   tied q n s = contains-insert nat_cmp_total s n q ∙ ap (λ b. b || contains s q) (unsigned_tied q n)
 
   same_or : (q n : ℕ) (b : Bool) → (nat_eq q n || b) ≡ true → (q ≡ n) ⊎ (b ≡ true)
-  same_or q n b h = elim (nat_eq q n) as (λ t. nat_eq q n ≡ t → (t || b) ≡ true → (q ≡ n) ⊎ (b ≡ true)) [
-    | true ↦ λ e _. let same : q ≡ n = grind (arith, nat_tests, e) in inl same
-    | false ↦ λ _ h. inr h
-  ] refl h
+  same_or q n b h = elim (or_cases (nat_eq q n) b h) [ inl e ↦ inl (eqb-true q n e) | inr e ↦ inr e ]
 
   or_same : (q n : ℕ) (b : Bool) → (q ≡ n) ⊎ (b ≡ true) → (nat_eq q n || b) ≡ true
-  or_same q n b (inl e) = let t : nat_eq q n ≡ true = grind (arith, nat_tests, e) in rw t refl
-  or_same q n b (inr e) = elim (nat_eq q n) as (λ t. (t || b) ≡ true) [ true ↦ refl | false ↦ e ]
+  or_same q n b (inl e) = rw (eq-eqb q n e) refl
+  or_same q n b (inr e) = or_right (nat_eq q n) b e
 
   just_more : (words : List (List ℕ)) (w : List ℕ) (s : FinSet nat_cmp) (n : ℕ) → HasJust names words s → slice_get names n ≡ Some w → HasJust names (words ++ w ∷ []) (insert s n)
   just_more words w s n just named q = (
@@ -156,7 +154,7 @@ form_or_bad s text = elim (is_name (front_of text)) as (λ t. is_name (front_of 
   | false ↦ λ _. inr refl
 ] refl
 
--- what an answer says of the text
+-- what a result says of the text
 abbrev pub Says : Scheme → List ℕ → Result Label LabelFault → Type 0
 Says s text (Ok l) = Spells s text l
 Says s text (Err fault) = IsRefused s text fault
@@ -194,7 +192,7 @@ read_is s text once = elim (form_or_bad s text) [
 
 label_found : (names words : List (List ℕ)) (found : Result (FinSet nat_cmp) LabelFault) (l : Label) → Reads names words found → AllIn names words → (Repeats words → ⊥) → HasJust names words l.categories → label_with (Some l.level) found ≡ Ok l
 label_found names words (Ok s) l h known once just =
-    let same : s ≡ l.categories = same_set nat_cmp_total nat_cmp-IsAntisymmetric s l.categories (λ q. same_tests (contains s q) (contains l.categories q) (λ there. (just q).1 ((h.2 q).0 there)) (λ there. (h.2 q).1 ((just q).0 there))) in
+    let same : s ≡ l.categories = same_set nat_cmp_total nat_cmp-IsAntisymmetric s l.categories (λ q. cmp.both_ways (contains s q) (contains l.categories q) (λ there. (just q).1 ((h.2 q).0 there)) (λ there. (h.2 q).1 ((just q).0 there))) in
     rw same refl
 label_found names words (Err BadForm) l h known once just = absurd h
 label_found names words (Err UnknownLevel) l h known once just = absurd h
@@ -256,11 +254,11 @@ says_err s text (Ok l) h = tt
 says_err s text (Err fault) h = h
 
 each_below : (names words : List (List ℕ)) (s : FinSet nat_cmp) → HasJust names words s → each s (λ n. nat_lt n (length names)) ≡ true
-each_below names words s just = contains-each nat_cmp_total nat_cmp-IsAntisymmetric s (λ n. nat_lt n (length names)) (λ q there. let found = (just q).0 there in true_below q (length names) (slice_get_within names q found.0 found.1))
+each_below names words s just = contains-each nat_cmp_total nat_cmp-IsAntisymmetric s (λ n. nat_lt n (length names)) (λ q there. let found = (just q).0 there in lt-ltb q (length names) (slice_get_within names q found.0 found.1))
 
 -- a label that a text spells is within the scheme
 pub spells-within : (s : Scheme) (text : List ℕ) (l : Label) → Spells s text l → has_label (bounds_of s) l ≡ true
-spells-within s text l h = both_true (true_below l.level (length s.levels) (slice_get_within s.levels l.level h.level h.named)) (each_below s.categories h.categories l.categories h.just)
+spells-within s text l h = both_true (lt-ltb l.level (length s.levels) (slice_get_within s.levels l.level h.level h.named)) (each_below s.categories h.categories l.categories h.just)
 
 pub ok_within : (s : Scheme) (text : List ℕ) (r : Result Label LabelFault) → Says s text r → IfOk r (λ l. IsTrue (has_label (bounds_of s) l))
 ok_within s text (Ok l) h = spells-within s text l h

@@ -6,14 +6,17 @@ use Rattle.std.specs.List.{list_all}
 use Rattle.std.specs.FinSet.{FinSet, empty, insert, contains, same_set, nat_cmp-IsAntisymmetric}
 use Rattle.std.proofs.Common.{inl, inr, arith, sym, ap, ◌∙◌}
 use Rattle.mls_labels.proofs.Numbers.{ascending-all}
-use Rattle.std.proofs.lemmas.Bool.{and_parts}
+use Rattle.std.proofs.lemmas.Bool.{and_parts, lt-ltb}
+use Rattle.std.proofs.Math.Bool.{and-false}
 use Rattle.std.proofs.lemmas.Bool.Decides.{nat_tests}
 use Rattle.std.proofs.lemmas.Option.{slice_get-get_or, unwrap_or-slice_get}
 use Rattle.std.proofs.lemmas.List.{append_assoc}
 use Rattle.std.specs.Cmp.Derive.{both_true}
 use Rattle.mls_labels.specs.Ascending.{numbers, ascending}
-use Rattle.mls_labels.specs.CategoryBits.{passing, contains-passing, true_below}
-use Rattle.mls_labels.specs.Each.{each, each-contains}
+use Rattle.mls_facts.specs.Each.{each}
+use Rattle.mls_facts.specs.Passing.{passing}
+use Rattle.mls_facts.proofs.Each.{each-contains}
+use Rattle.mls_facts.proofs.Passing.{contains-passing}
 use Rattle.mls_labels.specs.Label.{Label, has_label}
 use Rattle.mls_labels.specs.Names.{is_name, is_name_len, is_name_byte, has_twice}
 use Rattle.mls_labels.specs.Scheme.{Scheme, IsScheme, bounds_of}
@@ -78,12 +81,9 @@ numbers_read names p (suc count) from total e once all known =
 
 all_there : (s : FinSet nat_cmp) → ((n : ℕ) → contains s n ≡ true → n < 64) → passing (contains s) 64 ≡ s
 all_there s known = same_set nat_cmp_total nat_cmp-IsAntisymmetric _ s (λ q. contains-passing (contains s) 64 q ∙ elim (contains s q) as (λ b. contains s q ≡ b → (nat_lt q 64 && b) ≡ b) [
-  | true ↦ λ there. rw (true_below q 64 (known q there)) refl
-  | false ↦ λ _. none (nat_lt q 64)
-] refl) where
-  none : (t : Bool) → (t && false) ≡ false
-  none true = refl
-  none false = refl
+  | true ↦ λ there. rw (lt-ltb q 64 (known q there)) refl
+  | false ↦ λ _. and-false (nat_lt q 64)
+] refl)
 
 from_none : (names : List (List ℕ)) (c : FinSet nat_cmp) → has_twice names ≡ false → list_all is_name names ≡ true → ((n : ℕ) → contains c n ≡ true → n < length names) → with_words names (Ok empty) (map (name_at names) (ascending c)) ≡ Ok (passing (contains c) 64)
 unfolding passing

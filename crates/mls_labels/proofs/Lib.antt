@@ -1,9 +1,8 @@
 pub mod CategoryWords
-pub mod Dominance
-pub mod Equality
 pub mod LabelForms
 pub mod LabelReads
 pub mod LabelWrites
+pub mod Laws
 pub mod NameLists
 pub mod NamePlaces
 pub mod Numbers

@@ -4,9 +4,9 @@ use Rattle.std.specs.List.{list_any, prefix_len}
 use Rattle.std.specs.Str.{bytes_eq}
 use Rattle.std.proofs.Common.{◌⊎◌, inl, inr, arith, sym, ap, ◌∙◌, Bor, String, get_or, string_bytes}
 use Rattle.std.proofs.lemmas.Bool.Decides.{nat_tests}
-use Rattle.std.proofs.lemmas.Bool.{both_ways}
+use Rattle.std.proofs.lemmas.Bool.{both_ways, or_cases, or_right}
+use Rattle.std.proofs.lemmas.List.Folds.{list_any-append}
 use Rattle.std.proofs.lemmas.List.{length-map, map-append, take-map, take_more}
-use Rattle.std.proofs.lemmas.Option.{slice_get-map, slice_get-get_or}
 use Rattle.std.specs.String.{string_eq}
 use Rattle.std.proofs.lemmas.Slice.Eq.{bytes_eq-Decides}
 use Rattle.mls_labels.specs.Names.{has_twice}
@@ -66,6 +66,10 @@ position-map f p xs =
     ap (λ n. cond (nat_lt n (length (map f xs))) (Some n) None) (front_mapped f (λ y. not (p y)) xs)
     ∙ ap (λ k. cond (nat_lt (prefix_len (λ x. not (p (f x))) xs) k) (Some (prefix_len (λ x. not (p (f x))) xs)) None) (length-map xs f)
 
+-- the place of a name, as a set of texts finds it
+pub place_word : {Z : Type 0} (keys : List (String Z)) (name : List ℕ) → place_of (map string_bytes keys) name ≡ position (λ key. bytes_eq name (string_bytes key)) keys
+place_word keys name = sym (position-place_of name (map string_bytes keys)) ∙ position-map string_bytes (bytes_eq name) keys
+
 any_mapped : {X Y : Type 0} (f : X → Y) (p : Y → Bool) (xs : List X) → list_any p (map f xs) ≡ list_any (λ x. p (f x)) xs
 any_mapped f p [] = refl
 any_mapped f p (x ∷ xs) = ap (λ t. p (f x) || t) (any_mapped f p xs)
@@ -122,23 +126,71 @@ has_place names name there = elim (place_of names name) as (λ r. place_of names
   | Some n ↦ λ e. (n, e)
 ] refl
 
--- a name isn't among those before it
-pub fresh_name : (names : List (List ℕ)) (n : ℕ) (name : List ℕ) → has_twice names ≡ false → slice_get names n ≡ Some name → list_any (bytes_eq name) (take n names) ≡ false
-fresh_name [] n name once h = cc
-fresh_name (x ∷ names) zero name once h = refl
-fresh_name (x ∷ names) (suc n) name once h =
-    elim (list_any (λ other. bytes_eq other x) names) as (λ b. list_any (λ other. bytes_eq other x) names ≡ b → (b || has_twice names) ≡ false → (bytes_eq name x || list_any (bytes_eq name) (take n names)) ≡ false) [
-      | true ↦ λ _ once. cc
-      | false ↦ λ none once. rw (none_passes (λ other. bytes_eq other x) names n name none h, fresh_name names n name once h) refl
-    ] refl once
+regrouped : (a e b h : Bool) → ((a || (e || false)) || (b || h)) ≡ ((e || b) || (a || h))
+regrouped true true b h = refl
+regrouped true false true h = refl
+regrouped true false false h = refl
+regrouped false true b h = refl
+regrouped false false b h = refl
 
--- the names so far with one more, which isn't among them
-pub kept_more : {Z : Type 0} (keys : List (String Z)) (text : String Z) (names : List (Bor (List ℕ))) (n : ℕ) (d : Bor (List ℕ))
-    → has_twice (map (λ name. name.now) names) ≡ false → n < length names → string_bytes text ≡ (get_or names n d).now
-    → map string_bytes keys ≡ map (λ name. name.now) (take n names)
-    → map string_bytes (cond (list_any (string_eq text) keys) keys (keys ++ text ∷ [])) ≡ map (λ name. name.now) (take (n + 1) names)
-kept_more keys text names n d once within is kept =
-    let texts = map (λ name. name.now) names in
-    let there : slice_get texts n ≡ Some (string_bytes text) = slice_get-map (λ name. name.now) names n ∙ ap (option_map (λ name. name.now)) (slice_get-get_or names n d within) ∙ ap Some (sym is) in
-    let absent : list_any (string_eq text) keys ≡ false = sym (any_mapped string_bytes (bytes_eq (string_bytes text)) keys) ∙ ap (list_any (bytes_eq (string_bytes text))) (kept ∙ sym (take-map (λ name. name.now) n names)) ∙ fresh_name texts n (string_bytes text) once there in
-    rw (absent, map-append) (ap (λ front. front ++ string_bytes text ∷ []) kept ∙ ap (λ last. map (λ name. name.now) (take n names) ++ last ∷ []) is ∙ sym (map-append (λ name. name.now) (take n names) (get_or names n d ∷ [])) ∙ ap (map (λ name. name.now)) (sym (take_more names n d within)))
+-- one name more at the end: a name stands twice where that one stood there, or one did before
+pub has_twice-more : (names : List (List ℕ)) (name : List ℕ) → has_twice (names ++ name ∷ []) ≡ (list_any (bytes_eq name) names || has_twice names)
+has_twice-more [] name = refl
+has_twice-more (x ∷ names) name =
+    rw (list_any-append (λ other. bytes_eq other x) names (name ∷ []), has_twice-more names name)
+    (regrouped (list_any (λ other. bytes_eq other x) names) (bytes_eq name x) (list_any (bytes_eq name) names) (has_twice names))
+
+any_of_front : (p : List ℕ → Bool) (names : List (List ℕ)) (n : ℕ) → list_any p (take n names) ≡ true → list_any p names ≡ true
+any_of_front p [] zero h = cc
+any_of_front p [] (suc n) h = cc
+any_of_front p (x ∷ names) zero h = cc
+any_of_front p (x ∷ names) (suc n) h = elim (or_cases (p x) (list_any p (take n names)) h) [
+  | inl here ↦ rw here refl
+  | inr later ↦ or_right (p x) (list_any p names) (any_of_front p names n later)
+]
+
+-- a name that stands twice among the first stands twice
+pub twice_of_front : (names : List (List ℕ)) (n : ℕ) → has_twice (take n names) ≡ true → has_twice names ≡ true
+twice_of_front [] zero h = cc
+twice_of_front [] (suc n) h = cc
+twice_of_front (x ∷ names) zero h = cc
+twice_of_front (x ∷ names) (suc n) h = elim (or_cases (list_any (λ other. bytes_eq other x) (take n names)) (has_twice (take n names)) h) [
+  | inl here ↦ rw (any_of_front (λ other. bytes_eq other x) names n here) refl
+  | inr later ↦ or_right (list_any (λ other. bytes_eq other x) names) (has_twice names) (twice_of_front names n later)
+]
+
+-- the first names and the next are one more of the first
+next_taken : (names : List (Bor (List ℕ))) (n : ℕ) (d : Bor (List ℕ)) (kept : List (List ℕ)) → n < length names → kept ≡ map (λ name. name.now) (take n names) → kept ++ (get_or names n d).now ∷ [] ≡ map (λ name. name.now) (take (n + 1) names)
+next_taken names n d kept within is =
+    ap (λ front. front ++ (get_or names n d).now ∷ []) is ∙ sym (map-append (λ name. name.now) (take n names) (get_or names n d ∷ [])) ∙ ap (map (λ name. name.now)) (sym (take_more names n d within))
+
+-- a name that is added to those so far, since it wasn't there, is one more of the first
+pub added_is : (names : List (Bor (List ℕ))) (n : ℕ) (d : Bor (List ℕ)) (kept new : List (List ℕ)) (added : Bool) → n < length names → kept ≡ map (λ name. name.now) (take n names)
+    → new ≡ cond added (kept ++ (get_or names n d).now ∷ []) kept → added ≡ true → new ≡ map (λ name. name.now) (take (n + 1) names)
+added_is names n d kept new added within is e h = e ∙ ap (λ t. cond t (kept ++ (get_or names n d).now ∷ []) kept) h ∙ next_taken names n d kept within is
+
+pub added_once : (name : List ℕ) (kept new : List (List ℕ)) (added : Bool) → has_twice kept ≡ false → added ≡ not (list_any (bytes_eq name) kept) → new ≡ cond added (kept ++ name ∷ []) kept → added ≡ true → has_twice new ≡ false
+added_once name kept new added once is e h = elim (list_any (bytes_eq name) kept) as (λ b. list_any (bytes_eq name) kept ≡ b → added ≡ not b → has_twice new ≡ false) [
+  | true ↦ λ _ no. absurd (both_ways added no h)
+  | false ↦ λ none _. ap has_twice (e ∙ ap (λ t. cond t (kept ++ name ∷ []) kept) h) ∙ has_twice-more kept name ∙ rw (none, once) refl
+] refl is
+
+-- a name that isn't added stands among the first, and so stands twice
+pub twice_where_not_added : (names : List (Bor (List ℕ))) (n : ℕ) (d : Bor (List ℕ)) (kept : List (List ℕ)) (added : Bool) → n < length names → kept ≡ map (λ name. name.now) (take n names)
+    → added ≡ not (list_any (bytes_eq (get_or names n d).now) kept) → added ≡ false → has_twice (map (λ name. name.now) names) ≡ true
+twice_where_not_added names n d kept added within is e h =
+    let name = (get_or names n d).now in
+    let there : list_any (bytes_eq name) kept ≡ true = elim (list_any (bytes_eq name) kept) as (λ b. added ≡ not b → b ≡ true) [ true ↦ λ _. refl | false ↦ λ yes. absurd (both_ways added h yes) ] e in
+    let twice : has_twice (kept ++ name ∷ []) ≡ true = has_twice-more kept name ∙ rw there refl in
+    twice_of_front (map (λ name. name.now) names) (n + 1) (ap has_twice (take-map (λ name. name.now) (n + 1) names ∙ sym (next_taken names n d kept within is)) ∙ twice)
+
+-- what a set of texts does with a name, seen as bytes
+pub was_added : {Z : Type 0} (keys : List (String Z)) (text : String Z) (name : List ℕ) → string_bytes text ≡ name → not (list_any (string_eq text) keys) ≡ not (list_any (bytes_eq name) (map string_bytes keys))
+was_added keys text name is = ap not (sym (any_mapped string_bytes (bytes_eq (string_bytes text)) keys) ∙ ap (λ bytes. list_any (bytes_eq bytes) (map string_bytes keys)) is)
+
+pub kept_with : {Z : Type 0} (keys : List (String Z)) (text : String Z) (name : List ℕ) (added : Bool) → string_bytes text ≡ name → added ≡ not (list_any (string_eq text) keys)
+    → map string_bytes (cond (list_any (string_eq text) keys) keys (keys ++ text ∷ [])) ≡ cond added (map string_bytes keys ++ name ∷ []) (map string_bytes keys)
+kept_with keys text name added is e = elim (list_any (string_eq text) keys) as (λ b. added ≡ not b → map string_bytes (cond b keys (keys ++ text ∷ [])) ≡ cond added (map string_bytes keys ++ name ∷ []) (map string_bytes keys)) [
+  | true ↦ λ no. rw no refl
+  | false ↦ λ yes. rw (yes, map-append) (ap (λ last. map string_bytes keys ++ last ∷ []) is)
+] e

@@ -1,18 +1,20 @@
 -- Numbers that pass a test, in order.
-use Rattle.std.specs.Prelude.{◌≡◌, ℕ, zero, suc, ◌+◌, ◌-◌, ◌*◌, ◌^◌, ◌<◌, ◌≤◌, Bool, true, false, cond, ◌&&◌, nat_lt, [], ◌∷◌, bit_and, refl}
+use Rattle.std.specs.Prelude.{◌≡◌, ℕ, zero, suc, ◌+◌, ◌-◌, ◌*◌, ◌^◌, ◌<◌, ◌≤◌, Bool, true, false, cond, nat_lt, [], ◌∷◌, bit_and, refl}
 use Rattle.std.specs.Int.{bit_at, bit_not, w64, trailing_zeros}
 use Rattle.std.specs.List.{list_all}
 use Rattle.std.specs.Ordering.{nat_cmp}
 use Rattle.std.specs.Cmp.{nat_cmp_total}
 use Rattle.std.specs.FinSet.{FinSet, contains, contains-empty, empty, nat_cmp-IsAntisymmetric}
 use Rattle.std.proofs.Common.{◌%◌, inl, inr, arith, sym, ap, ◌∙◌}
-use Rattle.std.proofs.lemmas.Bool.{cases_lt, cases_eq}
+use Rattle.std.proofs.lemmas.Bool.{cases_lt, cases_eq, le-ltb, lt-ltb}
+use Rattle.std.proofs.Math.Bool.{and-false}
 use Rattle.std.specs.Cmp.Derive.{both_true}
-use Rattle.std.proofs.lemmas.Bool.Decides.{nat_tests}
 use Rattle.std.proofs.lemmas.Nat.Bits.{bit_at-trailing_zeros, bit_at_clear_same, bit_at_clear_other}
 use Rattle.mls_labels.specs.Ascending.{numbers, ascending}
-use Rattle.mls_labels.specs.CategoryBits.{categories_of, contains-categories_of, true_below}
-use Rattle.mls_labels.specs.Each.{each, each-contains}
+use Rattle.mls_labels.specs.CategoryBits.{categories_of}
+use Rattle.mls_labels.proofs.CategoryWords.{contains-categories_of}
+use Rattle.mls_facts.specs.Each.{each}
+use Rattle.mls_facts.proofs.Each.{each-contains}
 
 -- over a gap where none passes
 numbers-gap : (p : ℕ → Bool) (gap count total from at : ℕ) → total ≡ gap + count → at ≡ from + gap → ((i : ℕ) → from ≤ i → i < at → p i ≡ false) → numbers p total from ≡ numbers p count at
@@ -44,10 +46,7 @@ numbers-without p q t within first before removed after =
     ∙ ap (λ ns. t ∷ ns) (numbers-same p q (63 - t) (suc t) (λ i low. after i (omega arith)) ∙ sym (numbers-gap q (suc t) (63 - t) 64 0 (suc t) (omega arith) (omega arith) (λ i low high. removed i (omega arith))))
 
 unset : (b q : ℕ) → bit_at b q ≡ 0 → contains (categories_of b) q ≡ false
-unset b q h = contains-categories_of b q ∙ rw h (neither (nat_lt q 64)) where
-  neither : (t : Bool) → (t && false) ≡ false
-  neither true = refl
-  neither false = refl
+unset b q h = contains-categories_of b q ∙ rw h (and-false (nat_lt q 64))
 
 -- the lowest bit of a word is the first category
 pub ascending-lowest : (b : ℕ) → 0 < b → b < 2 ^ 64 → ascending (categories_of b) ≡ trailing_zeros w64 b ∷ ascending (categories_of (bit_and b (bit_not w64 (1 * 2 ^ trailing_zeros w64 b % 2 ^ 64))))
@@ -56,7 +55,7 @@ ascending-lowest b some small =
     let lowest = bit_at-trailing_zeros w64 b some small in
     let c = bit_and b (bit_not w64 (1 * 2 ^ t % 2 ^ 64)) in
     numbers-without (contains (categories_of b)) (contains (categories_of c)) t lowest.0
-    (contains-categories_of b t ∙ rw (true_below t 64 lowest.0, lowest.1) refl)
+    (contains-categories_of b t ∙ rw (lt-ltb t 64 lowest.0, lowest.1) refl)
     (λ i before. unset b i (lowest.2 i before))
     (λ i low. elim (cases_eq i t) [
       | inl e ↦ unset c i (rw e (bit_at_clear_same w64 b t lowest.0))
@@ -64,10 +63,8 @@ ascending-lowest b some small =
     ])
     (λ i after. contains-categories_of b i ∙ elim (cases_lt i 64) [
       | inl within ↦ rw (bit_at_clear_other w64 b t lowest.0 i within (λ e. omega (arith, e))) refl
-      | inr past ↦ rw (past_all i past) refl
-    ] ∙ sym (contains-categories_of c i)) where
-      past_all : (i : ℕ) → 64 ≤ i → nat_lt i 64 ≡ false
-      past_all i past = grind (arith, nat_tests)
+      | inr past ↦ rw (le-ltb i 64 past) refl
+    ] ∙ sym (contains-categories_of c i))
 
 numbers-none : (p : ℕ → Bool) (count from : ℕ) → ((i : ℕ) → p i ≡ false) → numbers p count from ≡ []
 unfolding numbers

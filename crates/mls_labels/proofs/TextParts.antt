@@ -6,6 +6,7 @@ use Rattle.std.specs.List.{prefix_len, onto_first}
 use Rattle.std.specs.Str.{IsUtf8, IsCharBoundary}
 use Rattle.std.proofs.Common.{◌⊎◌, inl, inr, arith, sym, ap, ◌∙◌, subst, get_or, length-append}
 use Rattle.std.proofs.lemmas.Bool.{and_parts, both_ways}
+use Rattle.std.proofs.Math.Bool.{and-true}
 use Rattle.std.proofs.Math.Seq.{take-append_seam}
 use Rattle.std.proofs.lemmas.Bool.Decides.{nat_tests}
 use Rattle.std.proofs.lemmas.List.Sums.{prefix_len_passes, prefix_len-le-length}
@@ -35,10 +36,7 @@ clean_front (b ∷ text) = elim (is_name_byte b) as (λ t. is_name_byte b ≡ t 
 
 -- the front is a name where it is of a name's length
 pub is_name-front_of : (text : List ℕ) (n : ℕ) (t : Bool) → n ≡ prefix_len is_name_byte text → t ≡ is_name_len n → is_name (front_of text) ≡ t
-is_name-front_of text n t e f = rw (length-front_of text, clean_front text, f, e) (and_true (is_name_len (prefix_len is_name_byte text))) where
-  and_true : (b : Bool) → (b && true) ≡ b
-  and_true true = refl
-  and_true false = refl
+is_name-front_of text n t e f = rw (length-front_of text, clean_front text, f, e) (and-true (is_name_len (prefix_len is_name_byte text)))
 
 small_byte : (b : ℕ) → is_name_byte b ≡ true → b < 128
 small_byte b h = grind (arith, nat_tests, h)

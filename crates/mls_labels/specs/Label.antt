@@ -3,7 +3,7 @@ use Rattle.std.specs.Prelude.{ℕ, Bool, ◌&&◌, nat_le, nat_lt, refl}
 use Rattle.std.specs.Ordering.{nat_cmp}
 use Rattle.std.specs.FinSet as set
 use Rattle.std.specs.Coded.{Coded, code_by, coded×, coded_ℕ}
-use Rattle.mls_labels.specs.Each.{each}
+use Rattle.mls_facts.specs.Each.{each}
 
 -- A label: a level number, and a finite set of category numbers. (MTR-2997, classification and categories)
 pub record Label : Type 0 where
@@ -23,11 +23,11 @@ pub record Bounds : Type 0 where
 abbrev pub has_label : Bounds → Label → Bool
 has_label b l = nat_lt l.level b.levels && each l.categories (λ n. nat_lt n b.categories)
 
--- a label is stored as the pair of its parts
+-- A label is stored as the pair of its parts. (own)
 abbrev pub label_code : Coded Label
 label_code =
     code_by (ℕ × set.FinSet nat_cmp) (coded× coded_ℕ (set.code coded_ℕ)) (λ l. (l.level, l.categories)) (λ p. record { level = p.0; categories = p.1 }) (λ _. refl)
 
--- bounds are stored as the pair of their parts
+-- Bounds are stored as the pair of their parts. (own)
 abbrev pub bounds_code : Coded Bounds
 bounds_code = code_by (ℕ × ℕ) (coded× coded_ℕ coded_ℕ) (λ b. (b.levels, b.categories)) (λ p. record { levels = p.0; categories = p.1 }) (λ _. refl)

@@ -33,23 +33,23 @@ pub record IsForm (text level : List ℕ) (categories : List (List ℕ)) : Type 
   pub level_is_name : IsTrue (is_name level)
   pub each_is_name : IsTrue (list_all is_name categories)
 
--- the word is one of these
+-- The word is one of these. (own)
 abbrev pub IsIn : List (List ℕ) → List ℕ → Type 0
 IsIn words word = (i : ℕ) × (slice_get words i ≡ Some word)
 
--- each word is one of the names
+-- Each word is one of the names. (own)
 abbrev pub AllIn : List (List ℕ) → List (List ℕ) → Type 0
 AllIn names words = (word : List ℕ) → IsIn words word → IsIn names word
 
--- one of the words isn't
+-- One of the words isn't one of the names. (own)
 abbrev pub SomeNotIn : List (List ℕ) → List (List ℕ) → Type 0
 SomeNotIn names words = (word : List ℕ) × IsIn words word × (IsIn names word → ⊥)
 
--- some word stands twice
+-- A word stands twice. (own)
 abbrev pub Repeats : List (List ℕ) → Type 0
 Repeats words = (i j : ℕ) × (word : List ℕ) × (i < j) × (slice_get words i ≡ Some word) × (slice_get words j ≡ Some word)
 
--- the set has just the places of the words among the names
+-- The set has just the places of the words among the names. (own)
 abbrev pub HasJust : List (List ℕ) → List (List ℕ) → set.FinSet nat_cmp → Type 0
 HasJust names words s = (n : ℕ) → IsTrue (set.contains s n) ↔ ((word : List ℕ) × (slice_get names n ≡ Some word) × IsIn words word)
 
@@ -77,11 +77,11 @@ IsRefused s text UnknownCategory =
 IsRefused s text RepeatedCategory =
     (level : List ℕ) × (categories : List (List ℕ)) × IsForm text level categories × IsIn s.levels level × AllIn s.categories categories × Repeats categories
 
--- the name in a place
+-- The name in a place. (own)
 abbrev pub name_at : List (List ℕ) → ℕ → List ℕ
 name_at names n = unwrap_or (slice_get names n) []
 
--- the names after this byte, with commas between them; nothing where there is none
+-- The names after this byte, with commas between them; nothing where there is no name. (own)
 abbrev pub words_after : ℕ → List (List ℕ) → List ℕ
 words_after separator [] = []
 words_after separator (name ∷ names) = separator ∷ name ++ words_after 44 names
@@ -90,6 +90,6 @@ words_after separator (name ∷ names) = separator ∷ name ++ words_after 44 na
 abbrev pub written : Scheme → Label → List ℕ
 written s l = name_at s.levels l.level ++ words_after 58 (map (name_at s.categories) (ascending l.categories))
 
--- one text goes on where the other ends
+-- The new text is the old one and more. (own)
 abbrev pub Extends : List ℕ → List ℕ → Type 0
 Extends old new = (more : List ℕ) × (new ≡ old ++ more)

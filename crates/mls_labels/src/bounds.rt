@@ -3,9 +3,10 @@ ghost use Rattle.std.specs.Prelude.{◌≡◌, ◌≤◌};
 ghost use Rattle.mls_labels.specs.Label.{has_label};
 
 use crate::label::Label;
+use crate::limits::{MAX_CATEGORIES, MAX_LEVELS};
 use std::marker::Model;
 
-/// How many levels (1 to 16) and categories (0 to 64) a scheme of labels has.
+/// How many levels (1 to `MAX_LEVELS`) and categories (0 to `MAX_CATEGORIES`) a scheme of labels has.
 #[derive(Clone, Copy, Debug, PartialEq, Eq)]
 pub struct Bounds {
     levels: u8,
@@ -15,6 +16,7 @@ pub struct Bounds {
 impl Model for Bounds {
     ghost use Rattle.std.specs.Prelude.{◌≤◌};
     ghost use Rattle.mls_labels.specs.Label.{Bounds, bounds_code};
+    ghost use Rattle.mls_labels.specs.declared.limits.TheConstants.{MAX_CATEGORIES, MAX_LEVELS};
 
     ghost Value = { Bounds };
 
@@ -22,7 +24,7 @@ impl Model for Bounds {
 
     ghost view = { λ a. record { levels = a.levels; categories = a.categories } };
 
-    ghost invariant = { λ a. (1 ≤ a.levels) × (a.levels ≤ 16) × (a.categories ≤ 64) };
+    ghost invariant = { λ a. (1 ≤ a.levels) × (a.levels ≤ MAX_LEVELS) × (a.categories ≤ MAX_CATEGORIES) };
 
     ghost inverse = { λ b. record { levels = b.levels; categories = b.categories } };
 }
@@ -31,8 +33,8 @@ impl Bounds {
     /// The bounds of a scheme with this many levels and categories.
     pub fn new(levels: u8, categories: u8) -> Bounds
         requires some { 1 ≤ levels }
-        requires levels { levels ≤ 16 }
-        requires categories { categories ≤ 64 }
+        requires levels { levels ≤ MAX_LEVELS }
+        requires categories { categories ≤ MAX_CATEGORIES }
         ensures { result ≡ record { levels = levels; categories = categories } }
     {
         Bounds { levels, categories }

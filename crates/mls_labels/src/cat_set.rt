@@ -1,12 +1,13 @@
 //! Sets of categories.
 ghost use Rattle.std.specs.Prelude.{◌≡◌, ◌<◌, ◌≤◌, ◌∷◌, nat_lt, IfNone, IfSome};
-ghost use Rattle.mls_labels.specs.Ascending.{ascending};
-ghost use Rattle.mls_labels.specs.Each.{each};
 ghost use Rattle.std.specs.FinSet as set;
+ghost use Rattle.mls_facts.specs.Each.{each};
+ghost use Rattle.mls_labels.specs.Ascending.{ascending};
 
+use crate::limits::MAX_CATEGORIES;
 use std::marker::Model;
 
-/// A set of categories, each a number from 0 to 63. It is one word, whose bit `n` is set where
+/// A set of categories, each a number less than `MAX_CATEGORIES`. It is one word, whose bit `n` is set where
 /// category `n` is in the set.
 #[derive(Clone, Copy, Debug)]
 pub struct CatSet {
@@ -18,7 +19,8 @@ impl Model for CatSet {
     ghost use Rattle.std.specs.Ordering.{nat_cmp};
     ghost use Rattle.std.specs.FinSet as set;
     ghost use Rattle.std.specs.Coded.{coded_ℕ};
-    ghost use Rattle.mls_labels.specs.CategoryBits.{categories_of, bits_of, bits_of-categories_of};
+    ghost use Rattle.mls_facts.proofs.Bits.{number_of-bits};
+    ghost use Rattle.mls_labels.specs.CategoryBits.{categories_of, bits_of};
 
     ghost Value = { set.FinSet nat_cmp };
 
@@ -30,11 +32,12 @@ impl Model for CatSet {
 
     ghost inverse = { λ s. record { bits = bits_of s } };
 
-    ghost inverse_ok = { λ a h i. record { bits = bits_of-categories_of a.bits h i } };
+    ghost inverse_ok = { λ a h i. record { bits = number_of-bits 64 a.bits h i } };
 }
 
 impl CatSet {
     /// The set without a category.
+    #[tactic(auto, using(crate::proofs::CategoryWords::empty_word))]
     pub fn empty() -> CatSet
         ensures { result ≡ set.empty }
     {
@@ -42,16 +45,18 @@ impl CatSet {
     }
 
     /// Whether category `n` is in the set.
+    #[tactic(auto, using(crate::proofs::CategoryWords::contains_word))]
     pub fn contains(self, n: u8) -> bool
-        requires { n < 64 }
+        requires { n < MAX_CATEGORIES }
         ensures { result ≡ set.contains self n }
     {
         self.bits >> n & 1 == 1
     }
 
     /// The set with category `n` added; the same set where it is there already.
+    #[tactic(auto, using(crate::proofs::CategoryWords::with_word, crate::proofs::CategoryWords::with_fits))]
     pub fn with(self, n: u8) -> CatSet
-        requires { n < 64 }
+        requires { n < MAX_CATEGORIES }
         ensures { result ≡ set.insert self n }
     {
         CatSet {
@@ -60,6 +65,7 @@ impl CatSet {
     }
 
     /// Whether each category of this set is in `other`.
+    #[tactic(auto, using(crate::proofs::CategoryWords::subset_word))]
     pub fn is_subset(self, other: &CatSet) -> bool
         ensures { result ≡ set.is_subset self other.now }
     {
@@ -71,7 +77,7 @@ impl CatSet {
         ensures none { IfNone result (self.old ≡ set.empty) }
         ensures empty { IfNone result (self.new ≡ set.empty) }
         ensures first { IfSome result (λ first. ascending self.old ≡ first ∷ ascending self.new) }
-        ensures limit { IfSome result (λ first. first < 64) }
+        ensures limit { IfSome result (λ first. first < MAX_CATEGORIES) }
     {
         let bits = self.bits;
         if bits == 0 {
@@ -84,29 +90,34 @@ impl CatSet {
 
     /// Whether each category of the set is less than `n`.
     pub(crate) fn all_below(self, n: u8) -> bool
-        requires { n ≤ 64 }
+        requires { n ≤ MAX_CATEGORIES }
         ensures { result ≡ each self (λ q. nat_lt q n) }
     {
         let bits = self.bits;
-        n == 64 || bits < 1 << n
+        n as usize == MAX_CATEGORIES || bits < 1 << n
     }
 }
 
 impl PartialEq for CatSet {
-    ghost use Rattle.mls_labels.specs.Same.{same_categories, same_categories_laws};
-    ghost use Rattle.std.specs.Cmp.{partial_equiv_from_equiv};
+    ghost use Rattle.std.specs.Cmp.{nat_cmp_total, partial_equiv_from_equiv};
+    ghost use Rattle.std.specs.FinSet.{nat_cmp-IsAntisymmetric};
+    ghost use Rattle.mls_facts.proofs.Sets.{is_same_set_laws};
+    ghost use Rattle.mls_labels.specs.Same.{same_categories};
 
     ghost eq = { same_categories };
 
-    ghost laws = { partial_equiv_from_equiv same_categories_laws };
+    ghost laws = { partial_equiv_from_equiv (is_same_set_laws nat_cmp_total nat_cmp-IsAntisymmetric) };
 
+    #[tactic(auto, using(crate::proofs::CategoryWords::same_word))]
     fn eq(&self, other: &CatSet) -> bool {
         self.bits == other.bits
     }
 }
 
 impl Eq for CatSet {
-    ghost use Rattle.mls_labels.specs.Same.{same_categories_laws};
+    ghost use Rattle.std.specs.Cmp.{nat_cmp_total};
+    ghost use Rattle.std.specs.FinSet.{nat_cmp-IsAntisymmetric};
+    ghost use Rattle.mls_facts.proofs.Sets.{is_same_set_laws};
 
-    ghost laws = { same_categories_laws };
+    ghost laws = { is_same_set_laws nat_cmp_total nat_cmp-IsAntisymmetric };
 }

@@ -3,9 +3,10 @@ ghost use Rattle.std.specs.Prelude.{◌≡◌, ◌<◌};
 ghost use Rattle.mls_labels.specs.Label.{dominates};
 
 use crate::cat_set::CatSet;
+use crate::limits::MAX_LEVELS;
 use std::marker::Model;
 
-/// A level from 0 to 15 and a set of categories. Level and categories stand for the names of a
+/// A level less than `MAX_LEVELS` and a set of categories. Level and categories stand for the names of a
 /// scheme; a label itself belongs to no scheme.
 #[derive(Clone, Copy, Debug, PartialEq, Eq)]
 pub struct Label {
@@ -16,6 +17,7 @@ pub struct Label {
 impl Model for Label {
     ghost use Rattle.std.specs.Prelude.{◌<◌};
     ghost use Rattle.mls_labels.specs.Label.{Label, label_code};
+    ghost use Rattle.mls_labels.specs.declared.limits.TheConstants.{MAX_LEVELS};
 
     ghost Value = { Label };
 
@@ -23,7 +25,7 @@ impl Model for Label {
 
     ghost view = { λ a. record { level = a.level; categories = a.cats } };
 
-    ghost invariant = { λ a. a.level < 16 };
+    ghost invariant = { λ a. a.level < MAX_LEVELS };
 
     ghost inverse = { λ l. record { level = l.level; cats = l.categories } };
 }
@@ -31,16 +33,16 @@ impl Model for Label {
 impl Label {
     /// The label of this level and these categories.
     pub fn new(level: u8, cats: CatSet) -> Label
-        requires { level < 16 }
+        requires { level < MAX_LEVELS }
         ensures { result ≡ record { level = level; categories = cats } }
     {
         Label { level, cats }
     }
 
-    /// The label's level, which is less than 16.
+    /// The label's level, which is less than `MAX_LEVELS`.
     pub fn level(self) -> u8
         ensures level { result ≡ self.level }
-        ensures limit { result < 16 }
+        ensures limit { result < MAX_LEVELS }
     {
         self.level
     }

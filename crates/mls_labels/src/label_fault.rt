@@ -1,8 +1,8 @@
 //! Why a text is refused as a label text.
 use thiserror::Error;
 
-/// Why [`Scheme::read`](crate::Scheme::read) refuses a text. The least that applies to the whole
-/// text is answered.
+/// Why [`Scheme::read`](crate::Scheme::read) refuses a text. The first, in this order, that
+/// applies to the whole text is returned.
 #[derive(Clone, Copy, Debug, PartialEq, Eq, Error)]
 pub enum LabelFault {
     /// The text isn't a level's name alone, or that, a colon and names with a comma between each two.

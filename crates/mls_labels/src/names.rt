@@ -4,6 +4,8 @@ ghost use Rattle.std.specs.List.{list_all, list_any, prefix_len};
 ghost use Rattle.std.specs.Str.{bytes_eq};
 ghost use Rattle.mls_labels.specs.Names.{is_name, is_name_byte, is_name_len, has_twice};
 
+use crate::limits::MAX_NAME;
+
 /// Whether the byte may stand in a name.
 fn is_name_byte(byte: u8) -> bool
     ensures { result ≡ is_name_byte byte }
@@ -29,7 +31,7 @@ pub(crate) fn front_len(bytes: &[u8]) -> usize
 pub(crate) fn is_name_len(len: usize) -> bool
     ensures { result ≡ is_name_len len }
 {
-    1 <= len && len <= 32
+    1 <= len && len <= MAX_NAME
 }
 
 /// Whether each of the bytes may stand in a name.
@@ -39,7 +41,7 @@ fn has_name_bytes(bytes: &[u8]) -> bool
     bytes.iter().all(|byte| is_name_byte(*byte))
 }
 
-/// Whether the bytes are a name: 1 to 32 of the ASCII letters, digits, `-` and `_`.
+/// Whether the bytes are a name: 1 to `MAX_NAME` of the ASCII letters, digits, `-` and `_`.
 pub fn is_name(bytes: &[u8]) -> bool
     ensures { result ≡ is_name bytes.now }
 {

@@ -8,6 +8,7 @@ ghost use Rattle.mls_labels.specs.Reading.{front_of, rest_of, words_of, with_one
 use crate::cat_set::CatSet;
 use crate::label::Label;
 use crate::label_fault::LabelFault;
+use crate::limits::{MAX_CATEGORIES, MAX_LEVELS};
 use crate::name_set::NameSet;
 use crate::names::{front_len, is_name_len};
 use std::alloc::Allocator;
@@ -36,8 +37,11 @@ fn after(text: &str, separator: char) -> Option<&str>
 }
 
 /// What has been read of the categories, with the one in this place.
+///
+/// # Errors
+/// The fault found before, `UnknownCategory` without a place, `RepeatedCategory` where the category was read before.
 fn with_one(found: Result<CatSet, LabelFault>, place: Option<usize>) -> Result<CatSet, LabelFault>
-    requires { IfSome place (λ n. n < 64) }
+    requires { IfSome place (λ n. n < MAX_CATEGORIES) }
     ensures { result ≡ with_one found place }
 {
     let Some(n) = place else {
@@ -55,8 +59,11 @@ fn with_one(found: Result<CatSet, LabelFault>, place: Option<usize>) -> Result<C
 }
 
 /// The categories named in a text, with commas between them.
+///
+/// # Errors
+/// The first fault of the text in the order of [`LabelFault`].
 fn read_words<A: Allocator>(names: &NameSet<A>, text: &str) -> Result<CatSet, LabelFault>
-    requires { length names.now ≤ 64 }
+    requires { length names.now ≤ MAX_CATEGORIES }
     ensures { result ≡ with_words names.now (Ok set.empty) (words_of text.now) }
 {
     let mut found = Ok(CatSet::empty());
@@ -77,8 +84,11 @@ fn read_words<A: Allocator>(names: &NameSet<A>, text: &str) -> Result<CatSet, La
 }
 
 /// The categories of what stands after the level.
+///
+/// # Errors
+/// The first fault of the text in the order of [`LabelFault`].
 fn read_tail<A: Allocator>(names: &NameSet<A>, text: &str) -> Result<CatSet, LabelFault>
-    requires { length names.now ≤ 64 }
+    requires { length names.now ≤ MAX_CATEGORIES }
     ensures { result ≡ tail_at names.now text.now }
 {
     if text.is_empty() {
@@ -91,11 +101,14 @@ fn read_tail<A: Allocator>(names: &NameSet<A>, text: &str) -> Result<CatSet, Lab
 }
 
 /// A level's place and the categories, as a label.
+///
+/// # Errors
+/// The first fault of the level and the categories in the order of [`LabelFault`].
 fn label_with(
     place: Option<usize>,
     categories: Result<CatSet, LabelFault>,
 ) -> Result<Label, LabelFault>
-    requires { IfSome place (λ n. n < 16) }
+    requires { IfSome place (λ n. n < MAX_LEVELS) }
     ensures { result ≡ label_with place categories }
 {
     match categories {
@@ -112,13 +125,16 @@ fn label_with(
 }
 
 /// The label of a text in these names.
+///
+/// # Errors
+/// The first fault of the text in the order of [`LabelFault`].
 pub(crate) fn read_label<A: Allocator>(
     levels: &NameSet<A>,
     categories: &NameSet<A>,
     text: &str,
 ) -> Result<Label, LabelFault>
-    requires levels { length levels.now ≤ 16 }
-    requires categories { length categories.now ≤ 64 }
+    requires levels { length levels.now ≤ MAX_LEVELS }
+    requires categories { length categories.now ≤ MAX_CATEGORIES }
     ensures { result ≡ label_at (record { levels = levels.now; categories = categories.now }) text.now }
 {
     match split_name(text) {

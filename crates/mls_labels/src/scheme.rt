@@ -8,6 +8,7 @@ ghost use Rattle.mls_labels.specs.Scheme.{Scheme, IsScheme, bounds_of, scheme_fa
 use crate::bounds::Bounds;
 use crate::label::Label;
 use crate::label_fault::LabelFault;
+use crate::limits::{MAX_CATEGORIES, MAX_LEVELS};
 use crate::name_set::NameSet;
 use crate::names::{are_names, has_twice};
 use crate::reading::read_label;
@@ -16,11 +17,7 @@ use crate::writing::push_label;
 use std::alloc::{AllocError, Allocator, Global};
 use std::marker::Model;
 
-const MOST_LEVELS: usize = 16;
-
-const MOST_CATEGORIES: usize = 64;
-
-/// The names of 1 to 16 levels and of 0 to 64 categories. The place of a name, counted from 0, is the
+/// The names of 1 to `MAX_LEVELS` levels and of 0 to `MAX_CATEGORIES` categories. The place of a name, counted from 0, is the
 /// number by which a label knows it; the first level is the lowest.
 #[derive(Drop)]
 pub struct Scheme<A: Allocator = Global> {
@@ -48,9 +45,9 @@ fn first_fault(levels: &[&str], categories: &[&str]) -> Option<SchemeFault>
 {
     if levels.is_empty() {
         Some(SchemeFault::NoLevels)
-    } else if levels.len() > MOST_LEVELS {
+    } else if levels.len() > MAX_LEVELS {
         Some(SchemeFault::TooManyLevels)
-    } else if categories.len() > MOST_CATEGORIES {
+    } else if categories.len() > MAX_CATEGORIES {
         Some(SchemeFault::TooManyCategories)
     } else if !are_names(levels) || !are_names(categories) {
         Some(SchemeFault::BadName)
@@ -62,8 +59,11 @@ fn first_fault(levels: &[&str], categories: &[&str]) -> Option<SchemeFault>
 }
 
 impl<A: Allocator + Copy> Scheme<A> {
-    /// The scheme of these names, in their order. A level and a category may have one name. Where no
-    /// other fault applies, it fails for want of memory alone.
+    /// The scheme of these names, in their order. A level and a category may have one name.
+    ///
+    /// # Errors
+    /// The first fault of the names in the order of [`SchemeFault`]; `Memory` where they have none and an
+    /// allocation failed.
     pub fn new(alloc: A, levels: &[&str], categories: &[&str]) -> Result<Scheme<A>, SchemeFault>
         ensures ok { IfOk result (λ scheme. scheme ≡ named levels.now categories.now) }
         ensures fault { IfSome (scheme_fault (named levels.now categories.now)) (λ fault. result ≡ Err fault) }
@@ -95,7 +95,10 @@ impl<A: Allocator> Scheme<A> {
     }
 
     /// Reads a label text: the name of a level, or that, a colon and the names of categories with a
-    /// comma between each two, in any order. It takes no memory.
+    /// comma between each two, in any order. It doesn't allocate.
+    ///
+    /// # Errors
+    /// The first fault of the text in the order of [`LabelFault`].
     pub fn read(&self, text: &str) -> Result<Label, LabelFault>
         ensures ok { IfOk result (λ label. Spells self.now text.now label) }
         ensures within { IfOk result (λ label. IsTrue (has_label (bounds_of self.now) label)) }
@@ -104,12 +107,15 @@ impl<A: Allocator> Scheme<A> {
         ensures exact { (fault : LabelFault) → IsRefused self.now text.now fault → result ≡ Err fault }
         ensures steps { result ≡ label_at self.now text.now }
     {
+        // (that the names have no fault)
         let _ = self.bounds();
         read_label(&self.levels, &self.categories, text)
     }
 
-    /// Appends the label's text, its categories ascending by number. Where memory is refused, the text
-    /// is as it was.
+    /// Appends the label's text, its categories ascending by number.
+    ///
+    /// # Errors
+    /// `AllocError` where an allocation failed. The text is then as it was.
     pub fn write<B: Allocator>(&self, label: Label, text: &mut String<B>) -> Result<(), AllocError>
         requires { IsTrue (has_label (bounds_of self.now) label) }
         ensures ok { OnOk result (string_bytes text.new ≡ string_bytes text.old ++ written self.now label) }
@@ -118,13 +124,10 @@ impl<A: Allocator> Scheme<A> {
         let start = text.len();
         match push_label(&self.levels, &self.categories, label, text) {
             Ok(()) => Ok(()),
-            Err(refused) => {
+            Err(error) => {
                 text.truncate(start);
-                Err(refused)
+                Err(error)
             }
         }
     }
 }
-
-#[cfg(test)]
-mod tests;

@@ -1,7 +1,7 @@
 //! The steps of writing a label text, in one pass over the categories.
 ghost use Rattle.std.specs.Prelude.{◌≡◌, ◌<◌, ◌≤◌, ◌++◌, ◌∷◌, IsTrue, OnErr, OnOk, length, map, nat_lt, string_bytes};
 ghost use Rattle.mls_labels.specs.Ascending.{ascending};
-ghost use Rattle.mls_labels.specs.Each.{each};
+ghost use Rattle.mls_facts.specs.Each.{each};
 ghost use Rattle.mls_labels.specs.LabelText.{Extends, name_at, words_after, written};
 
 use crate::cat_set::CatSet;
@@ -10,6 +10,9 @@ use crate::name_set::NameSet;
 use std::alloc::{AllocError, Allocator};
 
 /// Appends a separator and a name.
+///
+/// # Errors
+/// `AllocError` where an allocation failed. A part of both may then stand at the end.
 fn push_name<B: Allocator>(
     text: &mut String<B>,
     separator: char,
@@ -26,6 +29,9 @@ fn push_name<B: Allocator>(
 
 /// Appends a colon and the names of the categories with commas between them; nothing where there is no
 /// category.
+///
+/// # Errors
+/// `AllocError` where an allocation failed. A part of the names may then stand at the end.
 fn push_categories<A: Allocator, B: Allocator>(
     names: &NameSet<A>,
     categories: CatSet,
@@ -44,8 +50,10 @@ fn push_categories<A: Allocator, B: Allocator>(
     Ok(())
 }
 
-/// Appends the text of a label in these names. Where memory is refused, a part of it may stand at the
-/// end.
+/// Appends the text of a label in these names.
+///
+/// # Errors
+/// `AllocError` where an allocation failed. A part of the label's text may then stand at the end.
 pub(crate) fn push_label<A: Allocator, B: Allocator>(
     levels: &NameSet<A>,
     categories: &NameSet<A>,

@@ -1,8 +1,11 @@
-pub mod GrammarReads
-pub mod GrammarSays
-pub mod LabelBytes
+pub mod AsciiBytes
+pub mod FormsFound
+pub mod FormsRead
+pub mod LinesRead
 pub mod NumberLemmas
 pub mod NumbersLaw
+pub mod PartFaults
+pub mod TokenForms
 pub mod TokenLemmas
 pub mod TokensLaw
 pub mod VarLemmas

@@ -1,9 +1,6 @@
--- The first token of a line, and names as text.
-use Rattle.std.proofs.Common.{◌≡◌, ℕ, suc, ◌<◌, ◌≤◌, Bool, true, false, cond, ltb, eqb, List, [], ◌∷◌, ◌++◌, length, get_or, take, drop, filter, sym, refl, ap, ◌∙◌, subst, append-nil, take-append-drop, arith, ◌⊎◌, inl, inr, lt-ltb, zero, ◌&&◌}
-use Rattle.std.specs.List.{All, slice_split, list_all}
-use Rattle.std.specs.Str.{IsAscii}
-use Rattle.std.proofs.lemmas.Bool.Decides.{nat_tests}
-use Rattle.mls_labels.specs.Names.{is_name, is_name_byte}
+-- The first token of a line.
+use Rattle.std.proofs.Common.{◌≡◌, ℕ, suc, ◌<◌, ◌≤◌, false, cond, ltb, eqb, List, [], ◌∷◌, ◌++◌, length, get_or, take, drop, filter, sym, refl, ap, ◌∙◌, subst, append-nil, take-append-drop, arith, ◌⊎◌, inl, inr, lt-ltb}
+use Rattle.std.specs.List.{All, slice_split}
 use Rattle.std.proofs.Math.Seq.{drop-cons}
 use Rattle.std.proofs.lemmas.Bool.{ne_eqb, cases_lt}
 use Rattle.std.proofs.lemmas.List.{length-take-le, get_or-take, drop_all}
@@ -43,19 +40,3 @@ token_at from n begins some within word ends =
       | inr h ↦ inl (drop_all n from h)
     ] in
     ap tokens_of (sym (take-append-drop n from)) ∙ word_then (take n from) (drop n from) all (omega (arith, long)) rest
-
-byte_small : (b : ℕ) → is_name_byte b ≡ true → b < 128
-byte_small b h = grind (arith, nat_tests)
-
-both : (a b : Bool) → (a && b) ≡ true → (a ≡ true) × (b ≡ true)
-both true b h = (refl, h)
-both false b h = cc
-
-all_small : (bs : List ℕ) → list_all is_name_byte bs ≡ true → (i : ℕ) → get_or bs i 0 < 128
-all_small [] h i = omega arith
-all_small (b ∷ bs) h zero = byte_small b (both (is_name_byte b) (list_all is_name_byte bs) h).0
-all_small (b ∷ bs) h (suc i) = all_small bs (both (is_name_byte b) (list_all is_name_byte bs) h).1 i
-
--- a name is ASCII
-pub name_is_ascii : (bytes : List ℕ) → is_name bytes ≡ true → IsAscii bytes
-name_is_ascii bytes h = all_small bytes (both _ (list_all is_name_byte bytes) h).1

@@ -1,7 +1,13 @@
--- The faults of a line's parts.
-use Rattle.std.specs.Prelude.{Result, Ok, Err}
+-- The faults of a line: what they are called, and which comes first.
+use Rattle.std.specs.Prelude.{ℕ, List, codes, Result, Ok, Err}
 use Rattle.mls_lines.specs.declared.fault.LineFault.{LineFault}
 use Rattle.mls_lines.specs.declared.fault.LineFault.TheVariants.{BadForm, UnknownName, BadLabel}
+
+-- What a fault is called. (own)
+abbrev pub fault_text : LineFault → List ℕ
+fault_text BadForm = codes "bad form"
+fault_text UnknownName = codes "bad name"
+fault_text BadLabel = codes "bad label"
 
 -- The first of two faults in the order bad form, unknown name, bad label. (own)
 abbrev pub first_fault : LineFault → LineFault → LineFault

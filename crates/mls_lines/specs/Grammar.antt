@@ -1,5 +1,5 @@
--- What it is for a line of a script to say something: the grammar in its own shape, a row for each form, apart from how lines are read.
-use Rattle.std.specs.Prelude.{◌≡◌, ◌≤◌, ◌⊎◌, ℕ, IsTrue, List, [], ◌∷◌, length, None, Some, codes}
+-- What a line of a script says and for which fault it is refused: the grammar in its own shape, apart from how lines are read.
+use Rattle.std.specs.Prelude.{◌≡◌, ◌≤◌, ◌⊎◌, ℕ, IsTrue, List, ◌∷◌, length, None, Some, All, Contains}
 use Rattle.std.specs.List.{list_all}
 use Rattle.std.specs.Fmt.{decimal}
 use Rattle.mls_labels.specs.Label.{Label}
@@ -7,20 +7,21 @@ use Rattle.mls_labels.specs.Names.{is_name}
 use Rattle.mls_labels.specs.Reading.{place_of}
 use Rattle.mls_labels.specs.Scheme.{Scheme}
 use Rattle.mls_labels.specs.LabelText as label
-use Rattle.mls_tables.specs.declared.mode.Mode.{Mode}
-use Rattle.mls_tables.specs.declared.mode.Mode.TheVariants.{Execute, Read, Append, Write}
-use Rattle.mls_rules.specs.declared.request.Action.{Action}
-use Rattle.mls_rules.specs.declared.request.Action.TheVariants.{Get, Release, Give, Rescind, Create, Delete, SubjectLevel, ObjectLevel}
-use Rattle.mls_lines.specs.declared.ask.Ask.{Ask}
-use Rattle.mls_lines.specs.declared.ask.Ask.TheVariants.{Submit, Check}
+use Rattle.mls_requests.specs.declared.action.Action.TheVariants as action
+use Rattle.mls_requests.specs.declared.ask.Ask.TheVariants as ask
+use Rattle.mls_lines.specs.declared.fault.LineFault.{LineFault}
+use Rattle.mls_lines.specs.declared.fault.LineFault.TheVariants.{BadForm, UnknownName, BadLabel}
+use Rattle.mls_lines.specs.declared.line.TheConstants.{MAX_LINE}
+use Rattle.mls_lines.specs.declared.number.TheConstants.{MAX_NUMBER}
+use Rattle.mls_lines.specs.Forms.{Form, Empty, Note, Check, Get, Release, Give, Rescind, Create, Bind, Delete, Level, Relabel, tokens_in, Part, Variable, Subject, Object, Security, Integrity, parts_in}
 use Rattle.mls_lines.specs.Labels.{is_label_byte}
+use Rattle.mls_lines.specs.LineView.{LineView, Blank, Asks, submits}
 use Rattle.mls_lines.specs.Names.{Names, bound_to}
-use Rattle.mls_lines.specs.ScriptLine.{LineView, Blank, Asks}
 use Rattle.mls_lines.specs.Tokens.{Spells}
 
 -- A token is `#` and the decimal text of a number that is at most 65,535. (own)
 abbrev pub IsNumber : List ℕ → ℕ → Type 0
-IsNumber token n = (n ≤ 65535) × (token ≡ 35 ∷ decimal n)
+IsNumber token n = (n ≤ MAX_NUMBER) × (token ≡ 35 ∷ decimal n)
 
 -- A token is a NAME, and the one with this place among names. (own)
 abbrev pub IsNamed : List (List ℕ) → List ℕ → ℕ → Type 0
@@ -30,11 +31,11 @@ IsNamed names token n = IsTrue (is_name token) × (place_of names token ≡ Some
 abbrev pub IsVariable : List (List ℕ × ℕ) → List ℕ → ℕ → Type 0
 IsVariable vars token o = (name : List ℕ) × (token ≡ 36 ∷ name) × IsTrue (is_name name) × (bound_to name vars ≡ Some o)
 
--- A token names this subject. (own)
+-- A token names this subject: by its name, or by its number, known or not. (own)
 abbrev pub IsSubject : Names → List ℕ → ℕ → Type 0
 IsSubject names token s = IsNamed names.subjects token s ⊎ IsNumber token s
 
--- A token names this object. (own)
+-- A token names this object: by its name, by its number, known or not, or by a variable. (own)
 abbrev pub IsObject : Names → List (List ℕ × ℕ) → List ℕ → ℕ → Type 0
 IsObject names vars token o = IsNamed names.objects token o ⊎ (IsNumber token o ⊎ IsVariable vars token o)
 
@@ -42,67 +43,95 @@ IsObject names vars token o = IsNamed names.objects token o ⊎ (IsNumber token 
 abbrev pub IsLabel : Scheme → List ℕ → Label → Type 0
 IsLabel scheme token l = IsTrue (list_all is_label_byte token) × label.Spells scheme token l
 
--- The word of a mode. (own)
-abbrev pub mode_word : Mode → List ℕ
-mode_word Execute = codes "execute"
-mode_word Read = codes "read"
-mode_word Append = codes "append"
-mode_word Write = codes "write"
+-- A token has the form of a subject: a NAME, or `#` and a number. (own)
+abbrev pub IsSubjectForm : List ℕ → Type 0
+IsSubjectForm token = IsTrue (is_name token) ⊎ ((n : ℕ) × IsNumber token n)
 
--- The word that asks for an access in a mode. (own)
-abbrev pub get_word : Mode → List ℕ
-get_word Execute = codes "get-execute"
-get_word Read = codes "get-read"
-get_word Append = codes "get-append"
-get_word Write = codes "get-write"
+-- A token has the form of an object: that of a subject, or `$` and a NAME. (own)
+abbrev pub IsObjectForm : List ℕ → Type 0
+IsObjectForm token = IsSubjectForm token ⊎ ((name : List ℕ) × (token ≡ 36 ∷ name) × IsTrue (is_name name))
 
--- The tokens that ask for an action, after the subject that asks. (own)
-abbrev pub AsksFor : Names → List (List ℕ × ℕ) → List (List ℕ) → Action → Type 0
-AsksFor names vars tokens (Get x o) = (obj : List ℕ) × (tokens ≡ get_word x ∷ obj ∷ []) × IsObject names vars obj o
-AsksFor names vars tokens (Release x o) =
-    (obj : List ℕ) × (tokens ≡ codes "release" ∷ mode_word x ∷ obj ∷ []) × IsObject names vars obj o
-AsksFor names vars tokens (Give x s o) =
-    (subj : List ℕ) × (obj : List ℕ) × (tokens ≡ codes "give" ∷ mode_word x ∷ subj ∷ obj ∷ []) × IsSubject names subj s × IsObject names vars obj o
-AsksFor names vars tokens (Rescind x s o) =
-    (subj : List ℕ) × (obj : List ℕ) × (tokens ≡ codes "rescind" ∷ mode_word x ∷ subj ∷ obj ∷ []) × IsSubject names subj s × IsObject names vars obj o
-AsksFor names vars tokens (Create parent security integrity) =
-    (obj : List ℕ) × (sec : List ℕ) × (int : List ℕ) × (tokens ≡ codes "create" ∷ obj ∷ sec ∷ int ∷ [])
-    × IsObject names vars obj parent × IsLabel names.security sec security × IsLabel names.integrity int integrity
-AsksFor names vars tokens (Delete o) = (obj : List ℕ) × (tokens ≡ codes "delete" ∷ obj ∷ []) × IsObject names vars obj o
-AsksFor names vars tokens (SubjectLevel l) = (lab : List ℕ) × (tokens ≡ codes "level" ∷ lab ∷ []) × IsLabel names.security lab l
-AsksFor names vars tokens (ObjectLevel o l) =
-    (obj : List ℕ) × (lab : List ℕ) × (tokens ≡ codes "relabel" ∷ obj ∷ lab ∷ []) × IsObject names vars obj o × IsLabel names.security lab l
+-- A part has its form: a NAME, the form of a subject or an object, or bytes from 33 to 126 alone. (own)
+abbrev pub IsInForm : Part → Type 0
+IsInForm (Variable name) = IsTrue (is_name name)
+IsInForm (Subject token) = IsSubjectForm token
+IsInForm (Object token) = IsObjectForm token
+IsInForm (Security token) = IsTrue (list_all is_label_byte token)
+IsInForm (Integrity token) = IsTrue (list_all is_label_byte token)
 
--- `SUBJ ACT`: a subject, and what it asks. (own)
-abbrev pub IsCommand : Names → List (List ℕ × ℕ) → List (List ℕ) → Ask → Type 0
-IsCommand names vars tokens (Submit r) =
-    (subj : List ℕ) × (rest : List (List ℕ)) × (tokens ≡ subj ∷ rest) × IsSubject names subj r.subject × AsksFor names vars rest r.action
-IsCommand names vars tokens (Check s o x) =
-    (subj : List ℕ) × (obj : List ℕ) × (tokens ≡ subj ∷ codes "check" ∷ mode_word x ∷ obj ∷ []) × IsSubject names subj s × IsObject names vars obj o
+-- A part that stands for a subject or an object names one. (own)
+abbrev pub IsKnown : Names → List (List ℕ × ℕ) → Part → Type 0
+IsKnown names vars (Variable name) = Unit {0}
+IsKnown names vars (Subject token) = (s : ℕ) × IsSubject names token s
+IsKnown names vars (Object token) = (o : ℕ) × IsObject names vars token o
+IsKnown names vars (Security token) = Unit {0}
+IsKnown names vars (Integrity token) = Unit {0}
 
--- An action that makes an object. (own)
-abbrev pub Makes : Action → Type 0
-Makes (Get x o) = ⊥
-Makes (Release x o) = ⊥
-Makes (Give x s o) = ⊥
-Makes (Rescind x s o) = ⊥
-Makes (Create parent security integrity) = Unit {0}
-Makes (Delete o) = ⊥
-Makes (SubjectLevel l) = ⊥
-Makes (ObjectLevel o l) = ⊥
+-- A part that stands for a label spells one of its scheme. (own)
+abbrev pub IsSpelled : Names → Part → Type 0
+IsSpelled names (Variable name) = Unit {0}
+IsSpelled names (Subject token) = Unit {0}
+IsSpelled names (Object token) = Unit {0}
+IsSpelled names (Security token) = (l : Label) × IsLabel names.security token l
+IsSpelled names (Integrity token) = (l : Label) × IsLabel names.integrity token l
 
--- `$NAME = SUBJ ACT`, where ACT makes an object. (own)
-abbrev pub IsBinding : Names → List (List ℕ × ℕ) → List (List ℕ) → List ℕ → Ask → Type 0
-IsBinding names vars tokens name (Submit r) =
-    (rest : List (List ℕ)) × (tokens ≡ (36 ∷ name) ∷ codes "=" ∷ rest) × IsTrue (is_name name) × Makes r.action × IsCommand names vars rest (Submit r)
-IsBinding names vars tokens name (Check s o x) = ⊥
+-- A line has a form: it has at most 20,000 bytes and spells the form's tokens, each part of which has its own form. (own)
+pub record HasForm (line : List ℕ) (form : Form) : Type 0 where
+  pub short : length line ≤ MAX_LINE
+  pub spells : Spells line (tokens_in form)
+  pub each : All IsInForm (parts_in form)
 
--- What tokens say: nothing where there is none or the first begins with `;`, or what they ask. (own)
-abbrev pub TokensSay : Names → List (List ℕ × ℕ) → List (List ℕ) → LineView → Type 0
-TokensSay names vars tokens Blank = (tokens ≡ []) ⊎ ((note : List ℕ) × (rest : List (List ℕ)) × (tokens ≡ (59 ∷ note) ∷ rest))
-TokensSay names vars tokens (Asks None a) = IsCommand names vars tokens a
-TokensSay names vars tokens (Asks (Some name) a) = IsBinding names vars tokens name a
+-- What a line of a form means, by what its parts name. (own)
+abbrev pub Means : Names → List (List ℕ × ℕ) → Form → LineView → Type 0
+-- a line without a token and a note ask nothing
+Means names vars Empty view = view ≡ Blank
+Means names vars (Note note rest) view = view ≡ Blank
+-- `SUBJ check MODE OBJ`: whether the subject has this access to the object
+Means names vars (Check subj x obj) view =
+    (s o : ℕ) × IsSubject names subj s × IsObject names vars obj o × (view ≡ Asks None (ask.Check s o x))
+-- `SUBJ get-MODE OBJ`: an access in this mode
+Means names vars (Get subj x obj) view =
+    (s o : ℕ) × IsSubject names subj s × IsObject names vars obj o × (view ≡ Asks None (submits s (action.Get x o)))
+-- `SUBJ release MODE OBJ`: the end of an access
+Means names vars (Release subj x obj) view =
+    (s o : ℕ) × IsSubject names subj s × IsObject names vars obj o × (view ≡ Asks None (submits s (action.Release x o)))
+-- `SUBJ give MODE SUBJ OBJ`: a permission for the second subject
+Means names vars (Give subj x to obj) view =
+    (s t o : ℕ) × IsSubject names subj s × IsSubject names to t × IsObject names vars obj o × (view ≡ Asks None (submits s (action.Give x t o)))
+-- `SUBJ rescind MODE SUBJ OBJ`: that it be permitted no longer
+Means names vars (Rescind subj x of obj) view =
+    (s t o : ℕ) × IsSubject names subj s × IsSubject names of t × IsObject names vars obj o × (view ≡ Asks None (submits s (action.Rescind x t o)))
+-- `SUBJ create OBJ LABEL LABEL`: an object of this security and this integrity label below a parent
+Means names vars (Create subj obj sec int) view =
+    (s o : ℕ) × (l i : Label) × IsSubject names subj s × IsObject names vars obj o × IsLabel names.security sec l × IsLabel names.integrity int i
+    × (view ≡ Asks None (submits s (action.Create o l i)))
+-- `$NAME = SUBJ create OBJ LABEL LABEL`: the same, and the variable is bound to the object
+Means names vars (Bind name subj obj sec int) view =
+    (s o : ℕ) × (l i : Label) × IsSubject names subj s × IsObject names vars obj o × IsLabel names.security sec l × IsLabel names.integrity int i
+    × (view ≡ Asks (Some name) (submits s (action.Create o l i)))
+-- `SUBJ delete OBJ`: that an object be deleted
+Means names vars (Delete subj obj) view =
+    (s o : ℕ) × IsSubject names subj s × IsObject names vars obj o × (view ≡ Asks None (submits s (action.Delete o)))
+-- `SUBJ level LABEL`: another current label for the subject
+Means names vars (Level subj lab) view =
+    (s : ℕ) × (l : Label) × IsSubject names subj s × IsLabel names.security lab l × (view ≡ Asks None (submits s (action.SubjectLevel l)))
+-- `SUBJ relabel OBJ LABEL`: another security label for an object
+Means names vars (Relabel subj obj lab) view =
+    (s o : ℕ) × (l : Label) × IsSubject names subj s × IsObject names vars obj o × IsLabel names.security lab l
+    × (view ≡ Asks None (submits s (action.ObjectLevel o l)))
 
--- A line of at most 20,000 bytes says what the tokens say that it spells. (own)
+-- A line says what it means in a form that it has. (own)
 abbrev pub Says : Names → List (List ℕ × ℕ) → List ℕ → LineView → Type 0
-Says names vars line view = (length line ≤ 20000) × (tokens : List (List ℕ)) × Spells line tokens × TokensSay names vars tokens view
+Says names vars line view = (form : Form) × HasForm line form × Means names vars form view
+
+-- When each fault comes: its own condition holds, and those of the faults before it don't. (own)
+abbrev pub IsRefused : Names → List (List ℕ × ℕ) → List ℕ → LineFault → Type 0
+-- the line has none of the forms
+IsRefused names vars line BadForm = (form : Form) → HasForm line form → ⊥
+-- it has one, and some part that stands for a subject or an object names none
+IsRefused names vars line UnknownName =
+    (form : Form) × HasForm line form × (part : Part) × Contains (parts_in form) part × (IsKnown names vars part → ⊥)
+-- all subjects and objects are known, and some part that stands for a label spells none
+IsRefused names vars line BadLabel =
+    (form : Form) × HasForm line form × All (IsKnown names vars) (parts_in form)
+    × (part : Part) × Contains (parts_in form) part × (IsSpelled names part → ⊥)

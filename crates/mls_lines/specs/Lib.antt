@@ -1,6 +1,8 @@
 pub mod Fault
+pub mod Forms
 pub mod Grammar
 pub mod Labels
+pub mod LineView
 pub mod Names
 pub mod Numbers
 pub mod ScriptLine

@@ -1,43 +1,30 @@
 -- What a line of a script asks, by cases on its tokens.
-use Rattle.std.specs.Prelude.{ℕ, List, [], ◌∷◌, if◌then◌else◌, Option, Some, None, Result, Ok, Err, option_map, ◌==◌, ◌&&◌, nat_lt, length, codes}
+use Rattle.std.specs.Prelude.{ℕ, List, [], ◌∷◌, if◌then◌else◌, Option, Some, None, Result, Ok, Err, ◌==◌, ◌&&◌, nat_lt, length, codes}
 use Rattle.std.specs.Str.{bytes_eq}
 use Rattle.mls_labels.specs.Label.{Label}
 use Rattle.mls_labels.specs.Names.{is_name}
 use Rattle.mls_labels.specs.Reading.{place_of}
 use Rattle.mls_tables.specs.declared.mode.Mode.{Mode}
-use Rattle.mls_rules.specs.declared.request.Action.{Action}
-use Rattle.mls_rules.specs.declared.request.Action.TheVariants as action
-use Rattle.mls_lines.specs.declared.ask.Ask.{Ask}
-use Rattle.mls_lines.specs.declared.ask.Ask.TheVariants as ask
-use Rattle.mls_lines.specs.declared.ask.Line.{Line}
-use Rattle.mls_lines.specs.declared.ask.Line.TheVariants as line
+use Rattle.mls_requests.specs.declared.action.Action.{Action}
+use Rattle.mls_requests.specs.declared.action.Action.TheVariants as action
+use Rattle.mls_requests.specs.declared.action_word.ActionWord.{ActionWord}
+use Rattle.mls_requests.specs.declared.action_word.ActionWord.TheVariants as word
+use Rattle.mls_requests.specs.ActionWords.{action_word}
+use Rattle.mls_requests.specs.ModeWords.{read_mode}
+use Rattle.mls_requests.specs.declared.ask.Ask.{Ask}
+use Rattle.mls_requests.specs.declared.ask.Ask.TheVariants as ask
 use Rattle.mls_lines.specs.declared.fault.LineFault.{LineFault}
 use Rattle.mls_lines.specs.declared.fault.LineFault.TheVariants.{BadForm, UnknownName}
-use Rattle.mls_lines.specs.declared.words.Change.{Change}
-use Rattle.mls_lines.specs.declared.words.Change.TheVariants as change
-use Rattle.mls_lines.specs.declared.words.Word.{Word}
-use Rattle.mls_lines.specs.declared.words.Word.TheVariants as word
+use Rattle.mls_lines.specs.declared.line.TheConstants.{MAX_LINE}
+use Rattle.mls_lines.specs.declared.command.Word.{Word}
+use Rattle.mls_lines.specs.declared.command.Word.TheVariants.{Check, Action as Asked}
 use Rattle.mls_lines.specs.Fault.{both}
 use Rattle.mls_lines.specs.Labels.{label_named}
+pub use Rattle.mls_lines.specs.LineView.{LineView, Blank, Asks, said_by, line_view, submits}
 use Rattle.mls_lines.specs.Names.{Names, bound_to}
 use Rattle.mls_lines.specs.Numbers.{number_of}
 use Rattle.mls_lines.specs.Tokens.{tokens_of, one_of, two_of, three_of, name_of}
-use Rattle.mls_lines.specs.Words.{mode_of, word_of}
-
--- What a line says: nothing, or what it asks, and the name of the variable to bind where it has one. (own)
-pub data LineView : Type 0 where
-  Blank : LineView
-  Asks : Option (List ℕ) → Ask → LineView
-
--- what a line of the program says
-abbrev pub said_by : Line → LineView
-said_by line.Blank = Blank
-said_by (line.Ask bind a) = Asks (option_map (λ name. name.now) bind) a
-
--- what the program's reading of a line says
-abbrev pub line_view : Result Line LineFault → Result LineView LineFault
-line_view (Ok l) = Ok (said_by l)
-line_view (Err f) = Err f
+use Rattle.mls_lines.specs.Words.{word_of}
 
 -- The number that was found for a name, or the fault that the name is unknown. (own)
 abbrev pub known : Option ℕ → Result ℕ LineFault
@@ -88,12 +75,12 @@ with_mode (Some x) (Err f) = Err f
 -- The operands of `release` and `check`: `MODE OBJ`. (own)
 abbrev pub mode_and_object : Names → List (List ℕ × ℕ) → Option (List ℕ × List ℕ) → Result (Mode × ℕ) LineFault
 mode_and_object names vars None = Err BadForm
-mode_and_object names vars (Some p) = with_mode (mode_of p.0) (object_of names vars p.1)
+mode_and_object names vars (Some p) = with_mode (read_mode p.0) (object_of names vars p.1)
 
 -- The operands of `give` and `rescind`: `MODE SUBJ OBJ`. (own)
 abbrev pub cell_operands : Names → List (List ℕ × ℕ) → Option (List ℕ × List ℕ × List ℕ) → Result (Mode × (ℕ × ℕ)) LineFault
 cell_operands names vars None = Err BadForm
-cell_operands names vars (Some p) = with_mode (mode_of p.0) (both (subject_of names p.1) (object_of names vars p.2))
+cell_operands names vars (Some p) = with_mode (read_mode p.0) (both (subject_of names p.1) (object_of names vars p.2))
 
 -- The operands of `create`: `OBJ LABEL LABEL`, the parent, the security label and the integrity label. (own)
 abbrev pub create_operands : Names → List (List ℕ × ℕ) → Option (List ℕ × List ℕ × List ℕ) → Result (ℕ × (Label × Label)) LineFault
@@ -116,34 +103,26 @@ abbrev pub made_of : {X Y : Type 0} → (X → Y) → Result X LineFault → Res
 made_of f (Ok x) = Ok (f x)
 made_of f (Err fault) = Err fault
 
--- The request of a subject for an action. (own)
-abbrev pub submits : ℕ → Action → Ask
-submits s a = ask.Submit (record { subject = s; action = a })
+-- What a word and its operands ask for. (own)
+abbrev pub action_of : Names → List (List ℕ × ℕ) → List (List ℕ) → ActionWord → Result Action LineFault
+action_of names vars operands (word.Get x) = made_of (λ o. action.Get x o) (object_operand names vars (one_of operands))
+action_of names vars operands word.Release = made_of (λ p. action.Release p.0 p.1) (mode_and_object names vars (two_of operands))
+action_of names vars operands word.Give = made_of (λ p. action.Give p.0 p.1.0 p.1.1) (cell_operands names vars (three_of operands))
+action_of names vars operands word.Rescind = made_of (λ p. action.Rescind p.0 p.1.0 p.1.1) (cell_operands names vars (three_of operands))
+action_of names vars operands word.Create = made_of (λ p. action.Create p.0 p.1.0 p.1.1) (create_operands names vars (three_of operands))
+action_of names vars operands word.Delete = made_of (λ o. action.Delete o) (object_operand names vars (one_of operands))
+action_of names vars operands word.Level = made_of (λ l. action.SubjectLevel l) (level_operand names (one_of operands))
+action_of names vars operands word.Relabel = made_of (λ p. action.ObjectLevel p.0 p.1) (relabel_operands names vars (two_of operands))
 
--- What a subject, a change's word and its operands ask. (own)
-abbrev pub change_asked : Names → List (List ℕ × ℕ) → Result ℕ LineFault → List (List ℕ) → Change → Result Ask LineFault
-change_asked names vars subject operands change.Give =
-    made_of (λ p. submits p.0 (action.Give p.1.0 p.1.1.0 p.1.1.1)) (both subject (cell_operands names vars (three_of operands)))
-change_asked names vars subject operands change.Rescind =
-    made_of (λ p. submits p.0 (action.Rescind p.1.0 p.1.1.0 p.1.1.1)) (both subject (cell_operands names vars (three_of operands)))
-change_asked names vars subject operands change.Create =
-    made_of (λ p. submits p.0 (action.Create p.1.0 p.1.1.0 p.1.1.1)) (both subject (create_operands names vars (three_of operands)))
-change_asked names vars subject operands change.Delete =
-    made_of (λ p. submits p.0 (action.Delete p.1)) (both subject (object_operand names vars (one_of operands)))
-change_asked names vars subject operands change.Level =
-    made_of (λ p. submits p.0 (action.SubjectLevel p.1)) (both subject (level_operand names (one_of operands)))
-change_asked names vars subject operands change.Relabel =
-    made_of (λ p. submits p.0 (action.ObjectLevel p.1.0 p.1.1)) (both subject (relabel_operands names vars (two_of operands)))
+-- The request of a subject for an action, where both were read. (own)
+abbrev pub submitted : Result ℕ LineFault → Result Action LineFault → Result Ask LineFault
+submitted subject act = made_of (λ p. submits p.0 p.1) (both subject act)
 
 -- What a subject, a word and its operands ask. (own)
 abbrev pub ask_of : Names → List (List ℕ × ℕ) → Result ℕ LineFault → List (List ℕ) → Word → Result Ask LineFault
-ask_of names vars subject operands word.Check =
+ask_of names vars subject operands Check =
     made_of (λ p. ask.Check p.0 p.1.1 p.1.0) (both subject (mode_and_object names vars (two_of operands)))
-ask_of names vars subject operands (word.Get x) =
-    made_of (λ p. submits p.0 (action.Get x p.1)) (both subject (object_operand names vars (one_of operands)))
-ask_of names vars subject operands word.Release =
-    made_of (λ p. submits p.0 (action.Release p.1.0 p.1.1)) (both subject (mode_and_object names vars (two_of operands)))
-ask_of names vars subject operands (word.Change c) = change_asked names vars subject operands c
+ask_of names vars subject operands (Asked w) = submitted subject (action_of names vars operands w)
 
 -- What a line asks that binds this variable, or none. (own)
 abbrev pub asked : Option (List ℕ) → Result Ask LineFault → Result LineView LineFault
@@ -166,13 +145,13 @@ created_by [] = None
 created_by (e ∷ []) = None
 created_by (e ∷ subject ∷ []) = None
 created_by (e ∷ subject ∷ w ∷ operands) =
-    if bytes_eq e (codes "=") && bytes_eq w (codes "create") then Some (subject, operands) else None
+    if bytes_eq e (codes "=") && bytes_eq w (action_word word.Create) then Some (subject, operands) else None
 
 -- What a line asks that binds a variable, where its name is one and what stands after it is of that form. (own)
 abbrev pub binding_line : Names → List (List ℕ × ℕ) → Option (List ℕ) → Option (List ℕ × List (List ℕ)) → Result LineView LineFault
 binding_line names vars None parts = Err BadForm
 binding_line names vars (Some name) None = Err BadForm
-binding_line names vars (Some name) (Some p) = asked (Some name) (change_asked names vars (subject_of names p.0) p.1 change.Create)
+binding_line names vars (Some name) (Some p) = asked (Some name) (submitted (subject_of names p.0) (action_of names vars p.1 word.Create))
 
 -- What a first token says with those after it: `;` begins a note, `$` a variable to bind, and all else is a subject. (own)
 abbrev pub said_first : Names → List (List ℕ × ℕ) → List ℕ → List (List ℕ) → Result LineView LineFault
@@ -189,4 +168,4 @@ said_of names vars (token ∷ rest) = said_first names vars token rest
 
 -- What a line says: at most 20,000 bytes, and then what its tokens say. (own)
 abbrev pub line_of : Names → List (List ℕ × ℕ) → List ℕ → Result LineView LineFault
-line_of names vars line = if nat_lt 20000 (length line) then Err BadForm else said_of names vars (tokens_of line)
+line_of names vars line = if nat_lt MAX_LINE (length line) then Err BadForm else said_of names vars (tokens_of line)

@@ -13,12 +13,12 @@ with_binding (b ∷ bindings) name object = if bytes_eq name b.0 then (b.0, obje
 abbrev pub Binds : List (List ℕ × ℕ) → List ℕ → ℕ → List (List ℕ × ℕ) → Type 0
 Binds old name object new = (other : List ℕ) → bound_to other new ≡ (if bytes_eq other name then Some object else bound_to other old)
 
--- What variables are bound to, and how many more fit with no new memory. (own)
+-- What variables are bound to, and how many more fit without an allocation. (own)
 pub record Vars : Type 0 where
   pub bound : List (List ℕ × ℕ)
   pub room : ℕ
 
--- variables are stored as the pair of their parts
+-- Variables are stored as the pair of their parts. (own)
 abbrev pub vars_code : Coded Vars
 vars_code =
     code_by (List (List ℕ × ℕ) × ℕ) (coded× (coded_list (coded× (coded_list coded_ℕ) coded_ℕ)) coded_ℕ) (λ b. (b.bound, b.room)) (λ p. record { bound = p.0; room = p.1 }) (λ _. refl)

@@ -1,21 +1,32 @@
 //! Why a line asks nothing.
 ghost use Rattle.std.specs.Prelude.{◌≡◌};
-ghost use Rattle.mls_lines.specs.Fault.{first_fault as first_of, both as both_parts};
+ghost use Rattle.mls_lines.specs.Fault.{first_fault as first_of, both as both_parts, fault_text};
 
 use thiserror::Error;
 
-/// Why a line asks nothing. Where several faults apply, the first of these is answered.
+/// Why a line asks nothing. Where several faults apply, a line is refused for the first of these.
 #[derive(Clone, Copy, Debug, PartialEq, Eq, Error)]
+#[error("{}", self.text())]
 pub enum LineFault {
     /// The line isn't of the form of a line.
-    #[error("bad form")]
     BadForm,
     /// A name isn't that of a subject or an object of the start, or a variable isn't bound.
-    #[error("bad name")]
     UnknownName,
     /// A label isn't one of its scheme, for whatever cause.
-    #[error("bad label")]
     BadLabel,
+}
+
+impl LineFault {
+    /// What the fault is called.
+    pub fn text(self) -> &'static str
+        ensures { result.now ≡ fault_text self }
+    {
+        match self {
+            LineFault::BadForm => "bad form",
+            LineFault::UnknownName => "bad name",
+            LineFault::BadLabel => "bad label",
+        }
+    }
 }
 
 /// The first of two faults, in their order.

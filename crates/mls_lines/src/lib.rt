@@ -1,25 +1,24 @@
 //! The room where the bytes of a script's line become what it asks: names, variables and the grammar of lines.
 #![tactic(auto)]
 
-mod ask;
-mod changes;
+mod command;
 mod fault;
 mod grammar;
-mod labels;
+mod label;
 mod line;
 mod names;
-mod numbers;
-mod operand_groups;
-mod operands;
-mod tokens;
-mod vars;
-mod words;
+mod names_fault;
+mod number;
+mod operand;
+mod token;
+mod variables;
 
-pub use ask::{Ask, Line};
 pub use fault::LineFault;
-pub use grammar::lines_law;
-pub use line::{MAX_LINE, read_line};
+pub use grammar::{a_line_has_one_meaning, lines_law};
+pub use line::{Line, MAX_LINE, read_line};
+pub use mls_requests::Ask;
 pub use names::Names;
-pub use numbers::numbers_law;
-pub use tokens::tokens_law;
-pub use vars::Vars;
+pub use names_fault::NamesFault;
+pub use number::numbers_law;
+pub use token::tokens_law;
+pub use variables::Vars;

@@ -1,51 +1,27 @@
 //! Reading one line of a script.
 ghost use Rattle.std.specs.Prelude.{◌≡◌, option_map};
 ghost use Rattle.mls_lines.specs.Tokens.{tokens_of, name_of};
-ghost use Rattle.mls_lines.specs.ScriptLine.{line_of, line_view, command_line, created_by, binding_line};
+ghost use Rattle.mls_lines.specs.ScriptLine.{line_of, line_view, created_by, binding_line};
 
-use crate::ask::{Ask, Line};
-use crate::changes::{read_change, submits};
-use crate::fault::{LineFault, both};
+use crate::command::{read_action, read_command, submits};
+use crate::fault::LineFault;
 use crate::names::Names;
-use crate::operand_groups::{read_access, read_one};
-use crate::operands::read_subject;
-use crate::tokens::{next_token, read_name};
-use crate::vars::Vars;
-use crate::words::{Change, Word, read_word};
-use mls_rules::Action;
+use crate::operand::read_subject;
+use crate::token::{next_token, read_name};
+use crate::variables::Vars;
+use mls_requests::{ActionWord, Ask};
 use std::alloc::Allocator;
 
 /// The most bytes that a line may have, without its newline.
 pub const MAX_LINE: usize = 20_000;
 
-/// Reads what stands after a subject: a word and its operands.
-fn read_command<'a, A: Allocator, B: Allocator>(
-    names: &Names<A>,
-    vars: &Vars<B>,
-    subject: &'a [u8],
-    rest: &'a [u8],
-) -> Result<Line<'a>, LineFault>
-    ensures { line_view result ≡ command_line names.now vars.now.bound subject.now (tokens_of rest.now) }
-{
-    let (word, operands) = next_token(rest).ok_or(LineFault::BadForm)?;
-    let word = read_word(word).ok_or(LineFault::BadForm)?;
-    let subject = read_subject(names, subject);
-    match word {
-        Word::Check => {
-            let (subject, (mode, object)) = both(subject, read_access(names, vars, operands))?;
-            let ask = Ask::Check(subject, object, mode);
-            Ok(Line::Ask { bind: None, ask })
-        }
-        Word::Get(mode) => {
-            let (subject, object) = both(subject, read_one(names, vars, operands))?;
-            submits(None, subject, Action::Get(mode, object))
-        }
-        Word::Release => {
-            let (subject, (mode, object)) = both(subject, read_access(names, vars, operands))?;
-            submits(None, subject, Action::Release(mode, object))
-        }
-        Word::Change(change) => read_change(names, vars, None, subject, change, operands),
-    }
+/// A line that has the form of a line, without its newline.
+#[derive(Clone, Copy, Debug, PartialEq, Eq)]
+pub enum Line<'a> {
+    /// No token, or a note: it asks nothing and is not answered.
+    Blank,
+    /// It asks, and `bind` is the variable that is to be bound to the object that was made.
+    Ask { bind: Option<&'a str>, ask: Ask },
 }
 
 /// The subject and the operands of a line that binds, of which this stands after the variable.
@@ -55,7 +31,7 @@ fn split_binding(rest: &[u8]) -> Option<(&[u8], &[u8])>
     let (equals, rest) = next_token(rest)?;
     let (subject, rest) = next_token(rest)?;
     let (word, operands) = next_token(rest)?;
-    if equals == b"=".as_slice() && word == b"create".as_slice() {
+    if equals == b"=".as_slice() && word == ActionWord::Create.word().as_bytes() {
         Some((subject, operands))
     } else {
         None
@@ -74,13 +50,16 @@ fn read_binding<'a, A: Allocator, B: Allocator>(
     let name = read_name(name).ok_or(LineFault::BadForm)?;
     let (subject, operands) = split_binding(rest).ok_or(LineFault::BadForm)?;
     let subject = read_subject(names, subject);
-    read_change(names, vars, Some(name), subject, Change::Create, operands)
+    let action = read_action(names, vars, ActionWord::Create, operands);
+    submits(Some(name), subject, action)
 }
 
-/// Reads a line of a script, without its newline. It takes no memory.
+/// Reads a line of a script, without its newline. It doesn't allocate.
 ///
-/// A line longer than `MAX_LINE` is a bad form, whatever it holds. A line without a token is blank, and so is a note, whose first byte
-/// that isn't a space is `;`. The fault is the first that applies to the whole line.
+/// A line without a token is blank, and so is a note, whose first byte that isn't a space is `;`.
+///
+/// # Errors
+/// The first fault that applies to the whole line. A line longer than `MAX_LINE` is a bad form, whatever it holds.
 pub fn read_line<'a, A: Allocator, B: Allocator>(
     names: &Names<A>,
     vars: &Vars<B>,

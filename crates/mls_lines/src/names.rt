@@ -1,11 +1,14 @@
 //! The names of a start's subjects and objects, and its schemes of labels.
-ghost use Rattle.std.specs.Prelude.{◌≡◌, ◌≤◌, false, length, map, IfOk};
+ghost use Rattle.std.specs.Prelude.{◌≡◌, ◌≢◌, ◌≤◌, false, true, length, Some, None, IfNone, IfOk, IfErr, OnOk};
+ghost use Rattle.mls_tables.specs.declared.limits.TheConstants.{MAX_SUBJECTS, MAX_OBJECTS};
 ghost use Rattle.mls_labels.specs.Names.{has_twice};
 ghost use Rattle.mls_labels.specs.Reading.{place_of};
+ghost use Rattle.mls_lines.specs.Names.{texts, fault_of_counts, names_fault};
 
-use mls_labels::{NameSet, Scheme};
-use mls_tables::{ObjectId, SubjectId};
-use std::alloc::{AllocError, Allocator, Global};
+use crate::names_fault::NamesFault;
+use mls_labels::{NameSet, NameSetFault, Scheme};
+use mls_tables::{MAX_OBJECTS, MAX_SUBJECTS, ObjectId, SubjectId};
+use std::alloc::{Allocator, Global};
 use std::marker::Model;
 
 /// The names of a start's subjects and of its objects, whose places are their numbers, and the schemes of its security and its
@@ -20,6 +23,7 @@ pub struct Names<A: Allocator = Global> {
 
 impl<A: Allocator> Model for Names<A> {
     ghost use Rattle.std.specs.Prelude.{◌≤◌, length};
+    ghost use Rattle.mls_tables.specs.declared.limits.TheConstants.{MAX_SUBJECTS, MAX_OBJECTS};
     ghost use Rattle.mls_lines.specs.Names.{Names, names_code};
 
     ghost Value = { Names };
@@ -28,30 +32,82 @@ impl<A: Allocator> Model for Names<A> {
 
     ghost view = { λ n. record { subjects = n.subjects; objects = n.objects; security = n.security; integrity = n.integrity } };
 
-    ghost invariant = { λ n. (length n.subjects ≤ 256) × (length n.objects ≤ 4096) };
+    ghost invariant = { λ n. (length n.subjects ≤ MAX_SUBJECTS) × (length n.objects ≤ MAX_OBJECTS) };
+}
+
+/// The fault of how many names there are.
+fn count_fault(subjects: &[&str], objects: &[&str]) -> Option<NamesFault>
+    ensures fault { result ≡ fault_of_counts (texts subjects.now) (texts objects.now) }
+    ensures few { IfNone result ((length subjects.now ≤ MAX_SUBJECTS) × (length objects.now ≤ MAX_OBJECTS)) }
+{
+    if subjects.len() > MAX_SUBJECTS as usize {
+        Some(NamesFault::TooManySubjects)
+    } else if objects.len() > MAX_OBJECTS as usize {
+        Some(NamesFault::TooManyObjects)
+    } else {
+        None
+    }
+}
+
+/// The set of these names, or this fault where a name stands twice.
+fn name_set<A: Allocator + Copy>(
+    alloc: A,
+    names: &[&str],
+    repeated: NamesFault,
+) -> Result<NameSet<A>, NamesFault>
+    ensures ok { IfOk result (λ set. set ≡ texts names.now) }
+    ensures once { OnOk result (has_twice (texts names.now) ≡ false) }
+    ensures fault { IfErr result (λ fault. fault ≢ NamesFault.Memory → (fault ≡ repeated) × (has_twice (texts names.now) ≡ true)) }
+{
+    match NameSet::from_names(alloc, names) {
+        Ok(names) => Ok(names),
+        Err(NameSetFault::Repeated) => Err(repeated),
+        Err(NameSetFault::Memory) => Err(NamesFault::Memory),
+    }
+}
+
+/// The set of the subjects' names and that of the objects'.
+fn name_sets<A: Allocator + Copy>(
+    alloc: A,
+    subjects: &[&str],
+    objects: &[&str],
+) -> Result<(NameSet<A>, NameSet<A>), NamesFault>
+    ensures ok { IfOk result (λ p. (p.0 ≡ texts subjects.now) × (p.1 ≡ texts objects.now)) }
+    ensures few { OnOk result ((length subjects.now ≤ MAX_SUBJECTS) × (length objects.now ≤ MAX_OBJECTS)) }
+    ensures faultless { OnOk result (names_fault (texts subjects.now) (texts objects.now) ≡ None) }
+    ensures fault { IfErr result (λ fault. fault ≢ NamesFault.Memory → names_fault (texts subjects.now) (texts objects.now) ≡ Some fault) }
+    ensures memory { IfErr result (λ fault. fault ≡ NamesFault.Memory → fault_of_counts (texts subjects.now) (texts objects.now) ≡ None) }
+{
+    if let Some(fault) = count_fault(subjects, objects) {
+        return Err(fault);
+    }
+    let subjects = name_set(alloc, subjects, NamesFault::RepeatedSubject)?;
+    let objects = name_set(alloc, objects, NamesFault::RepeatedObject)?;
+    Ok((subjects, objects))
 }
 
 impl<A: Allocator + Copy> Names<A> {
-    /// The names of at most 256 subjects and 4,096 objects in their order, no subject's name and no object's twice.
+    /// The names of at most `MAX_SUBJECTS` subjects and `MAX_OBJECTS` objects in their order.
     ///
     /// # Errors
-    /// `AllocError` where a growth was refused.
+    /// The first fault of the names in the order of [`NamesFault`]; `Memory` where an allocation failed, which may come before a
+    /// repeated name, but not before too many of them.
     pub fn new(
         alloc: A,
         subjects: &[&str],
         objects: &[&str],
         security: Scheme<A>,
         integrity: Scheme<A>,
-    ) -> Result<Names<A>, AllocError>
-        requires few_subjects { length subjects.now ≤ 256 }
-        requires few_objects { length objects.now ≤ 4096 }
-        requires subjects { has_twice (map (λ name. name.now) subjects.now) ≡ false }
-        requires objects { has_twice (map (λ name. name.now) objects.now) ≡ false }
-        ensures { IfOk result (λ n. n ≡ record { subjects = map (λ name. name.now) subjects.now; objects = map (λ name. name.now) objects.now; security = security; integrity = integrity }) }
+    ) -> Result<Names<A>, NamesFault>
+        ensures ok { IfOk result (λ n. n ≡ record { subjects = texts subjects.now; objects = texts objects.now; security = security; integrity = integrity }) }
+        ensures faultless { OnOk result (names_fault (texts subjects.now) (texts objects.now) ≡ None) }
+        ensures fault { IfErr result (λ fault. fault ≢ NamesFault.Memory → names_fault (texts subjects.now) (texts objects.now) ≡ Some fault) }
+        ensures memory { IfErr result (λ fault. fault ≡ NamesFault.Memory → fault_of_counts (texts subjects.now) (texts objects.now) ≡ None) }
     {
+        let (subjects, objects) = name_sets(alloc, subjects, objects)?;
         Ok(Names {
-            subjects: NameSet::from_names(alloc, subjects)?,
-            objects: NameSet::from_names(alloc, objects)?,
+            subjects,
+            objects,
             security,
             integrity,
         })

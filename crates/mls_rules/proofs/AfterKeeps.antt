@@ -1,10 +1,10 @@
 -- What a state has, and what each granted change keeps, the state after any request has.
 use Rattle.std.proofs.Common.{◌≡◌, Bool, true, false, List, [], ◌∷◌, refl, sym, ap, ◌∙◌, if◌then◌else◌}
-use Rattle.mls_rules.specs.declared.request.Request.{Request}
-use Rattle.mls_rules.specs.declared.request.Reason.{Reason}
-use Rattle.mls_rules.specs.declared.request.Reply.{Reply}
-use Rattle.mls_rules.specs.declared.request.Reply.TheVariants.{Yes, Created, No, Undefined}
-use Rattle.mls_rules.specs.State.{State}
+use Rattle.mls_requests.specs.declared.request.Request.{Request}
+use Rattle.mls_requests.specs.declared.reason.Reason.{Reason}
+use Rattle.mls_requests.specs.declared.reply.Reply.{Reply}
+use Rattle.mls_requests.specs.declared.reply.Reply.TheVariants.{Yes, Created, No, Undefined}
+use Rattle.mls_state.specs.State.{State}
 use Rattle.mls_rules.specs.Rules.{conditions, AllHold, granted, first_failing, reply_unless, is_defined, reply, change, after_reply, after}
 
 -- the request is in the domain, and every condition of its action holds

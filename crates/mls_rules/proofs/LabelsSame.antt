@@ -4,8 +4,8 @@ use Rattle.std.specs.FinSet as set
 use Rattle.std.specs.FinMap as map
 use Rattle.mls_tables.specs.Mode.{observes, alters, uses}
 use Rattle.mls_tables.specs.Triples.{Triple}
-use Rattle.mls_rules.specs.State.{State, is_above}
-use Rattle.mls_rules.specs.Properties.{star_between, simple_holds, star_holds, integrity_holds, compatible_holds}
+use Rattle.mls_state.specs.State.{State, is_above}
+use Rattle.mls_state.specs.Properties.{star_between, simple_holds, star_holds, integrity_holds, compatible_holds}
 
 -- a triple passes the tests on its subject and its object where it did with the same labels of the object
 module _ (v w : State) (t : Triple) where

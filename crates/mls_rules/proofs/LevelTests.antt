@@ -6,13 +6,13 @@ use Rattle.std.specs.FinSet as set
 use Rattle.std.proofs.lemmas.List.{take_all}
 use Rattle.std.proofs.lemmas.List.Folds.{list_all_at}
 use Rattle.mls_labels.specs.Label.{Label}
-use Rattle.mls_labels.specs.Each.{each}
+use Rattle.mls_facts.specs.Each.{each}
 use Rattle.mls_tables.specs.Mode.{observes}
 use Rattle.mls_tables.specs.Triples.{Triple, TripleSet, triple_cmp}
-use Rattle.mls_rules.specs.State.{State, is_above}
-use Rattle.mls_rules.specs.Properties.{simple_holds, star_between, star_holds}
-use Rattle.mls_rules.specs.Levels.{with_current, with_object_label}
-use Rattle.mls_rules.proofs.Entries.{at_same}
+use Rattle.mls_state.specs.State.{State, is_above}
+use Rattle.mls_state.specs.Properties.{simple_holds, star_between, star_holds}
+use Rattle.mls_state.specs.Changes.{with_current, with_object_label}
+use Rattle.mls_facts.proofs.Entries.{at_same}
 use Rattle.mls_rules.proofs.Listed.{each-listed}
 
 -- star of an access of the subject, with another current label

@@ -1,23 +1,10 @@
-pub mod AfterKeeps
-pub mod AllTriples
-pub mod Changes
-pub mod Copies
-pub mod EachTriple
-pub mod Entries
-pub mod Growing
-pub mod Kept
-pub mod LabelsSame
-pub mod LevelTests
-pub mod Listed
-pub mod NumberedSet
-pub mod Removing
-pub mod Replacing
-pub mod Security
-pub mod SecurityGive
-pub mod SecurityLevels
-pub mod SecurityTree
-pub mod StandardSecure
-pub mod StandardState
-pub mod Tables
-pub mod TreeKept
-pub mod WholeTables
+mod AfterKeeps
+mod LabelsSame
+mod LevelTests
+mod Listed
+mod Security
+mod SecurityGive
+mod SecurityLevels
+mod SecurityTree
+mod TreeKept
+mod WholeTables

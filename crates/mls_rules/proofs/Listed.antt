@@ -3,39 +3,39 @@ use Rattle.std.proofs.Common.{◌≡◌, ℕ, Bool, true, List, [], ◌∷◌, �
 use Rattle.std.specs.List.{list_any, list_all}
 use Rattle.std.specs.FinMap as map
 use Rattle.std.specs.FinSet as set
-use Rattle.std.proofs.lemmas.Bool.{eqb-true, eq-eqb}
-use Rattle.mls_labels.specs.CategoryBits.{same_tests}
-use Rattle.mls_labels.specs.Each.{each, each-contains, contains-each}
-use Rattle.mls_tables.specs.Triples.{Triple, TripleSet, triple_cmp, triples_total, same_triple}
+use Rattle.std.proofs.lemmas.Bool.{eqb-true, eq-eqb, or_cases, and_parts, and_from, or_right}
+use Rattle.std.specs.Cmp.{both_ways}
+use Rattle.mls_facts.specs.Each.{each}
+use Rattle.mls_facts.proofs.Each.{each-contains, contains-each}
+use Rattle.mls_tables.specs.Triples.{Triple, TripleSet, triple_cmp}
+use Rattle.mls_tables.proofs.Laws.{triples_total, same_triple}
 use Rattle.mls_tree.specs.Tree as tree
 use Rattle.mls_tree.specs.Tree.{Hierarchy, children}
-use Rattle.mls_tree.proofs.Inferiors.{is_active-tree}
-use Rattle.mls_tree.proofs.Listed.{list_any-children, parent_from_child, child_from_parent}
-use Rattle.mls_rules.specs.State.{State, is_active}
-use Rattle.mls_rules.specs.Properties.{HasTree}
+use Rattle.mls_tree.proofs.Laws.{is_active-tree, list_any-children, parent_from_child, child_from_parent}
+use Rattle.mls_state.specs.State.{State, is_active}
+use Rattle.mls_state.specs.Properties.{HasTree}
 use Rattle.mls_rules.specs.Levels.{each_child}
-use Rattle.mls_rules.proofs.AllTriples.{Each-from_all, all-from_Each}
-use Rattle.mls_rules.proofs.EachTriple.{either, first, second, and_true, or_true}
+use Rattle.mls_state.proofs.Laws.{Each-from_all, all-from_Each}
 
 module _ {X : Type 0} (p : X → Bool) where
   -- what passes for all items passes for one of them
   pub one_of_all : (q : X) (e : X → Bool) → ((x : X) → e x ≡ true → x ≡ q) → (xs : List X) → list_all p xs ≡ true → list_any e xs ≡ true → p q ≡ true
   one_of_all q e same [] all one = cc
-  one_of_all q e same (x ∷ xs) all one = from (either (e x) (list_any e xs) one) (one_of_all q e same xs (second (p x) (list_all p xs) all)) where
+  one_of_all q e same (x ∷ xs) all one = from (or_cases (e x) (list_any e xs) one) (one_of_all q e same xs ((and_parts (p x) (list_all p xs) all).1)) where
     from : (e x ≡ true) ⊎ (list_any e xs ≡ true) → (list_any e xs ≡ true → p q ≡ true) → p q ≡ true
-    from (inl here) among = ap p (sym (same x here)) ∙ first (p x) (list_all p xs) all
+    from (inl here) among = ap p (sym (same x here)) ∙ (and_parts (p x) (list_all p xs) all).0
     from (inr later) among = among later
 
   -- what passes for each item passes for all
   pub all_of_each : (e : X → X → Bool) → ((x : X) → e x x ≡ true) → (xs : List X) → ((q : X) → list_any (e q) xs ≡ true → p q ≡ true) → list_all p xs ≡ true
   all_of_each e itself [] known = refl
   all_of_each e itself (x ∷ xs) known =
-      and_true (p x) (list_all p xs) (known x (ap (λ b. b || list_any (e x) xs) (itself x)))
-      (all_of_each e itself xs (λ q later. known q (or_true (e q x) (list_any (e q) xs) later)))
+      and_from (p x) (list_all p xs) (known x (ap (λ b. b || list_any (e x) xs) (itself x)))
+      (all_of_each e itself xs (λ q later. known q (or_right (e q x) (list_any (e q) xs) later)))
 
 -- to test each triple of a set is to test all items of a list that has just them
 pub each-listed : (b : TripleSet) (ts : List Triple) (p : Triple → Bool) → set.from_list {R = triple_cmp} ts ≡ b → each b p ≡ list_all p ts
-each-listed b ts p same = same_tests _ _
+each-listed b ts p same = both_ways _ _
     (λ all. all-from_Each ts b p same (λ t there. each-contains triples_total same_triple b p t all there))
     (λ all. contains-each triples_total same_triple b p (Each-from_all ts b p same all))
 
@@ -48,10 +48,10 @@ module _ (v : State) (h : HasTree v) where
 
   -- the children of an object are those that are listed
   pub listed_child : (c o : ℕ) → map.get v.parent c ≡ Some o → list_any (eqb c) (children hierarchy o) ≡ true
-  listed_child c o step = list_any-children hierarchy by_parents c o ∙ child_from_parent (map.get v.parent c) o step
+  listed_child c o step = list_any-children hierarchy by_parents c o ∙ child_from_parent v.parent c o step
 
   pub child_listed : (c o : ℕ) → list_any (eqb c) (children hierarchy o) ≡ true → map.get v.parent c ≡ Some o
-  child_listed c o there = parent_from_child (map.get v.parent c) o (sym (list_any-children hierarchy by_parents c o) ∙ there)
+  child_listed c o there = parent_from_child v.parent c o (sym (list_any-children hierarchy by_parents c o) ∙ there)
 
   -- what passes for each child passes for one of them
   pub one_of_children : (o : ℕ) (p : ℕ → Bool) → each_child v o p ≡ true → (c : ℕ) → map.get v.parent c ≡ Some o → p c ≡ true

@@ -1,15 +1,14 @@
 -- Each request leaves a secure state secure.
 use Rattle.std.proofs.Common.{◌≡◌, ℕ, true, ◌&&◌}
 use Rattle.mls_tables.specs.declared.mode.Mode.{Mode}
-use Rattle.mls_rules.specs.declared.request.Action.{Action}
-use Rattle.mls_rules.specs.declared.request.Action.TheVariants.{Get, Release, Give, Rescind, Create, Delete, SubjectLevel, ObjectLevel}
-use Rattle.mls_rules.specs.declared.request.Request.{Request}
-use Rattle.mls_rules.specs.State.{State, is_subject}
-use Rattle.mls_rules.specs.Properties.{IsSecure, HasTree, simple_holds, star_holds, discretionary_holds, integrity_holds}
-use Rattle.mls_rules.specs.Rules.{conditions, change, after, names_known}
-use Rattle.mls_rules.proofs.EachTriple.{Each-insert, Each-remove}
+use Rattle.mls_requests.specs.declared.action.Action.{Action}
+use Rattle.mls_requests.specs.declared.action.Action.TheVariants.{Get, Release, Give, Rescind, Create, Delete, SubjectLevel, ObjectLevel}
+use Rattle.mls_requests.specs.declared.request.Request.{Request}
+use Rattle.mls_state.specs.State.{State, is_subject}
+use Rattle.mls_state.specs.Properties.{IsSecure, HasTree, simple_holds, star_holds, discretionary_holds, integrity_holds}
+use Rattle.mls_rules.specs.Rules.{conditions, change, after, names_known, AllHold}
+use Rattle.mls_state.proofs.Laws.{Each-insert, Each-remove}
 use Rattle.mls_rules.proofs.AfterKeeps.{after_keeps}
-use Rattle.mls_rules.specs.Rules.{AllHold}
 use Rattle.mls_rules.proofs.SecurityGive.{give_secure, rescind_secure}
 use Rattle.mls_rules.proofs.SecurityLevels.{subject_level_secure, object_level_secure}
 use Rattle.mls_rules.proofs.SecurityTree.{create_secure, delete_secure}

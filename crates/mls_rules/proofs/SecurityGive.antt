@@ -1,11 +1,11 @@
 -- To give and to rescind leaves a secure state secure.
 use Rattle.std.proofs.Common.{ℕ}
 use Rattle.mls_tables.specs.declared.mode.Mode.{Mode}
-use Rattle.mls_rules.specs.declared.request.Action.TheVariants.{Give, Rescind}
-use Rattle.mls_rules.specs.State.{State}
-use Rattle.mls_rules.specs.Properties.{IsSecure, HasTree, simple_holds, star_holds, integrity_holds}
+use Rattle.mls_requests.specs.declared.action.Action.TheVariants.{Give, Rescind}
+use Rattle.mls_state.specs.State.{State}
+use Rattle.mls_state.specs.Properties.{IsSecure, HasTree, simple_holds, star_holds, integrity_holds}
 use Rattle.mls_rules.specs.Rules.{change}
-use Rattle.mls_rules.proofs.EachTriple.{Each-remove, within-insert, within-remove}
+use Rattle.mls_state.proofs.Laws.{Each-remove, within-insert, within-remove}
 
 -- to give permits no less
 pub give_secure : (v : State) (s : ℕ) (x : Mode) (t o : ℕ) → IsSecure v → HasTree (change v s (Give x t o))

@@ -3,14 +3,17 @@ use Rattle.std.proofs.Common.{◌≡◌, ℕ, Bool, true, false, not, ◌||◌, 
 use Rattle.std.specs.FinMap as map
 use Rattle.std.specs.FinSet as set
 use Rattle.mls_labels.specs.Label.{Label}
-use Rattle.mls_labels.specs.Each.{each, each-contains, contains-each}
-use Rattle.mls_labels.proofs.Dominance.{reflexive}
-use Rattle.mls_tables.specs.Triples.{Triple, TripleSet, triples_total, same_triple}
-use Rattle.mls_rules.specs.State.{State, is_subject, is_above}
-use Rattle.mls_rules.specs.Properties.{IsSecure, HasTree, simple_holds, star_between, star_holds}
-use Rattle.mls_rules.specs.Levels.{with_current, with_object_label, each_of_subject, each_of_object, each_child, is_above_parent, label_fits}
-use Rattle.mls_rules.proofs.EachTriple.{first, second, and_true, or_true}
-use Rattle.mls_rules.proofs.Entries.{by_number, at_new, elsewhere}
+use Rattle.mls_facts.specs.Each.{each}
+use Rattle.mls_facts.proofs.Each.{each-contains, contains-each}
+use Rattle.mls_labels.proofs.Laws.{reflexive}
+use Rattle.mls_tables.specs.Triples.{Triple, TripleSet}
+use Rattle.mls_tables.proofs.Laws.{triples_total, same_triple}
+use Rattle.mls_state.specs.State.{State, is_subject, is_above}
+use Rattle.mls_state.specs.Properties.{IsSecure, HasTree, simple_holds, star_between, star_holds}
+use Rattle.mls_state.specs.Changes.{with_current, with_object_label}
+use Rattle.mls_rules.specs.Levels.{each_of_subject, each_of_object, each_child, is_above_parent, label_fits}
+use Rattle.std.proofs.lemmas.Bool.{and_parts, and_from, or_right}
+use Rattle.mls_facts.proofs.Entries.{by_number, at_new, elsewhere}
 use Rattle.mls_rules.proofs.LabelsSame.{simple_still, star_still}
 use Rattle.mls_rules.proofs.Listed.{one_of_children}
 
@@ -24,7 +27,7 @@ pub all_of_picked : (b : TripleSet) (picks passes : Triple → Bool)
     → ((t : Triple) → set.contains b t ≡ true → picks t ≡ true → passes t ≡ true) → each b (λ t. not (picks t) || passes t) ≡ true
 all_of_picked b picks passes known = contains-each triples_total same_triple b (λ t. not (picks t) || passes t) (λ t there. from t there (picks t) refl) where
   from : (t : Triple) → set.contains b t ≡ true → (c : Bool) → picks t ≡ c → (not (picks t) || passes t) ≡ true
-  from t there true picked = or_true (not (picks t)) (passes t) (known t there picked)
+  from t there true picked = or_right (not (picks t)) (passes t) (known t there picked)
   from t there false other = ap (λ c. not c || passes t) other
 
 -- what holds where a test passes, and where it doesn't
@@ -65,7 +68,7 @@ object_level_secure v o l h tree fits simple star = record {
       (λ other. star_still v w t refl refl (elsewhere v.object_label o l t.1 other) (h.star t there));
   discretionary = h.discretionary;
   compatible = λ c p step.
-      and_true _ _ (still_above c p step) (second (is_above (map.get v.object_label c) (map.get v.object_label p)) _ (h.compatible c p step));
+      and_from _ _ (still_above c p step) ((and_parts (is_above (map.get v.object_label c) (map.get v.object_label p)) _ (h.compatible c p step)).1);
   tree = tree;
   integrity = h.integrity;
   ceiling = h.ceiling;
@@ -78,20 +81,20 @@ object_level_secure v o l h tree fits simple star = record {
   above_parent (Some q) p above is = ap (λ e. is_above_parent v l e) (sym is) ∙ above
 
   children_fit : each_child v o (λ c. is_above (map.get v.object_label c) (Some l)) ≡ true
-  children_fit = second (is_above_parent v l (map.get v.parent o)) (each_child v o (λ c. is_above (map.get v.object_label c) (Some l))) fits
+  children_fit = (and_parts (is_above_parent v l (map.get v.parent o)) (each_child v o (λ c. is_above (map.get v.object_label c) (Some l))) fits).1
 
   relabelled_child : (p : ℕ) → map.get v.parent o ≡ Some p → is_above (map.get w.object_label o) (map.get w.object_label p) ≡ true
   relabelled_child p step = by_number o p (λ q. map.get v.parent o ≡ Some q → is_above (map.get w.object_label o) (map.get w.object_label q) ≡ true)
       (λ _. (λ i. is_above (at_new v.object_label o l i) (at_new v.object_label o l i)) ∙ reflexive l)
       (λ other at. (λ i. is_above (at_new v.object_label o l i) (elsewhere v.object_label o l p other i))
-      ∙ above_parent (map.get v.parent o) p (first (is_above_parent v l (map.get v.parent o)) (each_child v o (λ c. is_above (map.get v.object_label c) (Some l))) fits) at) step
+      ∙ above_parent (map.get v.parent o) p ((and_parts (is_above_parent v l (map.get v.parent o)) (each_child v o (λ c. is_above (map.get v.object_label c) (Some l))) fits).0) at) step
 
   other_child : (c p : ℕ) → nat_eq c o ≡ false → map.get v.parent c ≡ Some p → is_above (map.get w.object_label c) (map.get w.object_label p) ≡ true
   other_child c p other step = by_number o p (λ q. map.get v.parent c ≡ Some q → is_above (map.get w.object_label c) (map.get w.object_label q) ≡ true)
       (λ at. (λ i. is_above (elsewhere v.object_label o l c other i) (at_new v.object_label o l i))
       ∙ one_of_children v h.tree o (λ x. is_above (map.get v.object_label x) (Some l)) children_fit c at)
       (λ apart at. (λ i. is_above (elsewhere v.object_label o l c other i) (elsewhere v.object_label o l p apart i))
-      ∙ first (is_above (map.get v.object_label c) (map.get v.object_label p)) _ (h.compatible c p at)) step
+      ∙ (and_parts (is_above (map.get v.object_label c) (map.get v.object_label p)) _ (h.compatible c p at)).0) step
 
   still_above : (c p : ℕ) → map.get v.parent c ≡ Some p → is_above (map.get w.object_label c) (map.get w.object_label p) ≡ true
   still_above c p step = by_number o c (λ q. map.get v.parent q ≡ Some p → is_above (map.get w.object_label q) (map.get w.object_label p) ≡ true)

@@ -6,13 +6,15 @@ use Rattle.std.specs.FinMap as map
 use Rattle.mls_labels.specs.Label.{Label}
 use Rattle.mls_tables.specs.Triples.{Triple}
 use Rattle.mls_tree.specs.Tree.{is_inferior}
-use Rattle.mls_tree.proofs.Inferiors.{inferior_below}
-use Rattle.mls_rules.specs.declared.request.Action.TheVariants.{Create, Delete}
-use Rattle.mls_rules.specs.State.{State, is_subject, is_active, is_above}
-use Rattle.mls_rules.specs.Properties.{IsSecure, HasTree, compatible_holds}
-use Rattle.mls_rules.specs.Rules.{change, stays}
-use Rattle.mls_rules.proofs.EachTriple.{second, and_true, kept_there, kept_passes, within-retain}
-use Rattle.mls_rules.proofs.Entries.{at_new, elsewhere, by_number, at_kept, was_there}
+use Rattle.mls_tree.proofs.Laws.{inferior_below}
+use Rattle.mls_requests.specs.declared.action.Action.TheVariants.{Create, Delete}
+use Rattle.mls_state.specs.State.{State, is_subject, is_active, is_above}
+use Rattle.mls_state.specs.Properties.{IsSecure, HasTree, compatible_holds}
+use Rattle.mls_rules.specs.Rules.{change}
+use Rattle.mls_state.specs.Changes.{stays}
+use Rattle.std.proofs.lemmas.Bool.{and_parts, and_from}
+use Rattle.mls_state.proofs.Laws.{kept_there, kept_passes, within-retain}
+use Rattle.mls_facts.proofs.Entries.{at_new, elsewhere, by_number, at_kept, was_there}
 use Rattle.mls_rules.proofs.LabelsSame.{simple_still, star_still, integrity_still, compatible_still}
 
 some_same : (a b : ℕ) → Some a ≡ Some b → a ≡ b
@@ -46,13 +48,13 @@ create_secure v s p l i' h tree parent compatible integrity = record {
   same_integrity o active = elsewhere v.object_integrity v.next i' o (not_new o active)
 
   object : (t : Triple) → set.contains v.accesses t ≡ true → is_active v t.1 ≡ true
-  object t there = second (is_subject v t.0) (is_active v t.1) (h.tree.accesses_known t there)
+  object t there = (and_parts (is_subject v t.0) (is_active v t.1) (h.tree.accesses_known t there)).1
 
   new_fits : compatible_holds w v.next p ≡ true
   new_fits =
       (λ k. is_above (at_new v.object_label v.next l k) (same_label p parent k)
       && is_above (same_integrity p parent k) (at_new v.object_integrity v.next i' k))
-      ∙ and_true _ _ compatible integrity
+      ∙ and_from _ _ compatible integrity
 
   old_fits : (c q : ℕ) → map.get v.parent c ≡ Some q → compatible_holds w c q ≡ true
   old_fits c q step =

@@ -3,15 +3,15 @@ use Rattle.std.proofs.Common.{◌≡◌, ℕ, true, nat_eq, ◌&&◌, ◌||◌, 
 use Rattle.std.specs.FinSet as set
 use Rattle.mls_labels.specs.Label.{Label}
 use Rattle.mls_tables.specs.Triples.{TripleSet}
-use Rattle.mls_rules.specs.declared.request.Action.{Action}
-use Rattle.mls_rules.specs.declared.request.Action.TheVariants.{Get, Release, Give, Rescind, Create, Delete, SubjectLevel, ObjectLevel}
-use Rattle.mls_rules.specs.declared.request.Request.{Request}
-use Rattle.mls_rules.specs.State.{State, is_subject, is_active}
-use Rattle.mls_rules.specs.Properties.{HasWholeTables}
-use Rattle.mls_rules.specs.Levels.{with_current, with_object_label}
-use Rattle.mls_rules.specs.Rules.{change, after, names_known, stays}
-use Rattle.mls_rules.proofs.EachTriple.{first}
-use Rattle.mls_rules.proofs.Entries.{has-inserted, has-kept, has-replaced}
+use Rattle.mls_requests.specs.declared.action.Action.{Action}
+use Rattle.mls_requests.specs.declared.action.Action.TheVariants.{Get, Release, Give, Rescind, Create, Delete, SubjectLevel, ObjectLevel}
+use Rattle.mls_requests.specs.declared.request.Request.{Request}
+use Rattle.mls_state.specs.State.{State, is_subject, is_active}
+use Rattle.mls_state.specs.Properties.{HasWholeTables}
+use Rattle.mls_state.specs.Changes.{with_current, with_object_label, stays}
+use Rattle.mls_rules.specs.Rules.{change, after, names_known}
+use Rattle.std.proofs.lemmas.Bool.{and_parts}
+use Rattle.mls_facts.proofs.Entries.{has-inserted, has-kept, has-replaced}
 use Rattle.mls_rules.proofs.TreeKept.{names_object}
 use Rattle.mls_rules.proofs.AfterKeeps.{after_keeps}
 
@@ -71,7 +71,7 @@ change_whole v s (Give x t o) h known = triples_whole v v.accesses (set.insert v
 change_whole v s (Rescind x t o) h known = triples_whole v (set.remove v.accesses (t, o, x)) (set.remove v.matrix (t, o, x)) h
 change_whole v s (Create p l i) h known = create_whole v s p l i h
 change_whole v s (Delete o) h known = delete_whole v s o h
-change_whole v s (SubjectLevel l) h known = subject_level_whole v s l h (first (is_subject v s) (names_known v (SubjectLevel l)) known)
+change_whole v s (SubjectLevel l) h known = subject_level_whole v s l h ((and_parts (is_subject v s) (names_known v (SubjectLevel l)) known).0)
 change_whole v s (ObjectLevel o l) h known = object_level_whole v o l h (names_object v s o l known)
 
 -- Each request leaves the tables of labels whole.

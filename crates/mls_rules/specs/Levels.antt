@@ -3,18 +3,10 @@ use Rattle.std.specs.Prelude.{ℕ, Bool, true, not, ◌&&◌, ◌||◌, ◌==◌
 use Rattle.std.specs.List.{list_all}
 use Rattle.std.specs.FinMap as map
 use Rattle.mls_labels.specs.Label.{Label}
-use Rattle.mls_labels.specs.Each.{each}
+use Rattle.mls_facts.specs.Each.{each}
 use Rattle.mls_tables.specs.Triples.{Triple}
 use Rattle.mls_tree.specs.Tree.{children}
-use Rattle.mls_rules.specs.State.{State, is_above}
-
--- The state with another current label of a subject. (own, after MTR-2997's rules to change levels)
-abbrev pub with_current : State → ℕ → Label → State
-with_current v s l = record v { current = map.insert v.current s l }
-
--- The state with another security label of an object. (own, after MTR-2997's rules to change levels)
-abbrev pub with_object_label : State → ℕ → Label → State
-with_object_label v o l = record v { object_label = map.insert v.object_label o l }
+use Rattle.mls_state.specs.State.{State, is_above}
 
 -- Whether each access of a subject passes the test. (own)
 abbrev pub each_of_subject : State → ℕ → (Triple → Bool) → Bool

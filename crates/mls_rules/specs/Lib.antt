@@ -1,10 +1,10 @@
-pub mod Audit
-pub mod First
 pub mod Levels
-pub mod Numbered
-pub mod Properties
 pub mod Rules
-pub mod Standard
-pub mod Start
-pub mod State
-pub mod StateView
+-- What speaks of a state alone stands in mls_state, and is named here too.
+pub use Rattle.mls_state.specs.Audit
+pub use Rattle.mls_state.specs.Changes
+pub use Rattle.mls_state.specs.Properties
+pub use Rattle.mls_state.specs.Standard
+pub use Rattle.mls_state.specs.Start
+pub use Rattle.mls_state.specs.State
+pub use Rattle.mls_state.specs.StateView

@@ -3,18 +3,19 @@ use Rattle.std.specs.Prelude.{◌≡◌, ℕ, ◌+◌, Bool, true, false, not, �
 use Rattle.std.specs.FinSet as set
 use Rattle.std.specs.FinMap as map
 use Rattle.mls_tables.specs.declared.mode.Mode.TheVariants.{Append, Write}
-use Rattle.mls_tree.specs.Tree.{is_inferior}
+use Rattle.mls_tables.specs.declared.limits.TheConstants.{MAX_OBJECTS}
 use Rattle.mls_labels.specs.Label.{Label, has_label}
-use Rattle.mls_rules.specs.declared.request.Action.{Action}
-use Rattle.mls_rules.specs.declared.request.Action.TheVariants.{Get, Release, Give, Rescind, Create, Delete, SubjectLevel, ObjectLevel}
-use Rattle.mls_rules.specs.declared.request.Request.{Request}
-use Rattle.mls_rules.specs.declared.request.Reason.{Reason}
-use Rattle.mls_rules.specs.declared.request.Reason.TheVariants.{Discretionary, Simple, Star, Integrity, Authority, Compatibility, Ceiling, Root, Full}
-use Rattle.mls_rules.specs.declared.request.Reply.{Reply}
-use Rattle.mls_rules.specs.declared.request.Reply.TheVariants.{Yes, Created, No, Undefined}
-use Rattle.mls_rules.specs.State.{State, is_subject, is_active, is_above}
-use Rattle.mls_rules.specs.Properties.{simple_holds, star_holds, discretionary_holds, integrity_holds}
-use Rattle.mls_rules.specs.Levels.{with_current, with_object_label, each_of_subject, each_of_object, label_fits}
+use Rattle.mls_requests.specs.declared.action.Action.{Action}
+use Rattle.mls_requests.specs.declared.action.Action.TheVariants.{Get, Release, Give, Rescind, Create, Delete, SubjectLevel, ObjectLevel}
+use Rattle.mls_requests.specs.declared.request.Request.{Request}
+use Rattle.mls_requests.specs.declared.reason.Reason.{Reason}
+use Rattle.mls_requests.specs.declared.reason.Reason.TheVariants.{Discretionary, Simple, Star, Integrity, Authority, Compatibility, Ceiling, Root, Full}
+use Rattle.mls_requests.specs.declared.reply.Reply.{Reply}
+use Rattle.mls_requests.specs.declared.reply.Reply.TheVariants.{Yes, Created, No, Undefined}
+use Rattle.mls_state.specs.State.{State, is_subject, is_active, is_above}
+use Rattle.mls_state.specs.Properties.{simple_holds, star_holds, discretionary_holds, integrity_holds}
+use Rattle.mls_state.specs.Changes.{with_current, with_object_label, with_objects, stays}
+use Rattle.mls_rules.specs.Levels.{each_of_subject, each_of_object, label_fits}
 
 -- Whether the subject writes the parent, where there is one. (own)
 abbrev pub writes_parent : State → ℕ → Option ℕ → Bool
@@ -34,20 +35,6 @@ may_relabel v s o l =
     || (not (o == 0)
     && (writes_parent v s (map.get v.parent o)
     && (is_above (map.get v.current s) (map.get v.object_label o) && is_above (Some l) (map.get v.object_label o))))
-
--- Whether an object stays when one is deleted: it is no inferior of that one. (after MTR-2997, rule to delete an object group)
-abbrev pub stays : State → ℕ → ℕ → Bool
-stays v o x = not (is_inferior v.parent x o)
-
--- The state with just those of its objects that pass the test, and just the triples that name such objects. (own)
-abbrev pub with_objects : State → (ℕ → Bool) → State
-with_objects v passes = record v {
-  object_label = map.retain_keys v.object_label passes;
-  object_integrity = map.retain_keys v.object_integrity passes;
-  parent = map.retain_keys v.parent passes;
-  matrix = set.retain v.matrix (λ t. passes t.1);
-  accesses = set.retain v.accesses (λ t. passes t.1);
-}
 
 -- Whether all that an action names is there: subjects are known, objects active, and labels within the bounds. (own)
 abbrev pub names_known : State → Action → Bool
@@ -81,7 +68,7 @@ conditions v s (Create p l i) =
     (Authority, set.contains v.accesses (s, p, Append) || set.contains v.accesses (s, p, Write))
     ∷ (Compatibility, is_above (Some l) (map.get v.object_label p))
     ∷ (Integrity, is_above (map.get v.object_integrity p) (Some i))
-    ∷ (Full, nat_lt v.next 4096)
+    ∷ (Full, nat_lt v.next MAX_OBJECTS)
     ∷ []
 conditions v s (Delete o) = (Root, not (o == 0)) ∷ (Authority, writes_parent v s (map.get v.parent o)) ∷ []
 conditions v s (SubjectLevel l) =

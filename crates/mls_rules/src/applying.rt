@@ -1,15 +1,33 @@
 //! The change that a request makes.
 ghost use Rattle.std.specs.Prelude.{◌≡◌, IsTrue, IfOk, IsOk, OnOk, OnErr};
-ghost use Rattle.mls_rules.specs.State.{is_subject};
-ghost use Rattle.mls_rules.specs.Properties.{IsSecure};
+ghost use Rattle.mls_state.specs.State.{is_subject};
+ghost use Rattle.mls_state.specs.Properties.{IsSecure};
 ghost use Rattle.mls_rules.specs.Rules.{names_known, conditions, AllHold, reply, after, change, takes_no_room, needs_no_room};
 
 use crate::deciding::decide;
-use crate::request::{Action, Reply, Request};
-use crate::state::State;
-use crate::subject::ObjectLabels;
+use mls_requests::{Action, Reply, Request};
+use mls_state::{ObjectLabels, State};
 use mls_tables::SubjectId;
 use std::alloc::{AllocError, Allocator};
+
+/// Makes the change of a granted action that makes nothing new.
+fn change_in_place<A: Allocator>(state: &mut State<A>, s: SubjectId, action: Action)
+    requires subject { IsTrue (is_subject state.old s) }
+    requires names { IsTrue (names_known state.old action) }
+    requires memory { IsTrue (takes_no_room action) }
+    ensures { state.new ≡ change state.old s action }
+{
+    match action {
+        Action::Release(x, o) => {
+            state.remove_access(s, o, x);
+        }
+        Action::Give(x, t, o) => state.permit(t, o, x),
+        Action::Rescind(x, t, o) => state.forbid(t, o, x),
+        Action::SubjectLevel(l) => state.set_current(s, l),
+        Action::ObjectLevel(o, l) => state.set_object_label(o, l),
+        Action::Get(_, _) | Action::Create(_, _, _) | Action::Delete(_) => {}
+    }
+}
 
 /// Makes the change of a granted action.
 fn make_change<A: Allocator>(
@@ -26,13 +44,8 @@ fn make_change<A: Allocator>(
 {
     match action {
         Action::Get(x, o) => {
-            state.insert_access(s, o, x)?;
+            state.put_access(s, o, x)?;
         }
-        Action::Release(x, o) => {
-            state.remove_access(s, o, x);
-        }
-        Action::Give(x, t, o) => state.permit(t, o, x),
-        Action::Rescind(x, t, o) => state.forbid(t, o, x),
         Action::Create(p, security, integrity) => {
             let labels = ObjectLabels {
                 security,
@@ -41,17 +54,16 @@ fn make_change<A: Allocator>(
             state.add_object(p, labels)?;
         }
         Action::Delete(o) => state.remove_object(o)?,
-        Action::SubjectLevel(l) => state.set_current(s, l),
-        Action::ObjectLevel(o, l) => state.set_object_label(o, l),
+        _ => change_in_place(state, s, action),
     }
     Ok(())
 }
 
-/// Answers a request, and changes the state where it is granted. From a secure state it leaves a secure state.
+/// Replies to a request, and changes the state where it is granted. From a secure state it leaves a secure state.
 ///
 /// # Errors
-/// `AllocError` where a growth was refused; the state is then as before. It isn't refused where nothing is granted, nor
-/// for a release, a give, a rescind or a change of a subject's or an object's level.
+/// `AllocError` where an allocation failed; the state is then as before. Where nothing is granted it doesn't allocate,
+/// nor for a release, a give, a rescind or a change of a subject's or an object's level.
 pub fn apply<A: Allocator>(state: &mut State<A>, request: &Request) -> Result<Reply, AllocError>
     ensures reply { IfOk result (λ r. r ≡ reply state.old request.now) }
     ensures ok { OnOk result (state.new ≡ after state.old request.now) }

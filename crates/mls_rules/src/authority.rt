@@ -1,11 +1,11 @@
 //! Who has authority over an object: by its place in the tree, or by trust.
 ghost use Rattle.std.specs.Prelude.{◌≡◌, IsTrue};
 ghost use Rattle.std.specs.FinMap as map;
-ghost use Rattle.mls_rules.specs.State.{is_subject, is_active};
+ghost use Rattle.mls_state.specs.State.{is_subject, is_active};
 ghost use Rattle.mls_rules.specs.Rules.{writes_parent, controls, may_relabel};
 
-use crate::state::State;
 use mls_labels::SecLabel;
+use mls_state::State;
 use mls_tables::{Mode, ObjectId, SubjectId};
 use std::alloc::Allocator;
 

@@ -1,17 +1,16 @@
 //! The reply to a request.
 ghost use Rattle.std.specs.Prelude.{◌≡◌, IsTrue, if◌then◌else◌};
-ghost use Rattle.mls_rules.specs.declared.request.Reply.TheVariants.{Yes, No};
-ghost use Rattle.mls_rules.specs.declared.request.Reason.TheVariants.{Authority};
-ghost use Rattle.mls_rules.specs.State.{is_subject, is_active};
+ghost use Rattle.mls_requests.specs.declared.reply.Reply.TheVariants.{Yes, No};
+ghost use Rattle.mls_requests.specs.declared.reason.Reason.TheVariants.{Authority};
+ghost use Rattle.mls_state.specs.State.{is_subject, is_active};
 ghost use Rattle.mls_rules.specs.Rules.{is_defined, verdict, reply, controls};
 
 use crate::authority::{controls, writes_parent};
-use crate::conditions::{discretionary_holds, integrity_holds, simple_holds, star_holds};
 use crate::levels::{decide_object_level, decide_subject_level};
-use crate::request::{Action, Reason, Reply, Request};
-use crate::state::State;
 use mls_labels::{IntLabel, SecLabel};
-use mls_tables::{Mode, ObjectId, SubjectId};
+use mls_requests::{Action, Reason, Reply, Request};
+use mls_state::{State, discretionary_holds, integrity_holds, simple_holds, star_holds};
+use mls_tables::{MAX_OBJECTS, Mode, ObjectId, SubjectId};
 use std::alloc::Allocator;
 
 /// Whether the caller is known and all that the action names is there.
@@ -92,7 +91,7 @@ fn decide_create<A: Allocator>(
         return Reply::No(Reason::Integrity);
     }
     let next = state.next();
-    if next >= 4096 {
+    if next >= MAX_OBJECTS {
         return Reply::No(Reason::Full);
     }
     Reply::Created(ObjectId::new(next))
@@ -114,7 +113,7 @@ fn decide_delete<A: Allocator>(state: &State<A>, s: SubjectId, o: ObjectId) -> R
 }
 
 /// The reply to a request: `Undefined` outside the domain, else `No` with the first condition of its rule that fails,
-/// else the grant. It changes nothing and takes no memory.
+/// else the grant. It changes nothing and doesn't allocate.
 pub fn decide<A: Allocator>(state: &State<A>, request: &Request) -> Reply
     ensures reply { result ≡ reply state.now request.now }
 {

@@ -3,8 +3,8 @@ ghost use Rattle.std.specs.Prelude.{◌≡◌, ℕ, ◌↔◌, Bool, Some, IsTru
 ghost use Rattle.std.specs.FinMap as map;
 ghost use Rattle.std.specs.FinSet as set;
 ghost use Rattle.mls_tables.specs.Triples.{Triple};
-ghost use Rattle.mls_rules.specs.State.{State};
-ghost use Rattle.mls_rules.specs.Properties.{HasTree};
+ghost use Rattle.mls_state.specs.State.{State};
+ghost use Rattle.mls_state.specs.Properties.{HasTree};
 ghost use Rattle.mls_rules.specs.Levels.{each_of_subject, each_of_object, each_child};
 
 /// The tests by which the rules look at all accesses of a subject, at all accesses to an object and at all children of an

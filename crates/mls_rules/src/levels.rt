@@ -1,21 +1,21 @@
 //! The rules that change levels: what they look at, and the replies to them.
 ghost use Rattle.std.specs.Prelude.{◌≡◌, ◌==◌, ◌||◌, not, IsTrue, Some};
 ghost use Rattle.std.specs.FinMap as map;
-ghost use Rattle.mls_rules.specs.declared.request.Action.{Action};
-ghost use Rattle.mls_rules.specs.State.{is_subject, is_active, is_above};
-ghost use Rattle.mls_rules.specs.Properties.{simple_holds, star_holds};
-ghost use Rattle.mls_rules.specs.Levels.{with_current, with_object_label, each_of_subject, each_of_object, each_child, label_fits};
+ghost use Rattle.mls_requests.specs.declared.action.Action.{Action};
+ghost use Rattle.mls_state.specs.State.{is_subject, is_active, is_above};
+ghost use Rattle.mls_state.specs.Properties.{simple_holds, star_holds};
+ghost use Rattle.mls_state.specs.Changes.{with_current, with_object_label};
+ghost use Rattle.mls_rules.specs.Levels.{each_of_subject, each_of_object, each_child, label_fits};
 ghost use Rattle.mls_rules.specs.Rules.{verdict};
 
 use crate::authority::may_relabel;
-use crate::conditions::star_between;
-use crate::request::{Reason, Reply};
-use crate::state::State;
 use mls_labels::SecLabel;
+use mls_requests::{Reason, Reply};
+use mls_state::{State, star_between};
 use mls_tables::{Mode, ObjectId, SubjectId};
 use std::alloc::Allocator;
 
-/// Whether an access of the subject `s` meets star with the current label `l`; of another subject's it says yes.
+/// Whether an access of the subject `s` meets star with the current label `l`; for another subject's it is true.
 fn star_at_level<A: Allocator>(
     state: &State<A>,
     t: (SubjectId, ObjectId, Mode),
@@ -33,7 +33,7 @@ fn star_at_level<A: Allocator>(
     state.is_trusted(t.0) || star_between(l, state.object_label(t.1), t.2)
 }
 
-/// Whether an access to the object `o` meets simple security with the label `l`; of one to another it says yes.
+/// Whether an access to the object `o` meets simple security with the label `l`; for one to another object it is true.
 fn simple_at_label<A: Allocator>(
     state: &State<A>,
     t: (SubjectId, ObjectId, Mode),
@@ -50,7 +50,7 @@ fn simple_at_label<A: Allocator>(
     !t.2.observes() || state.maximum(t.0).dominates(&l)
 }
 
-/// Whether an access to the object `o` meets star with the label `l`; of one to another it says yes.
+/// Whether an access to the object `o` meets star with the label `l`; for one to another object it is true.
 fn star_at_label<A: Allocator>(
     state: &State<A>,
     t: (SubjectId, ObjectId, Mode),

@@ -4,33 +4,22 @@ use Rattle.std.specs.Prelude.{not, replicate, ◌&&◌, ◌||◌}
 use Rattle.std.proofs.Math.Nat.{mul_comm}
 use Rattle.std.proofs.lemmas.Nat.{mul-add-lt, same_from_place, row_fits}
 use Rattle.std.proofs.lemmas.List.{get_or-set_same, get_or-set_other, get_or_default, get_or_append_left, get_or-append_right, get_or-take, get_or-drop, get_or-replicate, length-replicate, length-take, length-drop, length-append}
-use Rattle.std.proofs.lemmas.Bool.{cases_eq, cases_lt}
-use Rattle.std.proofs.lemmas.Bool.Decides.{nat_tests}
+use Rattle.std.proofs.Math.Bool.{and-true, and-false}
+use Rattle.std.proofs.lemmas.Bool.{cases_eq, cases_lt, eq-eqb, ne_eqb, lt-ltb, le-ltb}
 use Rattle.std.specs.FinSet as set
 use Rattle.mls_tables.specs.declared.mode.Mode.{Mode}
 use Rattle.mls_tables.specs.Mode.{mode_cmp, ModeSet}
-use Rattle.mls_tables.specs.ModeBits.{is_mode, contains-insert-mode, contains-remove-mode}
-use Rattle.mls_tables.specs.Triples.{Triple, same_triples, contains-insert-triple, contains-remove-triple}
+use Rattle.mls_tables.specs.Triples.{Triple}
 use Rattle.mls_tables.specs.Table.{IsWithin, without_object}
-use Rattle.mls_tables.proofs.Within.{contains-without_object}
-use Rattle.mls_tables.specs.Cells.{cell, with_columns, triples_of, contains-triples_of}
+use Rattle.mls_tables.specs.Cells.{cell, with_columns, triples_of}
+use Rattle.mls_tables.proofs.Laws.{same_triples, contains-insert-triple, contains-remove-triple, contains-without_object}
+use Rattle.mls_tables.proofs.ModeBits.{is_mode, contains-insert-mode, contains-remove-mode}
+use Rattle.mls_tables.proofs.CellTriples.{contains-triples_of}
 
 -- no column, no triple
 pub triples_of-none : (cells : List ModeSet) (n : ℕ) → triples_of cells n 0 ≡ set.empty
 unfolding triples_of with_columns
 triples_of-none cells n = refl
-
-is_less : (a b : ℕ) → a < b → nat_lt a b ≡ true
-is_less a b h = grind (arith, nat_tests)
-
-not_less : (a b : ℕ) → b ≤ a → nat_lt a b ≡ false
-not_less a b h = grind (arith, nat_tests)
-
-itself : (a : ℕ) → nat_eq a a ≡ true
-itself a = grind (arith, nat_tests)
-
-differs : (a b : ℕ) → (a ≡ b → ⊥) → nat_eq a b ≡ false
-differs a b h = grind (arith, nat_tests, h)
 
 -- where a cell of a column that is there stands
 pub place_lt : (n m s o : ℕ) → s < n → o < m → o * n + s < m * n
@@ -38,7 +27,7 @@ place_lt n m s o subject object = let fits : o * n + s < n * m = mul-add-lt o n 
 
 -- a triple within the bounds is in the set where its mode is in the cell
 pub contains-cell : (cells : List ModeSet) (n m s o : ℕ) (x : Mode) → s < n → o < m → set.contains (triples_of cells n m) (s, o, x) ≡ set.contains (cell cells n s o) x
-contains-cell cells n m s o x subject object = contains-triples_of cells n m (s, o, x) ∙ rw (is_less o m object, is_less s n subject) refl
+contains-cell cells n m s o x subject object = contains-triples_of cells n m (s, o, x) ∙ rw (lt-ltb o m object, lt-ltb s n subject) refl
 
 -- what is read at a place of the list is the cell
 pub read_cell : (cells : List ModeSet) (n m s o at_place : ℕ) (read : ModeSet) → s < n → o < m → length cells ≡ m * n → at_place ≡ o * n + s → read ≡ get_or cells at_place read → read ≡ cell cells n s o
@@ -46,25 +35,17 @@ read_cell cells n m s o at_place read subject object whole place is = let stands
 
 in_bounds : (n m : ℕ) (t : Triple) (c : Bool) → (t.0 < n) ⊎ (n ≤ t.0) → (t.1 < m) ⊎ (m ≤ t.1) → (nat_lt t.1 m && (nat_lt t.0 n && c)) ≡ true → (t.0 < n) × (t.1 < m)
 in_bounds n m t c (inl subject) (inl object) h = (subject, object)
-in_bounds n m t c (inl subject) (inr past) h = let no : nat_lt t.1 m ≡ false = not_less t.1 m past in let wrong : false ≡ true = rw no at h in absurd (cc)
+in_bounds n m t c (inl subject) (inr past) h = let no : nat_lt t.1 m ≡ false = le-ltb t.1 m past in let wrong : false ≡ true = rw no at h in absurd (cc)
 in_bounds n m t c (inr past) (inl object) h =
-    let one : nat_lt t.1 m ≡ true = is_less t.1 m object in
-    let no : nat_lt t.0 n ≡ false = not_less t.0 n past in
+    let one : nat_lt t.1 m ≡ true = lt-ltb t.1 m object in
+    let no : nat_lt t.0 n ≡ false = le-ltb t.0 n past in
     let wrong : false ≡ true = rw (one, no) at h in
     absurd (cc)
-in_bounds n m t c (inr _) (inr past) h = let no : nat_lt t.1 m ≡ false = not_less t.1 m past in let wrong : false ≡ true = rw no at h in absurd (cc)
+in_bounds n m t c (inr _) (inr past) h = let no : nat_lt t.1 m ≡ false = le-ltb t.1 m past in let wrong : false ≡ true = rw no at h in absurd (cc)
 
 -- the triples of the cells are within the bounds
 pub IsWithin-triples_of : (cells : List ModeSet) (n m : ℕ) → IsWithin n m (triples_of cells n m)
 IsWithin-triples_of cells n m t there = in_bounds n m t (set.contains (cell cells n t.0 t.1) t.2) (cases_lt t.0 n) (cases_lt t.1 m) (sym (contains-triples_of cells n m t) ∙ there)
-
-no_change : (a : Bool) → (a && true) ≡ a
-no_change true = refl
-no_change false = refl
-
-no_second : (a : Bool) → (a && false) ≡ false
-no_second true = refl
-no_second false = refl
 
 module _ (cells : List ModeSet) (n m s o : ℕ) (c : ModeSet) (subject : s < n) (object : o < m) (whole : length cells ≡ m * n) where
   abbrev after : List ModeSet
@@ -78,19 +59,19 @@ module _ (cells : List ModeSet) (n m s o : ℕ) (c : ModeSet) (subject : s < n) 
 
   kept : (a b : ℕ) (y : Mode) → ((a ≡ s) × (b ≡ o) → ⊥) → (a < n) ⊎ (n ≤ a) → set.contains (triples_of after n m) (a, b, y) ≡ set.contains (triples_of cells n m) (a, b, y)
   kept a b y other (inl within) = contains-triples_of after n m (a, b, y) ∙ rw (cell_kept a b within other) (sym (contains-triples_of cells n m (a, b, y)))
-  kept a b y other (inr past) = rw (contains-triples_of after n m (a, b, y), contains-triples_of cells n m (a, b, y), not_less a n past) refl
+  kept a b y other (inr past) = rw (contains-triples_of after n m (a, b, y), contains-triples_of cells n m (a, b, y), le-ltb a n past) refl
 
   -- only the cell's own triples change
   in_put : (a b : ℕ) (y : Mode) → (a ≡ s) ⊎ (a ≡ s → ⊥) → (b ≡ o) ⊎ (b ≡ o → ⊥) → set.contains (triples_of after n m) (a, b, y) ≡ cond (nat_eq a s && nat_eq b o) (set.contains c y) (set.contains (triples_of cells n m) (a, b, y))
-  in_put a b y (inl row) (inl column) = rw (row, column, itself s, itself o) (contains-cell after n m s o y subject object ∙ ap (λ v. set.contains v y) cell_put)
-  in_put a b y (inl row) (inr other) = rw (differs b o other, no_second (nat_eq a s)) (kept a b y (λ same. other same.1) (cases_lt a n))
-  in_put a b y (inr other) _ = rw (differs a s other) (kept a b y (λ same. other same.0) (cases_lt a n))
+  in_put a b y (inl row) (inl column) = rw (row, column, eq-eqb s s refl, eq-eqb o o refl) (contains-cell after n m s o y subject object ∙ ap (λ v. set.contains v y) cell_put)
+  in_put a b y (inl row) (inr other) = rw (ne_eqb b o other, and-false (nat_eq a s)) (kept a b y (λ same. other same.1) (cases_lt a n))
+  in_put a b y (inr other) _ = rw (ne_eqb a s other) (kept a b y (λ same. other same.0) (cases_lt a n))
 
 module _ (cells : List ModeSet) (n m s o : ℕ) (x : Mode) (subject : s < n) (object : o < m) (whole : length cells ≡ m * n) where
   the_cell : (a b : ℕ) (y : Mode) → (a ≡ s) ⊎ (a ≡ s → ⊥) → (b ≡ o) ⊎ (b ≡ o → ⊥) → (nat_eq a s && nat_eq b o) ≡ true → set.contains (triples_of cells n m) (a, b, y) ≡ set.contains (cell cells n s o) y
   the_cell a b y (inl row) (inl column) h = rw (row, column) (contains-cell cells n m s o y subject object)
-  the_cell a b y (inl row) (inr other) h = let wrong : false ≡ true = rw (differs b o other, no_second (nat_eq a s)) at h in absurd (cc)
-  the_cell a b y (inr other) _ h = let wrong : false ≡ true = rw (differs a s other) at h in absurd (cc)
+  the_cell a b y (inl row) (inr other) h = let wrong : false ≡ true = rw (ne_eqb b o other, and-false (nat_eq a s)) at h in absurd (cc)
+  the_cell a b y (inr other) _ h = let wrong : false ≡ true = rw (ne_eqb a s other) at h in absurd (cc)
 
   inserted : (r k e c t : Bool) → ((r && k) ≡ true → t ≡ c) → cond (r && k) (e || c) t ≡ ((r && (k && e)) || t)
   inserted true true e c t h = ap (λ d. e || d) (sym (h refl))
@@ -120,15 +101,15 @@ module _ (cells : List ModeSet) (n m s o : ℕ) (x : Mode) (subject : s < n) (ob
 
 module _ (old new : List ModeSet) (n m : ℕ) (whole : length old ≡ m * n) (before : (k : ℕ) (d : ModeSet) → k < length old → get_or new k d ≡ get_or old k d) (added : (k : ℕ) (d : ModeSet) → length old ≤ k → k < length old + n → get_or new k d ≡ set.empty) where
   in_more : (a b : ℕ) (y : Mode) → (a < n) ⊎ (n ≤ a) → (b < m) ⊎ (m ≤ b) → (b ≡ m) ⊎ (b ≡ m → ⊥) → (nat_lt b (m + 1) && (nat_lt a n && set.contains (cell new n a b) y)) ≡ (nat_lt b m && (nat_lt a n && set.contains (cell old n a b) y))
-  in_more a b y (inr past) _ _ = rw (not_less a n past, no_second (nat_lt b (m + 1)), no_second (nat_lt b m)) refl
+  in_more a b y (inr past) _ _ = rw (le-ltb a n past, and-false (nat_lt b (m + 1)), and-false (nat_lt b m)) refl
   in_more a b y (inl row) (inl column) _ =
       let stands : b * n + a < length old = rw whole (place_lt n m a b row column) in
-      rw (before (b * n + a) set.empty stands, is_less b (m + 1) (omega arith), is_less b m column) refl
+      rw (before (b * n + a) set.empty stands, lt-ltb b (m + 1) (omega arith), lt-ltb b m column) refl
   in_more a b y (inl row) (inr past) (inl last) =
       let from : length old ≤ b * n + a = rw (whole, last) (omega arith) in
       let below : b * n + a < length old + n = rw (whole, last) (omega arith) in
-      rw (added (b * n + a) set.empty from below, is_less a n row, not_less b m past, set.contains-empty mode_cmp y) (no_second (nat_lt b (m + 1)))
-  in_more a b y (inl row) (inr past) (inr other) = let beyond : m + 1 ≤ b = omega arith in rw (not_less b (m + 1) beyond, not_less b m past) refl
+      rw (added (b * n + a) set.empty from below, lt-ltb a n row, le-ltb b m past, set.contains-empty mode_cmp y) (and-false (nat_lt b (m + 1)))
+  in_more a b y (inl row) (inr past) (inr other) = let beyond : m + 1 ≤ b = omega arith in rw (le-ltb b (m + 1) beyond, le-ltb b m past) refl
 
   -- an empty column more changes nothing
   pub triples_of-more : triples_of new n (m + 1) ≡ triples_of old n m
@@ -181,13 +162,13 @@ module _ (cells : List ModeSet) (n m o : ℕ) (object : o < m) (whole : length c
       rw split at (emptied_after cells (o * n) n column_fits (b * n + a - (o * n + n)) set.empty)
 
   in_cleared : (a b : ℕ) (y : Mode) → (a < n) ⊎ (n ≤ a) → (b < o) ⊎ (o ≤ b) → (b ≡ o) ⊎ (b ≡ o → ⊥) → (nat_lt b m && (nat_lt a n && set.contains (cell cleared n a b) y)) ≡ ((nat_lt b m && (nat_lt a n && set.contains (cell cells n a b) y)) && not (nat_eq b o))
-  in_cleared a b y (inr past) _ _ = rw (not_less a n past, no_second (nat_lt b m)) refl
-  in_cleared a b y (inl row) (inl before) _ = let other : b ≡ o → ⊥ = λ same. omega arith in rw (kept_before a b row before, differs b o other) (sym (no_change _))
+  in_cleared a b y (inr past) _ _ = rw (le-ltb a n past, and-false (nat_lt b m)) refl
+  in_cleared a b y (inl row) (inl before) _ = let other : b ≡ o → ⊥ = λ same. omega arith in rw (kept_before a b row before, ne_eqb b o other) (sym (and-true _))
   in_cleared a b y (inl row) (inr from) (inl same) =
-      rw (same, emptied_within cells (o * n) n column_fits a set.empty row, set.contains-empty mode_cmp y, itself o, no_second (nat_lt a n), no_second (nat_lt o m)) (sym (no_second _))
-  in_cleared a b y (inl row) (inr from) (inr other) = let after : o < b = omega arith in rw (kept_after a b row after, differs b o other) (sym (no_change _))
+      rw (same, emptied_within cells (o * n) n column_fits a set.empty row, set.contains-empty mode_cmp y, eq-eqb o o refl, and-false (nat_lt a n), and-false (nat_lt o m)) (sym (and-false _))
+  in_cleared a b y (inl row) (inr from) (inr other) = let after : o < b = omega arith in rw (kept_after a b row after, ne_eqb b o other) (sym (and-true _))
 
-  -- to empty the cells of a column is to take out the triples of its object
+  -- to empty the cells of a column is to remove the triples of its object
   pub triples_of-without_object : triples_of cleared n m ≡ without_object (triples_of cells n m) o
   triples_of-without_object = same_triples _ _ (λ t.
       contains-triples_of cleared n m t

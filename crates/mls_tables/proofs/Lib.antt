@@ -1,5 +1,7 @@
-pub mod ModeBits
-pub mod Within
-pub mod TripleLists
-pub mod Cells
-pub mod Ascending
+mod Ascending
+mod Cells
+mod CellTriples
+pub mod Laws
+mod ModeBits
+mod TripleLists
+mod Within

@@ -32,7 +32,7 @@ IsAscending ns = (i j : ℕ) → i ≤ j → j < length ns → slice_index ns i 
 abbrev pub empty_table : ℕ → Table
 empty_table subjects = record { subjects = subjects; columns = 0; triples = set.empty }
 
--- a table is stored as the tuple of its parts
+-- A table is stored as the tuple of its parts. (own)
 abbrev pub table_code : Coded Table
 table_code =
     code_by (ℕ × (ℕ × TripleSet)) (coded× coded_ℕ (coded× coded_ℕ triple_set_code)) (λ t. (t.subjects, (t.columns, t.triples))) (λ p. record { subjects = p.0; columns = p.1.0; triples = p.1.1 }) (λ _. refl)

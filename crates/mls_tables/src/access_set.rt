@@ -1,6 +1,7 @@
 //! The current accesses.
 ghost use Rattle.std.specs.Prelude.{◌≡◌, ◌<◌, ◌≤◌, ◌+◌, IfOk, OnOk, OnErr, not};
 ghost use Rattle.std.specs.FinSet as set;
+ghost use Rattle.mls_tables.specs.declared.limits.TheConstants.{MAX_SUBJECTS, MAX_OBJECTS};
 ghost use Rattle.mls_tables.specs.declared.mode.Mode.{Mode as ModeName};
 ghost use Rattle.mls_tables.specs.Triples.{triple_cmp};
 ghost use Rattle.mls_tables.specs.Table.{IsWithin, IsAscending, empty_table, without_object, without_objects};
@@ -12,7 +13,8 @@ use crate::triple_list::{Triple, discard, discard_group, discard_object, holds, 
 use std::alloc::{AllocError, Allocator, Global};
 use std::marker::Model;
 
-/// The current accesses: a set of triples of a subject, an object and a mode, with rows for 1 to 256 subjects and up to 4,096 object numbers.
+/// The current accesses: a set of triples of a subject, an object and a mode, with rows for 1 to `MAX_SUBJECTS` subjects and columns for up to
+/// `MAX_OBJECTS` object numbers.
 #[derive(Drop)]
 pub struct AccessSet<A: Allocator = Global> {
     subjects: u16,
@@ -23,6 +25,7 @@ pub struct AccessSet<A: Allocator = Global> {
 impl<A: Allocator> Model for AccessSet<A> {
     ghost use Rattle.std.specs.Prelude.{◌≤◌};
     ghost use Rattle.std.specs.FinSet as set;
+    ghost use Rattle.mls_tables.specs.declared.limits.TheConstants.{MAX_SUBJECTS, MAX_OBJECTS};
     ghost use Rattle.mls_tables.specs.Table.{Table, table_code, IsWithin};
 
     ghost Value = { Table };
@@ -37,17 +40,20 @@ impl<A: Allocator> Model for AccessSet<A> {
 
     ghost invariant = { λ b. record {
       least : 1 ≤ b.subjects;
-      most : b.subjects ≤ 256;
-      columns : b.columns ≤ 4096;
+      most : b.subjects ≤ MAX_SUBJECTS;
+      columns : b.columns ≤ MAX_OBJECTS;
       within : IsWithin b.subjects b.columns (set.from_list b.triples.items);
     } };
 }
 
 impl<A: Allocator> AccessSet<A> {
-    /// A set with rows for 1 to 256 subjects, no column and no triple.
+    /// A set with rows for 1 to `MAX_SUBJECTS` subjects, no column and no triple.
+    ///
+    /// # Errors
+    /// `AllocError` where an allocation fails.
     pub fn new(alloc: A, subjects: u16) -> Result<AccessSet<A>, AllocError>
         requires least { 1 ≤ subjects }
-        requires most { subjects ≤ 256 }
+        requires most { subjects ≤ MAX_SUBJECTS }
         ensures { IfOk result (λ b. b ≡ empty_table subjects) }
     {
         Ok(AccessSet {
@@ -57,27 +63,30 @@ impl<A: Allocator> AccessSet<A> {
         })
     }
 
-    /// For how many subjects there are rows.
+    /// How many subjects there are rows for.
     pub fn subjects(&self) -> u16
         ensures reply { result ≡ self.now.subjects }
         ensures least { 1 ≤ result }
-        ensures most { result ≤ 256 }
+        ensures most { result ≤ MAX_SUBJECTS }
     {
         self.subjects
     }
 
-    /// For how many object numbers there are columns. No triple names a subject or an object beyond the two.
+    /// How many object numbers there are columns for. Each triple names a subject and an object within the two.
     pub fn columns(&self) -> u16
         ensures reply { result ≡ self.now.columns }
-        ensures most { result ≤ 4096 }
+        ensures most { result ≤ MAX_OBJECTS }
         ensures within { IsWithin self.now.subjects self.now.columns self.now.triples }
     {
         self.columns
     }
 
-    /// Adds an empty column for the next object number. Where memory is refused, nothing has changed.
+    /// Adds an empty column for the next object number.
+    ///
+    /// # Errors
+    /// `AllocError` where an allocation fails. Then nothing has changed.
     pub fn add_object(&mut self) -> Result<(), AllocError>
-        requires { self.old.columns < 4096 }
+        requires { self.old.columns < MAX_OBJECTS }
         ensures ok { OnOk result (self.new ≡ record self.old { columns = self.old.columns + 1 }) }
         ensures err { OnErr result (self.new ≡ self.old) }
     {
@@ -110,7 +119,10 @@ impl<A: Allocator> AccessSet<A> {
         &self.triples
     }
 
-    /// Adds a triple, and tells whether it is new. Where memory is refused, nothing has changed.
+    /// Adds a triple, and returns whether it is new.
+    ///
+    /// # Errors
+    /// `AllocError` where the allocation fails. Then nothing has changed.
     pub fn insert(&mut self, s: SubjectId, o: ObjectId, x: Mode) -> Result<bool, AllocError>
         requires subject { s < self.old.subjects }
         requires object { o < self.old.columns }
@@ -125,7 +137,7 @@ impl<A: Allocator> AccessSet<A> {
         Ok(true)
     }
 
-    /// Takes a triple out, and tells whether it was there.
+    /// Removes a triple, and returns whether it was there.
     pub fn remove(&mut self, s: SubjectId, o: ObjectId, x: Mode) -> bool
         requires subject { s < self.old.subjects }
         requires object { o < self.old.columns }
@@ -135,7 +147,7 @@ impl<A: Allocator> AccessSet<A> {
         discard(&mut self.triples, s, o, x)
     }
 
-    /// Takes out the triples of an object.
+    /// Removes the triples of an object.
     pub fn drop_object(&mut self, o: ObjectId)
         requires { o < self.old.columns }
         ensures { self.new ≡ record self.old { triples = without_object self.old.triples o } }
@@ -143,7 +155,7 @@ impl<A: Allocator> AccessSet<A> {
         discard_object(&mut self.triples, o);
     }
 
-    /// Takes out the triples of the objects of a group, which ascends. It goes over the triples once.
+    /// Removes the triples of the objects of a group, whose numbers ascend. It reads the triples once.
     pub fn drop_objects(&mut self, group: &[ObjectId])
         requires { IsAscending group.now }
         ensures { self.new ≡ record self.old { triples = without_objects self.old.triples group.now } }
@@ -151,7 +163,10 @@ impl<A: Allocator> AccessSet<A> {
         discard_group(&mut self.triples, group);
     }
 
-    /// A set with the same rows, columns and triples.
+    /// A copy: the same rows, columns and triples.
+    ///
+    /// # Errors
+    /// `AllocError` where the allocation fails.
     pub fn duplicate(&self, alloc: A) -> Result<AccessSet<A>, AllocError>
         ensures { IfOk result (λ b. b ≡ self.now) }
     {

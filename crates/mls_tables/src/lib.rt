@@ -3,15 +3,15 @@
 
 mod access_set;
 mod ids;
+mod limits;
 mod matrix;
 mod mode;
 mod modes;
-#[cfg(test)]
-mod tests;
 mod triple_list;
 
 pub use access_set::AccessSet;
 pub use ids::{ObjectId, SubjectId};
+pub use limits::{MAX_OBJECTS, MAX_SUBJECTS};
 pub use matrix::Matrix;
 pub use mode::Mode;
 pub use modes::Modes;

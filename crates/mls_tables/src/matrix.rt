@@ -1,6 +1,7 @@
 //! The access matrix.
 ghost use Rattle.std.specs.Prelude.{◌≡◌, ◌<◌, ◌≤◌, ◌+◌, ◌*◌, ℕ, IfOk, OnOk, OnErr, All, length, replicate};
 ghost use Rattle.std.specs.FinSet as set;
+ghost use Rattle.mls_tables.specs.declared.limits.TheConstants.{MAX_SUBJECTS, MAX_OBJECTS};
 ghost use Rattle.mls_tables.specs.declared.mode.Mode.{Mode as ModeName};
 ghost use Rattle.mls_tables.specs.Table.{IsWithin, empty_table, without_object, without_objects};
 
@@ -11,7 +12,7 @@ use std::alloc::{AllocError, Allocator, Global};
 use std::marker::Model;
 
 /// The access matrix: a set of triples of a subject, an object and a mode, with a row for each subject and a column for each object number.
-/// There are 1 to 256 rows and up to 4,096 columns.
+/// There are 1 to `MAX_SUBJECTS` rows and up to `MAX_OBJECTS` columns.
 #[derive(Drop)]
 pub struct Matrix<A: Allocator = Global> {
     subjects: u16,
@@ -22,6 +23,7 @@ pub struct Matrix<A: Allocator = Global> {
 
 impl<A: Allocator> Model for Matrix<A> {
     ghost use Rattle.std.specs.Prelude.{◌≡◌, ◌≤◌, ◌*◌, length};
+    ghost use Rattle.mls_tables.specs.declared.limits.TheConstants.{MAX_SUBJECTS, MAX_OBJECTS};
     ghost use Rattle.mls_tables.specs.Table.{Table, table_code};
     ghost use Rattle.mls_tables.specs.Cells.{triples_of};
 
@@ -37,13 +39,13 @@ impl<A: Allocator> Model for Matrix<A> {
 
     ghost invariant = { λ m. record {
       least : 1 ≤ m.subjects;
-      most : m.subjects ≤ 256;
-      columns : m.columns ≤ 4096;
+      most : m.subjects ≤ MAX_SUBJECTS;
+      columns : m.columns ≤ MAX_OBJECTS;
       cells : length m.cells.items ≡ m.columns * m.subjects;
     } };
 }
 
-/// Where the cell of a subject and an object stands.
+/// The index of the cell of a subject and an object.
 fn place(subjects: u16, s: SubjectId, o: ObjectId) -> usize
     ensures { result ≡ o * subjects + s }
 {
@@ -58,10 +60,10 @@ fn clear(cells: &mut [Modes])
 }
 
 impl<A: Allocator> Matrix<A> {
-    /// A matrix with rows for 1 to 256 subjects, no column and no triple.
+    /// A matrix with rows for 1 to `MAX_SUBJECTS` subjects, no column and no triple. It doesn't allocate.
     pub fn new(alloc: A, subjects: u16) -> Matrix<A>
         requires least { 1 ≤ subjects }
-        requires most { subjects ≤ 256 }
+        requires most { subjects ≤ MAX_SUBJECTS }
         ensures { result ≡ empty_table subjects }
     {
         Matrix {
@@ -71,27 +73,30 @@ impl<A: Allocator> Matrix<A> {
         }
     }
 
-    /// For how many subjects there are rows.
+    /// How many subjects there are rows for.
     pub fn subjects(&self) -> u16
         ensures reply { result ≡ self.now.subjects }
         ensures least { 1 ≤ result }
-        ensures most { result ≤ 256 }
+        ensures most { result ≤ MAX_SUBJECTS }
     {
         self.subjects
     }
 
-    /// For how many object numbers there are columns. No triple names a subject or an object beyond the two.
+    /// How many object numbers there are columns for. Each triple names a subject and an object within the two.
     pub fn columns(&self) -> u16
         ensures reply { result ≡ self.now.columns }
-        ensures most { result ≤ 4096 }
+        ensures most { result ≤ MAX_OBJECTS }
         ensures within { IsWithin self.now.subjects self.now.columns self.now.triples }
     {
         self.columns
     }
 
-    /// Adds an empty column for the next object number. Where memory is refused, nothing has changed.
+    /// Adds an empty column for the next object number.
+    ///
+    /// # Errors
+    /// `AllocError` where the allocation fails. Then nothing has changed.
     pub fn add_object(&mut self) -> Result<(), AllocError>
-        requires { self.old.columns < 4096 }
+        requires { self.old.columns < MAX_OBJECTS }
         ensures ok { OnOk result (self.new ≡ record self.old { columns = self.old.columns + 1 }) }
         ensures err { OnErr result (self.new ≡ self.old) }
     {
@@ -110,7 +115,7 @@ impl<A: Allocator> Matrix<A> {
         self.cells[place(self.subjects, s, o)]
     }
 
-    /// Puts a mode into the cell of a subject and an object.
+    /// Adds a mode to the cell of a subject and an object.
     pub fn give(&mut self, s: SubjectId, o: ObjectId, x: Mode)
         requires subject { s < self.old.subjects }
         requires object { o < self.old.columns }
@@ -120,7 +125,7 @@ impl<A: Allocator> Matrix<A> {
         self.cells[at] = self.cells[at].with(x);
     }
 
-    /// Takes a mode out of the cell of a subject and an object.
+    /// Removes a mode from the cell of a subject and an object.
     pub fn rescind(&mut self, s: SubjectId, o: ObjectId, x: Mode)
         requires subject { s < self.old.subjects }
         requires object { o < self.old.columns }
@@ -150,7 +155,10 @@ impl<A: Allocator> Matrix<A> {
         }
     }
 
-    /// A matrix with the same rows, columns and triples.
+    /// A copy: the same rows, columns and triples.
+    ///
+    /// # Errors
+    /// `AllocError` where the allocation fails.
     pub fn duplicate(&self, alloc: A) -> Result<Matrix<A>, AllocError>
         ensures { IfOk result (λ m. m ≡ self.now) }
     {

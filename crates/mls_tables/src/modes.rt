@@ -12,9 +12,10 @@ pub struct Modes {
 }
 
 impl Model for Modes {
-    ghost use Rattle.std.specs.Prelude.{◌<◌};
-    ghost use Rattle.mls_tables.specs.Mode.{ModeSet, mode_set_code};
-    ghost use Rattle.mls_tables.specs.ModeBits.{modes_of, bits_of, bits_of-modes_of};
+    ghost use Rattle.std.specs.Prelude.{◌<◌, refl};
+    ghost use Rattle.mls_facts.proofs.Keys.{bits_of_keys-keys_of_bits};
+    ghost use Rattle.mls_tables.specs.Mode.{ModeSet, mode_set_code, mode_number, all_modes};
+    ghost use Rattle.mls_tables.specs.ModeBits.{modes_of, bits_of};
 
     ghost Value = { ModeSet };
 
@@ -26,7 +27,7 @@ impl Model for Modes {
 
     ghost inverse = { λ s. record { bits = bits_of s } };
 
-    ghost inverse_ok = { λ a h i. record { bits = bits_of-modes_of a.bits h i } };
+    ghost inverse_ok = { λ a h i. record { bits = bits_of_keys-keys_of_bits mode_number all_modes 4 a.bits refl refl h i } };
 }
 
 impl Modes {
@@ -44,7 +45,7 @@ impl Modes {
         self.bits >> x.number() & 1 == 1
     }
 
-    /// The set with one mode more.
+    /// The set with a mode added.
     pub fn with(self, x: Mode) -> Modes
         ensures { result ≡ set.insert self x }
     {
@@ -53,7 +54,7 @@ impl Modes {
         }
     }
 
-    /// The set with one mode less.
+    /// The set with a mode removed.
     pub fn without(self, x: Mode) -> Modes
         ensures { result ≡ set.remove self x }
     {

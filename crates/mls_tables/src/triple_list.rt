@@ -28,7 +28,7 @@ pub(crate) fn holds(triples: &[Triple], s: SubjectId, o: ObjectId, x: Mode) -> b
     triples.iter().any(|t| is_triple(t, s, o, x))
 }
 
-/// Takes out the triples with these parts, and tells whether there were any.
+/// Removes the triples with these parts, and returns whether there were any.
 pub(crate) fn discard<A: Allocator>(
     triples: &mut Vec<Triple, A>,
     s: SubjectId,
@@ -50,14 +50,14 @@ fn is_of(t: &Triple, o: ObjectId) -> bool
     t.1 == o
 }
 
-/// Takes out the triples of an object.
+/// Removes the triples of an object.
 pub(crate) fn discard_object<A: Allocator>(triples: &mut Vec<Triple, A>, o: ObjectId)
     ensures { triples.new.items ≡ filter (λ t. not (t.1 == o)) triples.old.items }
 {
     triples.retain(|t| !is_of(t, o));
 }
 
-/// Whether an object is in a group, which is searched by halves.
+/// Whether an object is in a group, by binary search.
 fn is_in(group: &[ObjectId], o: ObjectId) -> bool
     ensures { IsAscending group.now → result ≡ list_any (λ x. x == o) group.now }
 {
@@ -66,7 +66,7 @@ fn is_in(group: &[ObjectId], o: ObjectId) -> bool
         .is_ok()
 }
 
-/// Takes out the triples of the objects of a group.
+/// Removes the triples of the objects of a group.
 pub fn discard_group<A: Allocator>(triples: &mut Vec<Triple, A>, group: &[ObjectId])
     requires { IsAscending group.now }
     ensures { triples.new.items ≡ filter (λ t. not (list_any (λ o. o == t.1) group.now)) triples.old.items }
@@ -74,7 +74,7 @@ pub fn discard_group<A: Allocator>(triples: &mut Vec<Triple, A>, group: &[Object
     triples.retain(|t| !is_in(group, t.1));
 }
 
-/// The modes, with that of a triple if it is of the subject and the object.
+/// The modes, and that of a triple where it is of the subject and the object.
 fn joined(modes: Modes, t: &Triple, s: SubjectId, o: ObjectId) -> Modes
     ensures { (x : ModeName) → set.contains result x ≡ (set.contains modes x || is_triple t.now (s, o, x)) }
 {

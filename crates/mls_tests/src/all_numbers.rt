@@ -1,9 +1,7 @@
 //! A script that is given all object numbers.
-use crate::scripts::entries_added;
-use mls_cli::{Names, standard_start};
-use mls_monitor::Monitor;
-use std::alloc::{AllocError, Allocator, Global};
-use std::test::Fail;
+use crate::scripts::served;
+use std::alloc::{AllocError, Global};
+use std::process::Abort;
 
 /// What is asked after the last number was given out: by a subject that may create there, by one that may not, and with no label.
 const PAST_THE_LAST: &[u8] = b"sec create root U hi\nbob create root U hi\nsec create root Q hi\n";
@@ -32,24 +30,19 @@ fn answers(alloc: Global) -> Result<Vec<u8>, AllocError> {
     Ok(answers)
 }
 
-/// Whether the script, served over a monitor that is new, is answered so, with an entry for each line but the last.
-fn gives_out_all(
-    alloc: Global,
-    names: &Names<Global>,
-    monitor: &mut Monitor<Global>,
-) -> Result<bool, AllocError> {
+/// Whether the script is answered so, with an entry for each line but the last, and no number is left.
+fn gives_out_all(alloc: Global) -> Result<bool, AllocError> {
     let script = script(alloc)?;
     let answers = answers(alloc)?;
     let mut written = Vec::new(alloc);
-    let added = entries_added(alloc, names, monitor, &script, &mut written);
-    Ok(added == Some(4095) && written.as_slice() == answers.as_slice())
+    let is_left = match served(alloc, &script, &mut written) {
+        Some(left) => left.entries == 4095 && left.next == 4096,
+        None => false,
+    };
+    Ok(is_left && written.as_slice() == answers.as_slice())
 }
 
 #[test]
-fn all_numbers_are_given_out_once(rt: HostRuntime) -> Result<(), Fail> {
-    let loaded = standard_start(rt.alloc())?;
-    let mut monitor = Monitor::open(rt.alloc(), loaded.start).map_err(|_| AllocError)?;
-    assert!(rt; gives_out_all(rt.alloc(), &loaded.names, &mut monitor) == Ok(true));
-    assert!(rt; monitor.state().next() == 4096);
-    Ok(())
+fn all_numbers_are_given_out_once(rt: HostRuntime) {
+    assert!(rt; gives_out_all(rt.alloc()) == Ok(true));
 }

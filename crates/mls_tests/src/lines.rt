@@ -11,6 +11,10 @@ mod faults;
 mod making;
 mod vars;
 
+use asking::lines_ask;
+use faults::first_fault_is_named;
+use making::lines_make_and_change;
+
 fn standard_names(alloc: Global) -> Result<Names, Fail> {
     let security = Scheme::new(alloc, &["U", "C", "S", "T"], &["A", "B"])?;
     let integrity = Scheme::new(alloc, &["lo", "hi"], &[])?;
@@ -19,12 +23,46 @@ fn standard_names(alloc: Global) -> Result<Names, Fail> {
     Ok(Names::new(alloc, &subjects, &objects, security, integrity)?)
 }
 
-/// The names of the standard start, and variables of which `$a-4` stands for object 4.
-fn standard(alloc: Global) -> Result<(Names<Global>, Vars<Global>), Fail> {
+/// What a test of lines asserts over the standard names, and variables of which `$a-4` stands for object 4.
+#[derive(Clone, Copy)]
+enum Test {
+    NamesHaveTheirNumbers,
+    LinesHaveAMost,
+    LinesAsk,
+    LinesMakeAndChange,
+    TheFirstFaultIsNamed,
+}
+
+/// Asserts what a test does.
+fn assert_over(
+    rt: &impl Abort,
+    alloc: Global,
+    names: &Names<Global>,
+    vars: &Vars<Global>,
+    test: Test,
+) -> Result<(), Fail> {
+    match test {
+        Test::NamesHaveTheirNumbers => are_numbered(rt, names),
+        Test::LinesHaveAMost => have_a_most(rt, alloc, names, vars)?,
+        Test::LinesAsk => lines_ask(rt, names, vars),
+        Test::LinesMakeAndChange => lines_make_and_change(rt, names, vars),
+        Test::TheFirstFaultIsNamed => first_fault_is_named(rt, names, vars),
+    }
+    Ok(())
+}
+
+/// Makes the names, and lends them to a test.
+fn over_names(rt: &impl Abort, alloc: Global, vars: &Vars<Global>, test: Test) -> Result<(), Fail> {
     let names = standard_names(alloc)?;
+    assert_over(rt, alloc, &names, vars, test)
+}
+
+/// Makes the variables and the names, and lends them to a test. All tests of lines go through here: each function that owns names is
+/// dear to prove.
+fn over_standard(rt: &impl Abort, alloc: Global, test: Test) -> Result<(), Fail> {
     let mut vars = Vars::new(alloc);
     vars.bind("a-4", ObjectId(4))?;
-    Ok((names, vars))
+    over_names(rt, alloc, &vars, test)
 }
 
 /// Whether a line asks nothing.
@@ -43,13 +81,14 @@ fn fault_of(names: &Names<Global>, vars: &Vars<Global>, line: &[u8]) -> Option<L
     }
 }
 
-/// Asserts the numbers of names.
+/// Asserts the numbers of names, and that each kind of label is read by its own scheme.
 fn are_numbered(rt: &impl Abort, names: &Names<Global>) {
     assert!(rt; names.subject("ann") == Some(SubjectId(0)));
     assert!(rt; names.subject("aud") == Some(SubjectId(3)));
     assert!(rt; names.subject("plans").is_none());
     assert!(rt; names.object("tool") == Some(ObjectId(3)));
     assert!(rt; names.object("ann").is_none());
+    read_their_labels(rt, names);
 }
 
 /// Asserts that each kind of label is read by its own scheme.
@@ -66,10 +105,7 @@ fn read_their_labels(rt: &impl Abort, names: &Names<Global>) {
 
 #[test]
 fn names_have_their_numbers_and_schemes(rt: HostRuntime) -> Result<(), Fail> {
-    let names = standard_names(rt.alloc())?;
-    are_numbered(&rt, &names);
-    read_their_labels(&rt, &names);
-    Ok(())
+    over_standard(&rt, rt.alloc(), Test::NamesHaveTheirNumbers)
 }
 
 /// The text, filled up with spaces to so many bytes.
@@ -79,14 +115,23 @@ fn filled(alloc: Global, text: &[u8], count: usize) -> Result<Vec<u8>, AllocErro
     Ok(line)
 }
 
-#[test]
-fn a_line_has_at_most_twenty_thousand_bytes(rt: HostRuntime) -> Result<(), Fail> {
+/// Asserts that a line of 20,000 bytes is read, and a longer one refused.
+fn have_a_most(
+    rt: &impl Abort,
+    alloc: Global,
+    names: &Names<Global>,
+    vars: &Vars<Global>,
+) -> Result<(), AllocError> {
     for text in [b"".as_slice(), b";".as_slice()] {
-        let within = filled(rt.alloc(), text, 20_000)?;
-        let past = filled(rt.alloc(), text, 20_001)?;
-        let (names, vars) = standard(rt.alloc())?;
-        assert!(rt; is_blank(&names, &vars, &within));
-        assert!(rt; fault_of(&names, &vars, &past) == Some(LineFault::BadForm));
+        let within = filled(alloc, text, 20_000)?;
+        assert!(rt; is_blank(names, vars, &within));
+        let past = filled(alloc, text, 20_001)?;
+        assert!(rt; fault_of(names, vars, &past) == Some(LineFault::BadForm));
     }
     Ok(())
+}
+
+#[test]
+fn a_line_has_at_most_twenty_thousand_bytes(rt: HostRuntime) -> Result<(), Fail> {
+    over_standard(&rt, rt.alloc(), Test::LinesHaveAMost)
 }

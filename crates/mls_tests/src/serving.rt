@@ -5,15 +5,18 @@ mod flushes;
 mod refusals;
 mod streams;
 
-use crate::serving::streams::{Pieces, Telling, Waiting};
-use mls_cli::{Names, ServeFault, serve, standard_start};
+use bounds::{lines_are_bounded, script_is_limited};
+use failures::{reader_fails_in_turn, writer_fails_in_turn};
+use mls_cli::{Loaded, Names, ServeFault, serve, standard_start};
 use mls_monitor::{Entry, Monitor};
 use mls_rules::Start;
+use refusals::allocations_are_refused;
 use std::alloc::{AllocError, Allocator, Global};
 use std::cell::Cell;
 use std::io::{Read, Write};
 use std::process::Abort;
 use std::test::Fail;
+use streams::{Pieces, Telling, Waiting};
 
 /// A get, the same again, and a check of it.
 const SHORT: &[u8] = b"ann get-read plans\nann get-read plans\nann check read plans\n";
@@ -21,11 +24,43 @@ const SHORT: &[u8] = b"ann get-read plans\nann get-read plans\nann check read pl
 /// Its answers.
 const SHORT_ANSWERS: &[u8] = b"yes\nyes\nheld\n";
 
-fn standard_names(alloc: Global) -> Result<Names, AllocError> {
-    let Ok(loaded) = standard_start(alloc) else {
-        return Err(AllocError);
-    };
-    Ok(loaded.names)
+fn standard_names(alloc: Global) -> Result<Names<Global>, AllocError> {
+    match standard_start(alloc) {
+        Ok(Loaded { names, start: _ }) => Ok(names),
+        Err(_) => Err(AllocError),
+    }
+}
+
+/// What a test of serving asserts over the standard names.
+#[derive(Clone, Copy)]
+enum Test {
+    AnswersScripts,
+    AnswersBeforeItReadsOn,
+    LinesAtTheBounds,
+    AScriptAtItsLimit,
+    ReaderFails,
+    WriterFails,
+    EachAllocationRefused,
+}
+
+/// Asserts what a test does.
+fn assert_over(rt: &impl Abort, alloc: Global, names: &Names<Global>, test: Test) {
+    match test {
+        Test::AnswersScripts => scripts_are_answered(rt, alloc, names),
+        Test::AnswersBeforeItReadsOn => is_answered_before_it_reads_on(rt, alloc, names),
+        Test::LinesAtTheBounds => lines_are_bounded(rt, alloc, names),
+        Test::AScriptAtItsLimit => script_is_limited(rt, alloc, names),
+        Test::ReaderFails => reader_fails_in_turn(rt, alloc, names),
+        Test::WriterFails => writer_fails_in_turn(rt, alloc, names),
+        Test::EachAllocationRefused => allocations_are_refused(rt, alloc, names),
+    }
+}
+
+/// Makes the names, and lends them to a test. All tests of serving go through here: each function that owns names is dear to prove.
+fn over_names(rt: &impl Abort, alloc: Global, test: Test) -> Result<(), Fail> {
+    let names = standard_names(alloc)?;
+    assert_over(rt, alloc, &names, test);
+    Ok(())
 }
 
 fn standard_monitor<A: Allocator + Copy>(alloc: A) -> Result<Monitor<A>, AllocError> {
@@ -115,25 +150,27 @@ const SCRIPTS: [Case; 10] = [
     (b"ann get-read plans\nann get-read plans", b"yes\nyes\n", 2),
 ];
 
-#[test]
-fn answers_scripts(rt: HostRuntime) -> Result<(), Fail> {
-    let names = standard_names(rt.alloc())?;
+/// Asserts the answers to the scripts above, in pieces of three sizes.
+fn scripts_are_answered(rt: &impl Abort, alloc: Global, names: &Names<Global>) {
     for (script, answers, entries) in SCRIPTS {
         for most in [1, 7, 65_536] {
-            let is_right = is_answered(rt.alloc(), &names, script, most, answers, entries);
+            let is_right = is_answered(alloc, names, script, most, answers, entries);
             assert!(rt; is_right, "in pieces of {most}");
         }
     }
-    Ok(())
+}
+
+#[test]
+fn answers_scripts(rt: HostRuntime) -> Result<(), Fail> {
+    over_names(&rt, rt.alloc(), Test::AnswersScripts)
 }
 
 /// A script that a person types, who waits after each of its pieces for the answers of the steps below.
 const TYPED: &[u8] =
     b"ann get-read plans\n\n; note\nann check read plans\nann get-write plans\nbob get-read memo";
 
-#[test]
-fn answers_before_it_reads_on(rt: HostRuntime) -> Result<(), Fail> {
-    let names = standard_names(rt.alloc())?;
+/// Asserts that a reader that waits for the answers to what it gave gets them.
+fn is_answered_before_it_reads_on(rt: &impl Abort, alloc: Global, names: &Names<Global>) {
     let flushed = Cell::new(0);
     let mut reader = Waiting {
         bytes: TYPED,
@@ -141,9 +178,13 @@ fn answers_before_it_reads_on(rt: HostRuntime) -> Result<(), Fail> {
         step: 0,
         flushed: &flushed,
     };
-    let left = run(rt.alloc(), &names, &mut reader, &mut Telling::new(&flushed));
+    let left = run(alloc, names, &mut reader, &mut Telling::new(&flushed));
     let (result, entries) = (Ok(3), 3);
     assert!(rt; left == Ok(Left { result, entries }));
     assert!(rt; flushed.get() == 21);
-    Ok(())
+}
+
+#[test]
+fn answers_before_it_reads_on(rt: HostRuntime) -> Result<(), Fail> {
+    over_names(&rt, rt.alloc(), Test::AnswersBeforeItReadsOn)
 }

@@ -1,40 +1,26 @@
 -- A tree with one object more.
-use Rattle.std.proofs.Common.{◌≡◌, ℕ, ◌+◌, ◌<◌, ◌⊎◌, inl, inr, Bool, true, false, cond, nat_eq, ◌||◌, IsTrue, Option, Some, None, is_some, refl, sym, ap, subst, ◌∙◌, arith, lit≤}
+use Rattle.std.proofs.Common.{◌≡◌, ℕ, ◌+◌, ◌<◌, ◌⊎◌, inl, inr, Bool, true, false, nat_eq, ◌||◌, IsTrue, Some, None, is_some, refl, sym, ap, subst, ◌∙◌, arith, lit≤}
 use Rattle.std.proofs.lemmas.Bool.{cases_eq}
 use Rattle.std.proofs.lemmas.Bool.Decides.{nat_tests}
+use Rattle.std.proofs.lemmas.Option.{same_Some}
 use Rattle.std.specs.Ordering.{nat_cmp}
 use Rattle.std.specs.FinMap as map
 use Rattle.std.specs.FinMap.{FinMap}
+use Rattle.mls_tables.specs.declared.limits.TheConstants.{MAX_OBJECTS}
 use Rattle.mls_tree.specs.Tree.{Reaches, here, up, IsTree, is_active}
-use Rattle.mls_tree.proofs.Numbers.{get-inserted}
+use Rattle.mls_facts.proofs.Entries.{at_new, elsewhere, by_number, has-inserted}
 
 module _ (parent : FinMap nat_cmp ℕ) (n p : ℕ) where
-  at_new : map.get (map.insert parent n p) n ≡ Some p
-  at_new = let same : nat_eq n n ≡ true = grind (arith, nat_tests) in get-inserted parent n p n ∙ ap (λ b. cond b (Some p) (map.get parent n)) same
-
-  elsewhere : (q : ℕ) → nat_eq q n ≡ false → map.get (map.insert parent n p) q ≡ map.get parent q
-  elsewhere q other = get-inserted parent n p q ∙ ap (λ b. cond b (Some p) (map.get parent q)) other
-
   -- a way up stays one where a number without a parent gets one
   Reaches-insert : {o q : ℕ} → map.get parent n ≡ None → Reaches parent o q → Reaches (map.insert parent n p) o q
   Reaches-insert none here = here
   Reaches-insert none (up {o = o} {p = r} {q = q} step rest) = up (from (cases_eq o n)) (Reaches-insert none rest) where
     from : (o ≡ n) ⊎ (o ≡ n → ⊥) → map.get (map.insert parent n p) o ≡ Some r
     from (inl same) = let both : map.get parent n ≡ Some r = rw same at step in cc
-    from (inr other) = let test : nat_eq o n ≡ false = grind (arith, nat_tests) in elsewhere o test ∙ step
+    from (inr other) = let test : nat_eq o n ≡ false = grind (arith, nat_tests) in elsewhere parent n p o test ∙ step
 
 no_parent : (m : FinMap nat_cmp ℕ) (n : ℕ) → ((p : ℕ) → map.get m n ≡ Some p → ⊥) → map.get m n ≡ None
 no_parent m n never = elim (map.get m n) as (λ e. map.get m n ≡ e → e ≡ None) [ None ↦ λ is. refl | Some p ↦ λ is. absurd (never p is) ] refl
-
-some_same : (a b : ℕ) → Some a ≡ Some b → a ≡ b
-some_same a b e = cc
-
--- a statement at one number and at each other
-by_number : (n o : ℕ) (P : ℕ → Type 0) → P n → (nat_eq o n ≡ false → P o) → P o
-by_number n o P new old = from (cases_eq o n) where
-  from : (o ≡ n) ⊎ (o ≡ n → ⊥) → P o
-  from (inl same) = subst P (sym same) new
-  from (inr other) = let test : nat_eq o n ≡ false = grind (arith, nat_tests) in old test
 
 module _ (parent : FinMap nat_cmp ℕ) (active : ℕ → Bool) (next p : ℕ) (tree : IsTree parent active next) where
   -- the next number has no parent yet
@@ -45,7 +31,7 @@ module _ (parent : FinMap nat_cmp ℕ) (active : ℕ → Bool) (next p : ℕ) (t
   old_number o is = let below : o < next = tree.below_next o is in grind (arith, nat_tests)
 
   -- A tree stays one with the next number below an active object.
-  pub IsTree-insert : (grown : ℕ → Bool) → ((o : ℕ) → grown o ≡ (nat_eq o next || active o)) → IsTrue (active p) → next < 4096 → IsTree (map.insert parent next p) grown (next + 1)
+  pub IsTree-insert : (grown : ℕ → Bool) → ((o : ℕ) → grown o ≡ (nat_eq o next || active o)) → IsTrue (active p) → next < MAX_OBJECTS → IsTree (map.insert parent next p) grown (next + 1)
   IsTree-insert grown grows below room = record {
     root_active = still 0 tree.root_active;
     root_has_no_parent = elsewhere parent next p 0 (old_number 0 tree.root_active) ∙ tree.root_has_no_parent;
@@ -53,7 +39,7 @@ module _ (parent : FinMap nat_cmp ℕ) (active : ℕ → Bool) (next p : ℕ) (t
         (λ _. up (at_new parent next p) (Reaches-insert parent next p next_is_free (tree.reaches_root p below)))
         (λ other now. Reaches-insert parent next p next_is_free (tree.reaches_root o (before o other now))) is;
     children_active = λ o q step. by_number next o (λ c. map.get (map.insert parent next p) c ≡ Some q → IsTrue (grown c) × IsTrue (grown q))
-        (λ at. (new, subst (λ r. IsTrue (grown r)) (some_same p q (sym (at_new parent next p) ∙ at)) (still p below)))
+        (λ at. (new, subst (λ r. IsTrue (grown r)) (same_Some p q (sym (at_new parent next p) ∙ at)) (still p below)))
         (λ other at. let both = tree.children_active o q (sym (elsewhere parent next p o other) ∙ at) in (still o both.0, still q both.1))
         step;
     below_next = λ o is. by_number next o (λ q. IsTrue (grown q) → q < next + 1)
@@ -70,10 +56,6 @@ module _ (parent : FinMap nat_cmp ℕ) (active : ℕ → Bool) (next p : ℕ) (t
     new : IsTrue (grown next)
     new = let same : nat_eq next next ≡ true = grind (arith, nat_tests) in grows next ∙ ap (λ b. b || active next) same
 
-is_some-cond : (b : Bool) (p : ℕ) (e : Option ℕ) → is_some (cond b (Some p) e) ≡ (b || is_some e)
-is_some-cond true p e = refl
-is_some-cond false p e = refl
-
 swapped : (a b c : Bool) → (a || (b || c)) ≡ (b || (a || c))
 swapped true true c = refl
 swapped true false c = refl
@@ -81,10 +63,7 @@ swapped false b c = refl
 
 -- what is active with one object more
 pub is_active-insert : (parent : FinMap nat_cmp ℕ) (n p o : ℕ) → is_active (map.insert parent n p) o ≡ (nat_eq o n || is_active parent o)
-is_active-insert parent n p o =
-    ap (λ e. nat_eq o 0 || is_some e) (get-inserted parent n p o)
-    ∙ ap (λ b. nat_eq o 0 || b) (is_some-cond (nat_eq o n) p (map.get parent o))
-    ∙ swapped (nat_eq o 0) (nat_eq o n) (is_some (map.get parent o))
+is_active-insert parent n p o = ap (λ b. nat_eq o 0 || b) (has-inserted parent n p o) ∙ swapped (nat_eq o 0) (nat_eq o n) (map.contains_key parent o)
 
 abbrev nobody : FinMap nat_cmp ℕ
 nobody = map.empty

@@ -1,30 +1,25 @@
 -- Inferiors: in a tree an object is one of another exactly where it reaches it.
 use Rattle.std.proofs.Common.{◌≡◌, ℕ, zero, suc, ◌<◌, ◌⊎◌, ◌↔◌, inl, inr, Bool, true, false, cond, not, ◌&&◌, ◌||◌, eqb, is_some, IsTrue, Option, Some, None, refl, sym, ap, ◌∙◌}
-use Rattle.std.proofs.lemmas.Bool.{cases_Bool, eqb-true, eq-eqb, ne_eqb, and_parts, and_from, not-true}
+use Rattle.std.proofs.lemmas.Bool.{cases_Bool, eqb-true, eq-eqb, ne_eqb, and_parts, and_from, or_right, not-true}
+use Rattle.std.proofs.lemmas.Option.{same_Some}
 use Rattle.std.specs.Ordering.{nat_cmp}
 use Rattle.std.specs.FinMap as map
-use Rattle.std.specs.FinMap.{FinMap, nat_cmp-IsAntisymmetric}
+use Rattle.std.specs.FinMap.{FinMap}
+use Rattle.mls_tables.specs.declared.limits.TheConstants.{MAX_OBJECTS}
 use Rattle.mls_tree.specs.Tree.{Reaches, here, up, IsTree, is_active, reaches_within, is_inferior}
-use Rattle.mls_tree.proofs.Ways.{above, above-zero, above-from_Reaches, first_step, parent_cases, some_same, Reaches-from_within, within-from_Reaches}
-
--- what a map has at a number after some numbers are taken out
-pub get-retained : (m : FinMap nat_cmp ℕ) (stays : ℕ → Bool) (q : ℕ) → map.get (map.retain_keys m stays) q ≡ cond (stays q) (map.get m q) None
-get-retained m stays q = map.get-retain_keys m stays q (λ x tie. ap stays (sym (nat_cmp-IsAntisymmetric q x tie)))
-
-or_true : (a b : Bool) → b ≡ true → (a || b) ≡ true
-or_true true b h = refl
-or_true false b h = h
+use Rattle.mls_facts.proofs.Entries.{get-kept, has-kept, at_kept, was_there}
+use Rattle.mls_tree.proofs.Ways.{above, above-zero, above-from_Reaches, first_step, parent_cases, Reaches-from_within, within-from_Reaches}
 
 module _ (parent : FinMap nat_cmp ℕ) (active : ℕ → Bool) (next : ℕ) (tree : IsTree parent active next) where
   -- what is active in a tree is the root, or has a parent
   pub is_active-tree : (o : ℕ) → active o ≡ is_active parent o
   is_active-tree o = from (cases_Bool (active o)) (parent_cases (map.get parent o)) where
     only_root : map.get parent o ≡ None → (n : ℕ) → above parent n o ≡ Some 0 → o ≡ 0
-    only_root none zero at = some_same (sym (above-zero parent o) ∙ at)
+    only_root none zero at = same_Some o 0 (sym (above-zero parent o) ∙ at)
     only_root none (suc n) at = let step = first_step parent n o 0 at in let no : None ≡ Some step.0 = sym none ∙ step.1 in cc
 
     from : (active o ≡ true) ⊎ (active o ≡ false) → ((p : ℕ) × (map.get parent o ≡ Some p)) ⊎ (map.get parent o ≡ None) → active o ≡ is_active parent o
-    from (inl is) (inl (p, at)) = is ∙ sym (or_true (eqb o 0) (is_some (map.get parent o)) (ap is_some at))
+    from (inl is) (inl (p, at)) = is ∙ sym (or_right (eqb o 0) (is_some (map.get parent o)) (ap is_some at))
     from (inl is) (inr none) =
         let top = above-from_Reaches parent (tree.reaches_root o is) in
         is ∙ sym (ap (λ b. b || is_some (map.get parent o)) (eq-eqb o 0 (only_root none top.0 top.1)))
@@ -36,11 +31,11 @@ module _ (parent : FinMap nat_cmp ℕ) (active : ℕ → Bool) (next : ℕ) (tre
   -- The test and the way up say the same.
   pub Reaches-from_inferior : (o a : ℕ) → is_inferior parent o a ≡ true → IsTrue (active o) × Reaches parent o a
   unfolding is_inferior
-  Reaches-from_inferior o a is = let parts = and_parts (is_active parent o) (reaches_within parent 4096 o a) is in (is_active-tree o ∙ parts.0, Reaches-from_within parent 4096 o a parts.1)
+  Reaches-from_inferior o a is = let parts = and_parts (is_active parent o) (reaches_within parent MAX_OBJECTS o a) is in (is_active-tree o ∙ parts.0, Reaches-from_within parent MAX_OBJECTS o a parts.1)
 
   pub inferior_from_Reaches : (o a : ℕ) → IsTrue (active o) → Reaches parent o a → is_inferior parent o a ≡ true
   unfolding is_inferior
-  inferior_from_Reaches o a is way = and_from (is_active parent o) (reaches_within parent 4096 o a) (sym (is_active-tree o) ∙ is) (within-from_Reaches parent active next tree o a is way)
+  inferior_from_Reaches o a is way = and_from (is_active parent o) (reaches_within parent MAX_OBJECTS o a) (sym (is_active-tree o) ∙ is) (within-from_Reaches parent active next tree o a is way)
 
   pub is_inferior-Reaches : (o a : ℕ) → IsTrue (is_inferior parent o a) ↔ (IsTrue (active o) × Reaches parent o a)
   is_inferior-Reaches o a = (Reaches-from_inferior o a, λ h. inferior_from_Reaches o a h.0 h.1)
@@ -60,7 +55,7 @@ module _ (parent : FinMap nat_cmp ℕ) (active : ℕ → Bool) (next : ℕ) (tre
   root_stays : (a : ℕ) → (a ≡ 0 → ⊥) → is_inferior parent 0 a ≡ false
   root_stays a other = from (cases_Bool (is_inferior parent 0 a)) where
     at_root : (n : ℕ) → above parent n 0 ≡ Some a → a ≡ 0
-    at_root zero at = sym (some_same (sym (above-zero parent 0) ∙ at))
+    at_root zero at = sym (same_Some 0 a (sym (above-zero parent 0) ∙ at))
     at_root (suc n) at = let step = first_step parent n 0 a at in let no : None ≡ Some step.0 = sym tree.root_has_no_parent ∙ step.1 in cc
 
     from : (is_inferior parent 0 a ≡ true) ⊎ (is_inferior parent 0 a ≡ false) → is_inferior parent 0 a ≡ false
@@ -81,20 +76,16 @@ module _ (parent : FinMap nat_cmp ℕ) (active : ℕ → Bool) (next : ℕ) (tre
     Reaches-kept : {o q : ℕ} → stays o ≡ true → Reaches parent o q → Reaches (map.retain_keys parent stays) o q
     Reaches-kept kept here = here
     Reaches-kept kept (up {o = o} {p = p} {q = q} step rest) =
-        up (get-retained parent stays o ∙ ap (λ b. cond b (map.get parent o) None) kept ∙ step) (Reaches-kept (stays_above o p step kept) rest)
-
-    kept_step : (b : Bool) (e : Option ℕ) (p : ℕ) → cond b e None ≡ Some p → (b ≡ true) × (e ≡ Some p)
-    kept_step true e p h = (refl, h)
-    kept_step false e p h = cc
+        up (at_kept parent stays o kept ∙ step) (Reaches-kept (stays_above o p step kept) rest)
 
     -- A tree stays one without the inferiors of an object other than the root.
     pub IsTree-retain : (left : ℕ → Bool) → ((o : ℕ) → left o ≡ (active o && stays o)) → IsTree (map.retain_keys parent stays) left next
     IsTree-retain left is = record {
       root_active = is 0 ∙ and_from (active 0) (stays 0) tree.root_active (ap not (root_stays a other));
-      root_has_no_parent = get-retained parent stays 0 ∙ none_either (stays 0) (map.get parent 0) tree.root_has_no_parent;
+      root_has_no_parent = get-kept parent stays 0 ∙ none_either (stays 0) (map.get parent 0) tree.root_has_no_parent;
       reaches_root = λ o h. Reaches-kept (was o h).1 (tree.reaches_root o (was o h).0);
       children_active = λ o p h.
-          let step = kept_step (stays o) (map.get parent o) p (sym (get-retained parent stays o) ∙ h) in
+          let step = was_there parent stays o p h in
           let both = tree.children_active o p step.1 in
           (is o ∙ and_from (active o) (stays o) both.0 step.0, is p ∙ and_from (active p) (stays p) both.1 (stays_above o p step.1 step.0));
       below_next = λ o h. tree.below_next o (was o h).0;
@@ -110,16 +101,9 @@ module _ (parent : FinMap nat_cmp ℕ) (active : ℕ → Bool) (next : ℕ) (tre
 -- what is active without the inferiors of an object other than the root
 pub is_active-retain : (parent : FinMap nat_cmp ℕ) (next a : ℕ) → IsTree parent (is_active parent) next → (a ≡ 0 → ⊥) → (o : ℕ) → is_active (map.retain_keys parent (λ x. not (is_inferior parent x a))) o ≡ (is_active parent o && not (is_inferior parent o a))
 is_active-retain parent next a tree other o =
-    ap (λ e. eqb o 0 || is_some e) (get-retained parent (λ x. not (is_inferior parent x a)) o) ∙ from (cases_Bool (eqb o 0)) (cases_Bool (is_inferior parent o a)) where
-      from : (eqb o 0 ≡ true) ⊎ (eqb o 0 ≡ false) → (is_inferior parent o a ≡ true) ⊎ (is_inferior parent o a ≡ false)
-          → (eqb o 0 || is_some (cond (not (is_inferior parent o a)) (map.get parent o) None)) ≡ ((eqb o 0 || is_some (map.get parent o)) && not (is_inferior parent o a))
-      from (inl root) (inl is) = let no : true ≡ false = sym is ∙ ap (λ q. is_inferior parent q a) (eqb-true o 0 root) ∙ root_stays parent (is_active parent) next tree a other in cc
-      from (inl root) (inr out) = rw (root, out) refl
-      from (inr below) (inl is) = rw (below, is) (sym (no_second (is_some (map.get parent o)))) where
-        no_second : (b : Bool) → (b && false) ≡ false
-        no_second true = refl
-        no_second false = refl
-      from (inr below) (inr out) = rw (below, out) (sym (with_true (is_some (map.get parent o)))) where
-        with_true : (b : Bool) → (b && true) ≡ b
-        with_true true = refl
-        with_true false = refl
+    ap (λ b. eqb o 0 || b) (has-kept parent (λ x. not (is_inferior parent x a)) o)
+    ∙ grouped (eqb o 0) (map.contains_key parent o) (not (is_inferior parent o a)) (λ root.
+    ap not (ap (λ q. is_inferior parent q a) (eqb-true o 0 root) ∙ root_stays parent (is_active parent) next tree a other)) where
+      grouped : (r c s : Bool) → (r ≡ true → s ≡ true) → (r || (c && s)) ≡ ((r || c) && s)
+      grouped true c s stays = sym (stays refl)
+      grouped false c s stays = refl

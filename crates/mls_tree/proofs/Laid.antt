@@ -1,7 +1,8 @@
 -- What a write to the memory of several lists leaves.
 use Rattle.std.proofs.Common.{◌≡◌, ℕ, ◌+◌, ◌-◌, ◌<◌, ◌≤◌, ◌⊎◌, inl, inr, Bool, List, [], ◌∷◌, ◌++◌, length, take, drop, map, filter, get_or, set, sym, ap, subst, ◌∙◌, arith, length-append, length-drop, length-set, get_or-set_same, get_or-set_other}
 use Rattle.std.proofs.lemmas.Bool.{cases_eq, cases_order}
-use Rattle.std.proofs.lemmas.List.{same_lists, get_or-map, take_more_set, length-map, drop-set-lt, drop-set-add, take-set-le, take-append-le, drop-append-le}
+use Rattle.std.proofs.lemmas.List.{get_or-map, take_more_set, drop-set-lt, drop-set-add, take-set-le, take-append-le, drop-append-le}
+use Rattle.mls_facts.proofs.Places.{map-set}
 use Rattle.mls_tree.specs.declared.lists.Span.{Span}
 use Rattle.mls_tree.specs.Lists.{list_at, nowhere, AreApart, IsLaidOut, FindsRoom}
 
@@ -27,30 +28,6 @@ list_at-append store more s within =
     let from : s.start ≤ length store = omega arith in
     let room : s.len ≤ length (drop s.start store) = omega arith in
     ap (take s.len) (drop-append-le s.start store more from) ∙ take-append-le s.len (drop s.start store) more room
-
--- one list changes, and each other stays
-pub map_changed : (f g : Span → List ℕ) (spans : List Span) (i : ℕ) (s : Span) (ys : List ℕ) → i < length spans → g s ≡ ys → ((j : ℕ) → j < length spans → (j ≡ i → ⊥) → g (get_or spans j nowhere) ≡ f (get_or spans j nowhere)) → map g (set spans i s) ≡ set (map f spans) i ys
-map_changed f g spans i s ys within new kept =
-    same_lists _ _ (length-map (set spans i s) g ∙ length-set spans i s ∙ sym (length-set (map f spans) i ys ∙ length-map spans f)) at where
-      longer : length (map g (set spans i s)) ≡ length spans
-      longer = length-map (set spans i s) g ∙ length-set spans i s
-
-      from : (k : ℕ) (d : List ℕ) → k < length spans → (k ≡ i) ⊎ (k ≡ i → ⊥) → get_or (map g (set spans i s)) k d ≡ get_or (set (map f spans) i ys) k d
-      from k d here (inl same) =
-          let there : k < length (set spans i s) = let l : length (set spans i s) ≡ length spans = length-set spans i s in omega arith in
-          let mapped : i < length (map f spans) = let l : length (map f spans) ≡ length spans = length-map spans f in omega arith in
-          get_or-map g (set spans i s) k nowhere d there
-          ∙ ap (λ n. g (get_or (set spans i s) n nowhere)) same
-          ∙ ap g (get_or-set_same spans i s nowhere within) ∙ new
-          ∙ sym (ap (λ n. get_or (set (map f spans) i ys) n d) same ∙ get_or-set_same (map f spans) i ys d mapped)
-      from k d here (inr other) =
-          let there : k < length (set spans i s) = let l : length (set spans i s) ≡ length spans = length-set spans i s in omega arith in
-          get_or-map g (set spans i s) k nowhere d there
-          ∙ ap g (get_or-set_other spans i k s nowhere other) ∙ kept k here other
-          ∙ sym (get_or-set_other (map f spans) i k ys d other ∙ get_or-map f spans k nowhere d here)
-
-      at : (k : ℕ) (d : List ℕ) → k < length (map g (set spans i s)) → get_or (map g (set spans i s)) k d ≡ get_or (set (map f spans) i ys) k d
-      at k d h = let here : k < length spans = omega (arith, longer) in from k d here (cases_eq k i)
 
 swap_apart : (s t : Span) → AreApart s t → AreApart t s
 swap_apart s t (inl h) = inr h
@@ -110,7 +87,7 @@ module _ (spans : List Span) (store : List ℕ) (laid : IsLaidOut spans store) w
     pushed_lists x =
         let was : get_or (map (list_at store) spans) i [] ≡ list_at store (get_or spans i nowhere) = get_or-map (list_at store) spans i nowhere [] here in
         let room : t.start + t.len < length new = let a : t.len < t.room = found.room in let b : t.start + t.room ≤ length new = found.within in omega arith in
-        map_changed (list_at store) (list_at (set new (t.start + t.len) x)) spans i pushed _ here (list_at-set_end new x t room ∙ ap (λ l. l ++ x ∷ []) (found.list ∙ sym was)) kept where
+        map-set (list_at store) (list_at (set new (t.start + t.len) x)) spans i pushed nowhere _ here (list_at-set_end new x t room ∙ ap (λ l. l ++ x ∷ []) (found.list ∙ sym was)) kept where
           stays : (j : ℕ) → j < length spans → list_at new (get_or spans j nowhere) ≡ list_at store (get_or spans j nowhere)
           stays j h =
               let short : (get_or spans j nowhere).len ≤ (get_or spans j nowhere).room = laid.short j h in
@@ -154,7 +131,7 @@ module _ (spans : List Span) (store : List ℕ) (laid : IsLaidOut spans store) w
         → map (list_at after) (set spans i shorter) ≡ set (map (list_at store) spans) i (filter p (get_or (map (list_at store) spans) i []))
     shorter_lists after p new before behind =
         let was : get_or (map (list_at store) spans) i [] ≡ list_at store s = get_or-map (list_at store) spans i nowhere [] here ∙ ap (list_at store) (sym is) in
-        map_changed (list_at store) (list_at after) spans i shorter _ here (new ∙ ap (filter p) (sym was)) kept where
+        map-set (list_at store) (list_at after) spans i shorter nowhere _ here (new ∙ ap (filter p) (sym was)) kept where
           from : (t : Span) → t.len ≤ t.room → AreApart s t → list_at after t ≡ list_at store t
           from t fits (inl later) = behind t (let a : s.len ≤ s.room = short in omega arith)
           from t fits (inr earlier) = before t (omega arith)

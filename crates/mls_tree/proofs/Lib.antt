@@ -1,9 +1,8 @@
-pub mod Numbers
 pub mod Grown
 pub mod Ways
 pub mod Laid
-pub mod Ranges
 pub mod Inferiors
 pub mod Listed
+pub mod Laws
 pub mod Found
 pub mod Kept

@@ -1,13 +1,17 @@
 -- Ways up, by parent steps: in a tree none has an object twice, so none is longer than the tree has objects.
 use Rattle.std.proofs.Common.{◌≡◌, ℕ, zero, suc, ◌+◌, ◌-◌, ◌<◌, ◌≤◌, ◌⊎◌, inl, inr, Bool, true, false, ◌||◌, eqb, IsTrue, List, [], ◌∷◌, length, Option, Some, None, refl, sym, ap, subst, ◌∙◌, arith}
-use Rattle.std.proofs.lemmas.Bool.{cases_lt, eqb-true, eq-eqb, cases_Bool, or_cases}
+use Rattle.std.proofs.lemmas.Bool.{cases_lt, eqb-true, eq-eqb, or_cases, or_right}
+use Rattle.std.proofs.lemmas.Option.{same_Some}
 use Rattle.std.proofs.lemmas.Map.Steps.{length-le_from_distinct_below}
 use Rattle.std.specs.Option.{option_and_then}
 use Rattle.std.specs.List.{list_any, IsDistinct, AllByRecursion}
 use Rattle.std.specs.Ordering.{nat_cmp}
 use Rattle.std.specs.FinMap as map
 use Rattle.std.specs.FinMap.{FinMap}
-use Rattle.mls_tree.specs.Tree.{Reaches, here, up, IsTree, passes, reaches_within}
+use Rattle.mls_tables.specs.declared.limits.TheConstants.{MAX_OBJECTS}
+use Rattle.mls_facts.specs.Numbered.{holds_of}
+use Rattle.mls_facts.proofs.Distinct.{missing}
+use Rattle.mls_tree.specs.Tree.{Reaches, here, up, IsTree, reaches_within}
 
 -- what is met after so many parent steps, if there are so many
 unfoldable pub above : FinMap nat_cmp ℕ → ℕ → ℕ → Option ℕ
@@ -24,25 +28,14 @@ unfoldable way : FinMap nat_cmp ℕ → ℕ → ℕ → List ℕ
 way parent zero o = []
 way parent (suc n) o = o ∷ onward (way parent n) (map.get parent o)
 
-pub some_same : {a b : ℕ} → Some a ≡ Some b → a ≡ b
-some_same e = cc
+holds_of-some : (test : ℕ → Bool) (e : Option ℕ) → holds_of test e ≡ true → (p : ℕ) × (e ≡ Some p) × (test p ≡ true)
+holds_of-some test None h = cc
+holds_of-some test (Some p) h = (p, refl, h)
 
 -- there is a parent or not
 pub parent_cases : (e : Option ℕ) → ((p : ℕ) × (e ≡ Some p)) ⊎ (e ≡ None)
 parent_cases None = inr refl
 parent_cases (Some p) = inl (p, refl)
-
-or_true : (a b : Bool) → b ≡ true → (a || b) ≡ true
-or_true true b h = refl
-or_true false b h = h
-
--- a number that is not listed differs from each that is
-pub missing : (q : ℕ) (xs : List ℕ) → (list_any (eqb q) xs ≡ true → ⊥) → AllByRecursion (λ y. eqb q y ≡ false) xs
-missing q [] never = tt
-missing q (x ∷ xs) never = from (cases_Bool (eqb q x)) (missing q xs (λ there. never (or_true (eqb q x) (list_any (eqb q) xs) there))) where
-  from : (eqb q x ≡ true) ⊎ (eqb q x ≡ false) → AllByRecursion (λ y. eqb q y ≡ false) xs → (eqb q x ≡ false) × AllByRecursion (λ y. eqb q y ≡ false) xs
-  from (inl same) rest = absurd (never (ap (λ b. b || list_any (eqb q) xs) same))
-  from (inr other) rest = (other, rest)
 
 module _ (parent : FinMap nat_cmp ℕ) where
   pub above-step : (n o p : ℕ) → map.get parent o ≡ Some p → above parent (suc n) o ≡ above parent n p
@@ -66,7 +59,7 @@ module _ (parent : FinMap nat_cmp ℕ) where
 
   -- a way goes on where it had come to
   above-add : (m n k o q : ℕ) → m + n ≡ k → above parent m o ≡ Some q → above parent k o ≡ above parent n q
-  above-add zero n k o q total is = let same : k ≡ n = omega arith in let at : o ≡ q = some_same (sym (above-zero o) ∙ is) in (λ i. above parent (same i) (at i))
+  above-add zero n k o q total is = let same : k ≡ n = omega arith in let at : o ≡ q = same_Some o q (sym (above-zero o) ∙ is) in (λ i. above parent (same i) (at i))
   above-add (suc m) n zero o q total is = absurd (omega arith)
   above-add (suc m) n (suc k) o q total is =
       let step = first_step m o q is in
@@ -79,32 +72,28 @@ module _ (parent : FinMap nat_cmp ℕ) where
   above-from_Reaches (up {o = o} {p = p} {q = q} step rest) = let on = above-from_Reaches rest in (suc on.0, above-step on.0 o p step ∙ on.1)
 
   pub Reaches-from_above : (n o a : ℕ) → above parent n o ≡ Some a → Reaches parent o a
-  Reaches-from_above zero o a is = let at : o ≡ a = some_same (sym (above-zero o) ∙ is) in subst (λ q. Reaches parent o q) at here
+  Reaches-from_above zero o a is = let at : o ≡ a = same_Some o a (sym (above-zero o) ∙ is) in subst (λ q. Reaches parent o q) at here
   Reaches-from_above (suc n) o a is = let step = first_step n o a is in up step.1 (Reaches-from_above n step.0 a step.2)
-
-  passes-some : (test : ℕ → Bool) (e : Option ℕ) → passes test e ≡ true → (p : ℕ) × (e ≡ Some p) × (test p ≡ true)
-  passes-some test None h = cc
-  passes-some test (Some p) h = (p, refl, h)
 
   -- what is met within some number of steps is reached
   pub Reaches-from_within : (n o a : ℕ) → reaches_within parent n o a ≡ true → Reaches parent o a
   unfolding reaches_within
   Reaches-from_within zero o a h = subst (λ q. Reaches parent o q) (eqb-true o a h) here
-  Reaches-from_within (suc n) o a h = from (λ p. Reaches-from_within n p a) (or_cases (eqb o a) (passes (λ p. reaches_within parent n p a) (map.get parent o)) h) where
-    from : ((p : ℕ) → reaches_within parent n p a ≡ true → Reaches parent p a) → (eqb o a ≡ true) ⊎ (passes (λ p. reaches_within parent n p a) (map.get parent o) ≡ true) → Reaches parent o a
+  Reaches-from_within (suc n) o a h = from (λ p. Reaches-from_within n p a) (or_cases (eqb o a) (holds_of (λ p. reaches_within parent n p a) (map.get parent o)) h) where
+    from : ((p : ℕ) → reaches_within parent n p a ≡ true → Reaches parent p a) → (eqb o a ≡ true) ⊎ (holds_of (λ p. reaches_within parent n p a) (map.get parent o) ≡ true) → Reaches parent o a
     from rest (inl same) = subst (λ q. Reaches parent o q) (eqb-true o a same) here
-    from rest (inr later) = let step = passes-some (λ p. reaches_within parent n p a) (map.get parent o) later in up step.1 (rest step.0 step.2)
+    from rest (inr later) = let step = holds_of-some (λ p. reaches_within parent n p a) (map.get parent o) later in up step.1 (rest step.0 step.2)
 
   -- what is met after some number of steps is met within as many and more
   pub within-from_above : (k n o a : ℕ) → k ≤ n → above parent k o ≡ Some a → reaches_within parent n o a ≡ true
   unfolding reaches_within
-  within-from_above zero zero o a few is = eq-eqb o a (some_same (sym (above-zero o) ∙ is))
-  within-from_above zero (suc n) o a few is = ap (λ b. b || passes (λ p. reaches_within parent n p a) (map.get parent o)) (eq-eqb o a (some_same (sym (above-zero o) ∙ is)))
+  within-from_above zero zero o a few is = eq-eqb o a (same_Some o a (sym (above-zero o) ∙ is))
+  within-from_above zero (suc n) o a few is = ap (λ b. b || holds_of (λ p. reaches_within parent n p a) (map.get parent o)) (eq-eqb o a (same_Some o a (sym (above-zero o) ∙ is)))
   within-from_above (suc k) zero o a few is = absurd (omega arith)
   within-from_above (suc k) (suc n) o a few is =
       let step = first_step k o a is in
       let fewer : k ≤ n = omega arith in
-      or_true (eqb o a) _ (ap (passes (λ p. reaches_within parent n p a)) step.1 ∙ within-from_above k n step.0 a fewer step.2)
+      or_right (eqb o a) _ (ap (holds_of (λ p. reaches_within parent n p a)) step.1 ∙ within-from_above k n step.0 a fewer step.2)
 
 module _ (parent : FinMap nat_cmp ℕ) (active : ℕ → Bool) (next : ℕ) (tree : IsTree parent active next) where
   -- nothing is above the root
@@ -127,7 +116,7 @@ module _ (parent : FinMap nat_cmp ℕ) (active : ℕ → Bool) (next : ℕ) (tre
 
   -- what is above an active object is active
   active_above : (k o q : ℕ) → IsTrue (active o) → above parent k o ≡ Some q → IsTrue (active q)
-  active_above zero o q is at = subst (λ a. IsTrue (active a)) (some_same (sym (above-zero parent o) ∙ at)) is
+  active_above zero o q is at = subst (λ a. IsTrue (active a)) (same_Some o q (sym (above-zero parent o) ∙ at)) is
   active_above (suc k) o q is at = let step = first_step parent k o q at in active_above k step.0 q (tree.children_active o step.0 step.1).1 step.2
 
   -- what is on a way is met after fewer steps
@@ -171,16 +160,16 @@ module _ (parent : FinMap nat_cmp ℕ) (active : ℕ → Bool) (next : ℕ) (tre
       omega arith
 
   -- what an active object reaches it reaches within 4,096 steps
-  pub within-from_Reaches : (o a : ℕ) → IsTrue (active o) → Reaches parent o a → reaches_within parent 4096 o a ≡ true
+  pub within-from_Reaches : (o a : ℕ) → IsTrue (active o) → Reaches parent o a → reaches_within parent MAX_OBJECTS o a ≡ true
   within-from_Reaches o a is way_up =
       let at = above-from_Reaches parent way_up in
       let top = above-from_Reaches parent (tree.reaches_root o is) in
       let high : top.0 ≤ next = height top.0 o is top.1 in
-      let few : next ≤ 4096 = tree.few in
+      let few : next ≤ MAX_OBJECTS = tree.few in
       from at.0 at.1 top.0 top.1 (cases_lt top.0 at.0) (omega arith) where
-        from : (k : ℕ) → above parent k o ≡ Some a → (n : ℕ) → above parent n o ≡ Some 0 → (n < k) ⊎ (k ≤ n) → n ≤ 4096 → reaches_within parent 4096 o a ≡ true
+        from : (k : ℕ) → above parent k o ≡ Some a → (n : ℕ) → above parent n o ≡ Some 0 → (n < k) ⊎ (k ≤ n) → n ≤ MAX_OBJECTS → reaches_within parent MAX_OBJECTS o a ≡ true
         from k at n top (inl past) few =
             let total : n + (k - n) ≡ k = omega arith in
             let none : k - n ≡ 0 = above_root (k - n) a (sym (above-add parent n (k - n) k o 0 total top) ∙ at) in
             absurd (omega arith)
-        from k at n top (inr within) few = within-from_above parent k 4096 o a (omega arith) at
+        from k at n top (inr within) few = within-from_above parent k MAX_OBJECTS o a (omega arith) at

@@ -1,4 +1,3 @@
 pub mod Tree
-pub mod Numbered
 pub mod Lists
 pub mod Kept

@@ -6,7 +6,7 @@ use Rattle.mls_tree.specs.declared.lists.Span.{Span}
 abbrev pub list_at : List ℕ → Span → List ℕ
 list_at store s = take s.len (drop s.start store)
 
--- a stretch of no room
+-- A stretch of no room. (own)
 abbrev pub nowhere : Span
 nowhere = record { start = 0; len = 0; room = 0 }
 
@@ -20,7 +20,7 @@ pub record IsLaidOut (spans : List Span) (store : List ℕ) : Type 0 where
   pub within : (i : ℕ) → i < length spans → (slice_index_or spans i nowhere).start + (slice_index_or spans i nowhere).room ≤ length store
   pub apart : (i j : ℕ) → i < j → j < length spans → AreApart (slice_index_or spans i nowhere) (slice_index_or spans j nowhere)
 
--- A stretch with room for one more has the same list: it is the old one, or a new one at the end of the old memory. (own)
+-- A stretch with room for one more has the same list: it is the old one, or a new one behind the old memory. (own)
 pub record FindsRoom (old new : List ℕ) (s t : Span) : Type 0 where
   pub len : t.len ≡ s.len
   pub room : t.len < t.room

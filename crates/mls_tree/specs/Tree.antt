@@ -1,17 +1,20 @@
 -- The tree of objects: which object is below which.
-use Rattle.std.specs.Prelude.{◌≡◌, ℕ, zero, suc, ◌<◌, ◌≤◌, ◌==◌, ◌&&◌, ◌||◌, Bool, false, IsTrue, List, filter, Option, Some, None, refl}
+use Rattle.std.specs.Prelude.{◌≡◌, ℕ, zero, suc, ◌<◌, ◌≤◌, ◌==◌, ◌&&◌, ◌||◌, Bool, IsTrue, List, filter, Some, None, refl}
 use Rattle.std.specs.List.{range_with_len}
 use Rattle.std.specs.Ordering.{nat_cmp}
 use Rattle.std.specs.Coded.{Coded, code_by, coded×, coded_ℕ}
 use Rattle.std.specs.FinMap as map
 use Rattle.std.specs.FinMap.{FinMap}
+use Rattle.mls_tables.specs.declared.limits.TheConstants.{MAX_OBJECTS}
+use Rattle.mls_facts.specs.Numbered.{holds_of}
 
--- The hierarchy of objects, as a map from each object that has a parent to the parent (MTR-2997, hierarchy), and the least number that no object had yet. (own)
+-- The hierarchy of objects, as a map from each object that has a parent to the parent (MTR-2997, hierarchy), and the
+-- least number that no object had yet. (own)
 pub record Hierarchy : Type 0 where
   pub parent : FinMap nat_cmp ℕ
   pub next : ℕ
 
--- a hierarchy is stored as the pair of its parts
+-- A hierarchy is stored as the pair of its parts. (own)
 abbrev pub hierarchy_code : Coded Hierarchy
 hierarchy_code =
     code_by (FinMap nat_cmp ℕ × ℕ) (coded× (map.code coded_ℕ coded_ℕ) coded_ℕ) (λ h. (h.parent, h.next)) (λ p. record { parent = p.0; next = p.1 }) (λ _. refl)
@@ -25,33 +28,29 @@ pub data Reaches (parent : FinMap nat_cmp ℕ) : ℕ → ℕ → Type 0 where
   here : {o : ℕ} → Reaches parent o o
   up : {o p q : ℕ} → map.get parent o ≡ Some p → Reaches parent p q → Reaches parent o q
 
--- The active objects form a tree under object 0 by their parents (MTR-2997, hierarchy), and have numbers below the next one, of which there are at most 4,096. (own)
+-- The active objects form a tree under object 0 by their parents (MTR-2997, hierarchy), and have numbers below the next
+-- one, which is at most 4,096. (own)
 pub record IsTree (parent : FinMap nat_cmp ℕ) (active : ℕ → Bool) (next : ℕ) : Type 0 where
   pub root_active : IsTrue (active 0)
   pub root_has_no_parent : map.get parent 0 ≡ None
   pub reaches_root : (o : ℕ) → IsTrue (active o) → Reaches parent o 0
   pub children_active : (o p : ℕ) → map.get parent o ≡ Some p → IsTrue (active o) × IsTrue (active p)
   pub below_next : (o : ℕ) → IsTrue (active o) → o < next
-  pub few : next ≤ 4096
-
--- whether there is a number, and it passes the test
-abbrev pub passes : (ℕ → Bool) → Option ℕ → Bool
-passes test None = false
-passes test (Some p) = test p
+  pub few : next ≤ MAX_OBJECTS
 
 -- Whether the second object is the parent of the first. (MTR-2997, hierarchy)
 abbrev pub is_child : FinMap nat_cmp ℕ → ℕ → ℕ → Bool
-is_child parent c o = passes (λ p. p == o) (map.get parent c)
+is_child parent c o = holds_of (λ p. p == o) (map.get parent c)
 
 -- Whether the second object is met on the way up from the first within so many parent steps. (own)
 unfoldable pub reaches_within : FinMap nat_cmp ℕ → ℕ → ℕ → ℕ → Bool
 reaches_within parent zero o a = o == a
-reaches_within parent (suc n) o a = o == a || passes (λ p. reaches_within parent n p a) (map.get parent o)
+reaches_within parent (suc n) o a = o == a || holds_of (λ p. reaches_within parent n p a) (map.get parent o)
 
--- Whether the first object is an inferior of the second: it is active, and is the second or below it (MTR-2997, hierarchy). In a tree of at most 4,096 objects no way up
--- is longer. (own)
+-- Whether the first object is an inferior of the second: it is active, and is the second or below it
+-- (MTR-2997, hierarchy). In a tree no way up has more steps than there are object numbers. (own)
 unfoldable pub is_inferior : FinMap nat_cmp ℕ → ℕ → ℕ → Bool
-is_inferior parent o a = is_active parent o && reaches_within parent 4096 o a
+is_inferior parent o a = is_active parent o && reaches_within parent MAX_OBJECTS o a
 
 -- The children of an object, ascending. (own)
 unfoldable pub children : Hierarchy → ℕ → List ℕ

@@ -1,5 +1,7 @@
-//! Lists of objects in one piece of memory: each has a stretch of it, and moves to a longer one at the end where it has filled its own.
+//! Lists of objects in one piece of memory: each has a stretch of it, and moves to a longer one at the end when its own is
+//! full.
 ghost use Rattle.std.specs.Prelude.{◌≡◌, ◌+◌, ◌*◌, ◌<◌, ◌≤◌, ◌==◌, ◌++◌, [], ◌∷◌, not, length, take, drop, filter, slice_set, slice_index_or, IfOk, OnOk, OnErr, vec_len};
+ghost use Rattle.mls_tables.specs.declared.limits.TheConstants.{MAX_OBJECTS};
 ghost use Rattle.mls_tree.specs.Lists.{FindsRoom, list_at};
 
 use mls_tables::ObjectId;
@@ -36,10 +38,13 @@ impl<A: Allocator> Model for Lists<A> {
 }
 
 /// A stretch with room for one more: the list's own, or a new one at the end that the list is copied to.
+///
+/// # Errors
+/// Where allocation fails. The memory is then unchanged.
 fn roomy<A: Allocator>(store: &mut Vec<ObjectId, A>, span: Span) -> Result<Span, AllocError>
     requires short { span.len ≤ span.room }
     requires within { span.start + span.room ≤ vec_len store.old }
-    requires few { span.len ≤ 4096 }
+    requires few { span.len ≤ MAX_OBJECTS }
     ensures ok { IfOk result (λ found. FindsRoom store.old.items store.new.items span found) }
     ensures err { OnErr result (store.new.items ≡ store.old.items) }
 {
@@ -57,7 +62,21 @@ fn roomy<A: Allocator>(store: &mut Vec<ObjectId, A>, span: Span) -> Result<Span,
     })
 }
 
-/// Moves the objects other than x to the front, in order, and answers how many they are.
+/// Writes an object right behind a list, and returns where the longer list lies.
+fn append(store: &mut [ObjectId], span: Span, x: ObjectId) -> Span
+    requires { span.start + span.len < length store.old }
+    ensures written { store.new ≡ slice_set store.old (span.start + span.len) x }
+    ensures longer { result ≡ record span { len = span.len + 1 } }
+{
+    store[span.start + span.len] = x;
+    Span {
+        start: span.start,
+        len: span.len + 1,
+        room: span.room,
+    }
+}
+
+/// Moves the objects other than x to the front, in order, and returns how many they are.
 fn keep_others(items: &mut [ObjectId], x: ObjectId) -> usize
     ensures kept { take result items.new ≡ filter (λ y. not (y == x)) items.old }
     ensures few { result ≤ length items.old }
@@ -74,7 +93,7 @@ fn keep_others(items: &mut [ObjectId], x: ObjectId) -> usize
     kept
 }
 
-/// Takes an object out of the list in a stretch, and answers how long the list is then.
+/// Takes an object out of the list in a stretch, and returns how long the list is then.
 fn shorten(store: &mut [ObjectId], span: Span, x: ObjectId) -> usize
     requires { span.start + span.len ≤ length store.old }
     ensures few { result ≤ span.len }
@@ -104,6 +123,9 @@ impl<A: Allocator> Lists<A> {
     }
 
     /// Adds an empty list.
+    ///
+    /// # Errors
+    /// Where allocation fails. The lists are then unchanged.
     pub fn add_list(&mut self) -> Result<(), AllocError>
         ensures ok { OnOk result (self.new ≡ self.old ++ [] ∷ []) }
         ensures err { OnErr result (self.new ≡ self.old) }
@@ -117,20 +139,19 @@ impl<A: Allocator> Lists<A> {
     }
 
     /// Adds an object at the end of a list of at most 4,096.
+    ///
+    /// # Errors
+    /// Where allocation fails. The lists are then unchanged.
     pub fn push(&mut self, i: usize, x: ObjectId) -> Result<(), AllocError>
         requires list { i < length self.old }
-        requires few { length (slice_index_or self.old i []) ≤ 4096 }
+        requires few { length (slice_index_or self.old i []) ≤ MAX_OBJECTS }
         ensures ok { OnOk result (self.new ≡ slice_set self.old i (slice_index_or self.old i [] ++ x ∷ [])) }
         ensures err { OnErr result (self.new ≡ self.old) }
     {
         let span = self.spans[i];
         let found = roomy(&mut self.store, span)?;
-        self.store[found.start + found.len] = x;
-        self.spans[i] = Span {
-            start: found.start,
-            len: found.len + 1,
-            room: found.room,
-        };
+        let longer = append(&mut self.store, found, x);
+        self.spans[i] = longer;
         Ok(())
     }
 
@@ -164,6 +185,9 @@ impl<A: Allocator> Lists<A> {
 
 impl<A: Allocator + Clone> Lists<A> {
     /// No list.
+    ///
+    /// # Errors
+    /// Where the allocator can't be cloned.
     pub fn new(alloc: A) -> Result<Lists<A>, AllocError>
         ensures { IfOk result (λ lists. lists ≡ []) }
     {
@@ -174,7 +198,10 @@ impl<A: Allocator + Clone> Lists<A> {
         })
     }
 
-    /// The same lists once more.
+    /// A copy of the lists.
+    ///
+    /// # Errors
+    /// Where allocation fails.
     pub fn duplicate(&self, alloc: A) -> Result<Lists<A>, AllocError>
         ensures { IfOk result (λ lists. lists ≡ self.now) }
     {

@@ -1,5 +1,5 @@
 //! Lines that ask: for an access, of the matrix, and whether an access is held.
-use super::{is_blank, standard};
+use super::{Test, is_blank, over_standard};
 use mls_cli::{Ask, Line, Names, Vars, read_line};
 use mls_rules::{Action, Request};
 use mls_tables::{Mode, ObjectId, SubjectId};
@@ -120,14 +120,17 @@ fn check(rt: &impl Abort, names: &Names<Global>, vars: &Vars<Global>) {
     }
 }
 
+/// Asserts what the lines above ask.
+pub fn lines_ask(rt: &impl Abort, names: &Names<Global>, vars: &Vars<Global>) {
+    submit(rt, names, vars, &ACCESSES);
+    submit(rt, names, vars, &CELLS);
+    check(rt, names, vars);
+    for line in BLANKS {
+        assert!(rt; is_blank(names, vars, line));
+    }
+}
+
 #[test]
 fn what_lines_ask(rt: HostRuntime) -> Result<(), Fail> {
-    let (names, vars) = standard(rt.alloc())?;
-    submit(&rt, &names, &vars, &ACCESSES);
-    submit(&rt, &names, &vars, &CELLS);
-    check(&rt, &names, &vars);
-    for line in BLANKS {
-        assert!(rt; is_blank(&names, &vars, line));
-    }
-    Ok(())
+    over_standard(&rt, rt.alloc(), Test::LinesAsk)
 }

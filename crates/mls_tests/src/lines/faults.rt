@@ -1,5 +1,5 @@
 //! Lines that no request and no note is: the first fault that applies to the whole line.
-use super::{fault_of, standard};
+use super::{Test, fault_of, over_standard};
 use mls_cli::{LineFault, Names, Vars};
 use std::alloc::Global;
 use std::process::Abort;
@@ -127,19 +127,22 @@ fn have_fault(
     }
 }
 
-#[test]
-fn the_first_fault_is_named(rt: HostRuntime) -> Result<(), Fail> {
-    let (names, vars) = standard(rt.alloc())?;
-    have_fault(&rt, &names, &vars, &BAD_FORMS, LineFault::BadForm);
-    have_fault(&rt, &names, &vars, &BAD_FORMS_THAT_MAKE, LineFault::BadForm);
-    have_fault(&rt, &names, &vars, &UNKNOWN_NAMES, LineFault::UnknownName);
+/// Asserts the faults of the lines above.
+pub fn first_fault_is_named(rt: &impl Abort, names: &Names<Global>, vars: &Vars<Global>) {
+    have_fault(rt, names, vars, &BAD_FORMS, LineFault::BadForm);
+    have_fault(rt, names, vars, &BAD_FORMS_THAT_MAKE, LineFault::BadForm);
+    have_fault(rt, names, vars, &UNKNOWN_NAMES, LineFault::UnknownName);
     have_fault(
-        &rt,
-        &names,
-        &vars,
+        rt,
+        names,
+        vars,
         &UNKNOWN_NAMES_THAT_MAKE,
         LineFault::UnknownName,
     );
-    have_fault(&rt, &names, &vars, &BAD_LABELS, LineFault::BadLabel);
-    Ok(())
+    have_fault(rt, names, vars, &BAD_LABELS, LineFault::BadLabel);
+}
+
+#[test]
+fn the_first_fault_is_named(rt: HostRuntime) -> Result<(), Fail> {
+    over_standard(&rt, rt.alloc(), Test::TheFirstFaultIsNamed)
 }

@@ -1,6 +1,6 @@
 //! Lines that make objects, delete them and change levels.
 use super::asking::{bound_by, is_asked, submit};
-use super::standard;
+use super::{Test, over_standard};
 use mls_cli::{Ask, Names, Vars};
 use mls_labels::{CatSet, IntLabel, Label, SecLabel};
 use mls_rules::{Action, Request};
@@ -99,11 +99,14 @@ fn change(rt: &impl Abort, names: &Names<Global>, vars: &Vars<Global>) {
     }
 }
 
+/// Asserts what the lines above ask and bind.
+pub fn lines_make_and_change(rt: &impl Abort, names: &Names<Global>, vars: &Vars<Global>) {
+    make(rt, names, vars);
+    submit(rt, names, vars, &NAMING);
+    change(rt, names, vars);
+}
+
 #[test]
 fn what_lines_make_and_change(rt: HostRuntime) -> Result<(), Fail> {
-    let (names, vars) = standard(rt.alloc())?;
-    make(&rt, &names, &vars);
-    submit(&rt, &names, &vars, &NAMING);
-    change(&rt, &names, &vars);
-    Ok(())
+    over_standard(&rt, rt.alloc(), Test::LinesMakeAndChange)
 }

@@ -1,6 +1,6 @@
 //! Lines and scripts at their limits.
 use super::streams::{Narrow, Pieces};
-use super::{Case, Left, is_answered, run, standard_names};
+use super::{Case, Left, Test, is_answered, over_names, run};
 use mls_cli::{Names, SCRIPT_LIMIT, ServeFault};
 use std::alloc::{AllocError, Global};
 use std::process::Abort;
@@ -36,20 +36,23 @@ const LINES: [Case; 3] = [
     (b"ann get-read plans", b"yes\n", 1),
 ];
 
-#[test]
-fn lines_at_the_bounds(rt: HostRuntime) -> Result<(), Fail> {
-    let names = standard_names(rt.alloc())?;
+/// Asserts the answers to lines of the most bytes and of more.
+pub fn lines_are_bounded(rt: &impl Abort, alloc: Global, names: &Names<Global>) {
     let too_long: Case = (b"", b"bad form\n", 0);
     let far_too_long: Case = (b"\nann check read plans\n", b"bad form\nnot held\n", 0);
     for (text, answers, entries) in LINES {
-        let within = is_answered_at(rt.alloc(), &names, text, 20_000, (b"", answers, entries));
+        let within = is_answered_at(alloc, names, text, 20_000, (b"", answers, entries));
         assert!(rt; within == Ok(true), "after {answers:?}");
-        let past = is_answered_at(rt.alloc(), &names, text, 20_001, too_long);
+        let past = is_answered_at(alloc, names, text, 20_001, too_long);
         assert!(rt; past == Ok(true));
-        let far_past = is_answered_at(rt.alloc(), &names, text, 100_000, far_too_long);
+        let far_past = is_answered_at(alloc, names, text, 100_000, far_too_long);
         assert!(rt; far_past == Ok(true));
     }
-    Ok(())
+}
+
+#[test]
+fn lines_at_the_bounds(rt: HostRuntime) -> Result<(), Fail> {
+    over_names(&rt, rt.alloc(), Test::LinesAtTheBounds)
 }
 
 /// Serves so many newlines one by one, and tells how often the reader was called.
@@ -67,16 +70,19 @@ fn newlines(
     }
 }
 
-#[test]
-fn a_script_at_its_limit(rt: HostRuntime) -> Result<(), Fail> {
-    let names = standard_names(rt.alloc())?;
+/// Asserts the results of scripts of the most bytes and of one more.
+pub fn script_is_limited(rt: &impl Abort, alloc: Global, names: &Names<Global>) {
     for (count, result) in [
         (SCRIPT_LIMIT, Ok(0)),
         (SCRIPT_LIMIT + 1, Err(ServeFault::TooLong)),
     ] {
         let left = Left { result, entries: 0 };
-        let served = newlines(rt.alloc(), &names, count);
+        let served = newlines(alloc, names, count);
         assert!(rt; served == Ok((left, SCRIPT_LIMIT + 1)), "of {count}");
     }
-    Ok(())
+}
+
+#[test]
+fn a_script_at_its_limit(rt: HostRuntime) -> Result<(), Fail> {
+    over_names(&rt, rt.alloc(), Test::AScriptAtItsLimit)
 }

@@ -1,6 +1,6 @@
 //! A reader that fails after each byte, and a writer that does.
 use super::streams::{Narrow, Pieces};
-use super::{Left, SHORT, SHORT_ANSWERS, run, standard_names};
+use super::{Left, SHORT, SHORT_ANSWERS, Test, over_names, run};
 use mls_cli::{Names, ServeFault};
 use std::alloc::Global;
 use std::io::{BufWriter, ErrorKind, Write};
@@ -29,18 +29,19 @@ fn reader_fails(alloc: Global, names: &Names<Global>, count: usize, most: usize)
         && count_lines(&written) == lines
 }
 
-#[test]
-fn reader_fails_after_each_byte(rt: HostRuntime) -> Result<(), Fail> {
-    let names = standard_names(rt.alloc())?;
+/// Asserts what is left where a reader fails, after each byte of the short script.
+pub fn reader_fails_in_turn(rt: &impl Abort, alloc: Global, names: &Names<Global>) {
     for count in 0..60 {
         for most in [1, 65_536] {
-            assert!(rt;
-                reader_fails(rt.alloc(), &names, count, most),
-                "after {count}"
-            );
+            let is_right = reader_fails(alloc, names, count, most);
+            assert!(rt; is_right, "after {count}");
         }
     }
-    Ok(())
+}
+
+#[test]
+fn reader_fails_after_each_byte(rt: HostRuntime) -> Result<(), Fail> {
+    over_names(&rt, rt.alloc(), Test::ReaderFails)
 }
 
 /// Whether the short script into a writer that breaks off after `room` bytes ends so, with no entry after the line whose answer broke off.
@@ -81,17 +82,17 @@ fn buffered_takes(alloc: Global, names: &Names<Global>, room: usize) -> bool {
     breaks_off(alloc, names, &mut writer, room, 19) && took(writer.get_ref(), room)
 }
 
+/// Asserts what is left and taken where a writer fails, after each byte of the short script's answers.
+pub fn writer_fails_in_turn(rt: &impl Abort, alloc: Global, names: &Names<Global>) {
+    for room in 0..13 {
+        assert!(rt; narrow_takes(alloc, names, room, None), "{room}");
+        let interrupted = Some(ErrorKind::Interrupted);
+        assert!(rt; narrow_takes(alloc, names, room, interrupted), "{room}");
+        assert!(rt; buffered_takes(alloc, names, room), "{room}");
+    }
+}
+
 #[test]
 fn writer_fails_after_each_byte(rt: HostRuntime) -> Result<(), Fail> {
-    let names = standard_names(rt.alloc())?;
-    for room in 0..13 {
-        assert!(rt; narrow_takes(rt.alloc(), &names, room, None), "{room}");
-        let interrupted = Some(ErrorKind::Interrupted);
-        assert!(rt;
-            narrow_takes(rt.alloc(), &names, room, interrupted),
-            "{room}"
-        );
-        assert!(rt; buffered_takes(rt.alloc(), &names, room), "{room}");
-    }
-    Ok(())
+    over_names(&rt, rt.alloc(), Test::WriterFails)
 }

@@ -1,7 +1,7 @@
 //! Each allocation refused in turn: the lines before are answered, and the rest of the script then as ever.
 use super::failures::count_lines;
 use super::streams::Pieces;
-use super::{Left, entries_of_seven, standard_monitor, standard_names};
+use super::{Left, Test, entries_of_seven, over_names, standard_monitor};
 use mls_cli::{Names, ServeFault, serve};
 use mls_monitor::Monitor;
 use refusing::Refusing;
@@ -81,14 +81,23 @@ fn serves(
     )
 }
 
+/// Serves the script over a new monitor, as above.
+fn opens_and_serves(
+    heap: &Refusing<Global>,
+    names: &Names<Global>,
+    written: &mut Vec<u8>,
+) -> (Asked, bool) {
+    match standard_monitor(heap) {
+        Ok(mut monitor) => serves(heap, names, &mut monitor, written),
+        Err(_) => (Asked::Opening, true),
+    }
+}
+
 /// Where the allocation of this number is asked for, and whether all is as it must be.
 fn refuses(alloc: Global, names: &Names<Global>, number: u64) -> (Asked, bool) {
     let heap = Refusing::new(alloc, number);
-    let Ok(mut monitor) = standard_monitor(&heap) else {
-        return (Asked::Opening, true);
-    };
     let mut written = Vec::new(alloc);
-    serves(&heap, names, &mut monitor, &mut written)
+    opens_and_serves(&heap, names, &mut written)
 }
 
 /// Refuses each allocation in turn, asserts that all is as it must be, and says how often one of serving was refused.
@@ -106,9 +115,12 @@ fn refusals_in_turn(rt: &impl Abort, alloc: Global, names: &Names<Global>) -> Op
     None
 }
 
+/// Asserts that eight allocations of serving and more were refused.
+pub fn allocations_are_refused(rt: &impl Abort, alloc: Global, names: &Names<Global>) {
+    assert!(rt; refusals_in_turn(rt, alloc, names) >= Some(8));
+}
+
 #[test]
 fn each_allocation_refused_in_turn(rt: HostRuntime) -> Result<(), Fail> {
-    let names = standard_names(rt.alloc())?;
-    assert!(rt; refusals_in_turn(&rt, rt.alloc(), &names) >= Some(8));
-    Ok(())
+    over_names(&rt, rt.alloc(), Test::EachAllocationRefused)
 }

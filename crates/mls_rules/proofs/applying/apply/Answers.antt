@@ -1,6 +1,6 @@
 use Rattle.std.proofs.Common.{◌≡◌, ℕ, ◌⊎◌, inl, inr, true, ap, rules}
-use Rattle.mls_rules.specs.declared.request.Reply.{Reply}
-use Rattle.mls_rules.specs.declared.request.Reply.TheVariants.{Yes, Created}
+use Rattle.mls_requests.specs.declared.reply.Reply.{Reply}
+use Rattle.mls_requests.specs.declared.reply.Reply.TheVariants.{Yes, Created}
 use Rattle.mls_rules.specs.Rules.{after}
 use Rattle.mls_rules.proofs.AfterKeeps.{is_grant, grant_holds}
 use Rattle.mls_rules.proofs.Security.{after_secure}

@@ -1,7 +1,7 @@
 use Rattle.std.proofs.Common.{◌≡◌, true, Some, take}
 use Rattle.std.specs.FinMap as map
 use Rattle.std.specs.List.{list_all}
-use Rattle.mls_rules.specs.State.{is_above}
+use Rattle.mls_state.specs.State.{is_above}
 use Rattle.mls_rules.proofs.levels.children_dominate.Given as goal
 
 -- the children that were read dominate the label

@@ -1,7 +1,7 @@
 use Rattle.std.proofs.Common.{sym, not, ◌||◌, nat_eq, Bool}
 use Rattle.mls_tables.specs.Triples.{Triple}
-use Rattle.mls_rules.specs.Properties.{simple_holds}
-use Rattle.mls_rules.specs.Levels.{with_object_label}
+use Rattle.mls_state.specs.Properties.{simple_holds}
+use Rattle.mls_state.specs.Changes.{with_object_label}
 use Rattle.mls_rules.proofs.LevelTests.{one_fails, all_pass}
 use Rattle.mls_rules.proofs.levels.keeps_simple_of_object.Goals as goal
 

@@ -1,7 +1,7 @@
 use Rattle.std.proofs.Common.{◌≡◌, true, not, ◌||◌, ◌==◌, take}
 use Rattle.std.specs.List.{list_all}
-use Rattle.mls_rules.specs.Properties.{simple_holds}
-use Rattle.mls_rules.specs.Levels.{with_object_label}
+use Rattle.mls_state.specs.Properties.{simple_holds}
+use Rattle.mls_state.specs.Changes.{with_object_label}
 use Rattle.mls_rules.proofs.levels.keeps_simple_of_object.Given as goal
 
 -- the accesses that were read meet the test

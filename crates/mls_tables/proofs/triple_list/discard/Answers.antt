@@ -2,7 +2,7 @@ use Rattle.std.proofs.Common.{◌≡◌, rules}
 use Rattle.std.specs.Prelude.{not, filter}
 use Rattle.std.proofs.lemmas.Fn.{filter_same}
 use Rattle.mls_tables.specs.Triples.{Triple, is_triple}
-use Rattle.mls_tables.proofs.TripleLists.{fewer}
+use Rattle.mls_facts.proofs.Lists.{fewer}
 use Rattle.mls_tables.proofs.triple_list.discard.Goals as goal
 
 pub returns-clause-there : goal.returns-clause-there

@@ -1,7 +1,6 @@
-use Rattle.std.proofs.Common.{refl}
-use Rattle.std.specs.FinSet as set
-use Rattle.mls_tables.proofs.Within.{IsWithin-without_objects}
-use Rattle.mls_tables.proofs.TripleLists.{from_list-without_objects}
+use Rattle.std.proofs.Common.{rules}
+use Rattle.mls_tables.proofs.Within.{IsWithin-kept}
+use Rattle.mls_tables.proofs.TripleLists.{kept-without_objects}
 use Rattle.mls_tables.proofs.access_set.AccessSet.drop_objects.Goals as goal
 
 pub invariant_of-self : goal.invariant_of-self
@@ -9,8 +8,14 @@ invariant_of-self g c = record {
   least = c.self.invariant.least;
   most = c.self.invariant.most;
   columns = c.self.invariant.columns;
-  within = rw (c.discard_group.ensures, from_list-without_objects c.self.inside.triples.items c.args.group.now) (IsWithin-without_objects c.self.inside.subjects c.self.inside.columns (set.from_list c.self.inside.triples.items) c.args.group.now c.self.invariant.within);
+  within = IsWithin-kept _ _ _ _ _ c.discard_group.ensures c.self.invariant.within;
 }
 
 pub returns : goal.returns
-returns g c = rw (c.discard_group.ensures, ← c.self.view_is, from_list-without_objects c.self.inside.triples.items c.args.group.now) refl
+returns g c =
+    let inside = c.self.inside in
+    rw (← c.self.view_is) (λ i. record {
+      subjects = inside.subjects;
+      columns = inside.columns;
+      triples = kept-without_objects inside.triples.items c.discard_group.new.triples.items c.args.group.now (search rules) i;
+    })

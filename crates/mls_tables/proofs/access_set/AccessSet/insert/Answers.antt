@@ -1,6 +1,6 @@
 use Rattle.std.proofs.Common.{refl, sym, ◌∙◌}
 use Rattle.std.specs.FinSet as set
-use Rattle.mls_tables.specs.Triples.{insert-known, triples_total, same_triple}
+use Rattle.mls_tables.proofs.Laws.{insert-known, triples_total, same_triple}
 use Rattle.mls_tables.proofs.Within.{IsWithin-insert}
 use Rattle.mls_tables.proofs.access_set.AccessSet.insert.Goals as goal
 

@@ -1,4 +1,4 @@
-use Rattle.std.proofs.Common.{◌≡◌, ◌+◌, ◌-◌, ◌*◌, ◌<◌, ◌++◌, take, drop, ap, ◌∙◌, sym, add-zero, arith}
+use Rattle.std.proofs.Common.{◌≡◌, ◌+◌, ◌-◌, ◌*◌, ◌<◌, ◌++◌, take, drop, ap, ◌∙◌, sym, arith}
 use Rattle.std.proofs.lemmas.List.{with_items_is}
 use Rattle.mls_tables.specs.Triples.{TripleSet}
 use Rattle.mls_tables.specs.Table.{Table}
@@ -13,7 +13,7 @@ returns g c =
     let m = c.self.inside.columns in
     let with_triples : TripleSet → Table = λ triples. record { subjects = n; columns = m; triples = triples } in
     let object : c.args.o < m = rw (← c.self.view_is) at c.requires in
-    let from : c.place-from.result ≡ c.args.o * n = rw c.place-from.ensures (add-zero (c.args.o * n)) in
+    let from : c.place-from.result ≡ c.args.o * n = omega (arith, c.place-from.ensures) in
     let count = c.place-from.result + c.from.result - c.place-from.result in
     let long : c.place-from.result + c.from.result - c.place-from.result ≡ n = omega (arith, c.from.ensures) in
     let size = length-written cells.items n m c.args.o object c.self.invariant.cells c.deref_mut.result.now c.clear.new.cells c.place-from.result count c.deref_mut.ensures.value from long c.clear.ensures in

@@ -1,4 +1,4 @@
-use Rattle.std.proofs.Common.{◌≡◌, ◌<◌, sym, ap, ◌∙◌}
+use Rattle.std.proofs.Common.{◌≡◌, ◌+◌, ◌*◌, ◌<◌, sym, ap, ◌∙◌, rules}
 use Rattle.std.specs.FinSet as set
 use Rattle.mls_tables.specs.Cells.{cell}
 use Rattle.mls_tables.proofs.Cells.{read_cell, contains-cell}
@@ -11,5 +11,6 @@ returns g c =
     let m = c.self.inside.columns in
     let subject : c.args.s < n = rw (← c.self.view_is) at c.requires.subject in
     let object : c.args.o < m = rw (← c.self.view_is) at c.requires.object in
-    let read : c.index.result.now ≡ cell cells n c.args.s c.args.o = read_cell cells n m c.args.s c.args.o c.place.result c.index.result.now subject object c.self.invariant.cells c.place.ensures c.index.ensures in
+    let at_place : c.place.result ≡ c.args.o * n + c.args.s = search rules in
+    let read : c.index.result.now ≡ cell cells n c.args.s c.args.o = read_cell cells n m c.args.s c.args.o c.place.result c.index.result.now subject object c.self.invariant.cells at_place c.index.ensures in
     record { cell = λ x. rw (← c.self.view_is) (ap (λ v. set.contains v x) read ∙ sym (contains-cell cells n m c.args.s c.args.o x subject object)) }

@@ -1,8 +1,9 @@
+use Rattle.std.proofs.Common.{rules}
 use Rattle.mls_tables.proofs.ModeBits.{modes_of-with, or-lt-four}
 use Rattle.mls_tables.proofs.modes.Modes.with.Goals as goal
 
 pub invariant_of-result : goal.invariant_of-result
-invariant_of-result c = rw c.number.ensures (or-lt-four c.self.inside.bits c.args.x c.self.invariant)
+invariant_of-result c = rw c.number.ensures (search (rules, or-lt-four))
 
 pub returns : goal.returns
-returns c = rw (← c.self.view_is, c.number.ensures) (modes_of-with c.self.inside.bits c.args.x)
+returns c = rw (← c.self.view_is, c.number.ensures) (search (rules, modes_of-with))

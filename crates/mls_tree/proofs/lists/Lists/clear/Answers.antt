@@ -1,7 +1,7 @@
 use Rattle.std.proofs.Common.{◌≡◌, ◌<◌, length, sym, ap, refl, ◌∙◌, arith}
 use Rattle.std.proofs.lemmas.List.{length-map}
-use Rattle.mls_tree.specs.Lists.{list_at}
-use Rattle.mls_tree.proofs.Laid.{map_changed}
+use Rattle.mls_tree.specs.Lists.{list_at, nowhere}
+use Rattle.mls_facts.proofs.Places.{map-set}
 use Rattle.mls_tree.proofs.lists.Lists.clear.Goals as goal
 
 pub returns : goal.returns
@@ -10,4 +10,4 @@ returns g c =
     let store = c.self.inside.store.items in
     let many : length spans ≡ length c.args.self.now = sym (length-map spans (list_at store)) ∙ ap length c.self.view_is in
     let here : c.args.i < length spans = omega (arith, c.requires) in
-    rw (← c.self.view_is) (map_changed (list_at store) (list_at store) spans c.args.i _ _ here refl (λ j h other. refl))
+    rw (← c.self.view_is) (map-set (list_at store) (list_at store) spans c.args.i _ nowhere _ here refl (λ j h other. refl))

@@ -1,18 +1,17 @@
 use Rattle.std.proofs.Common.{◌≡◌, ◌<◌, ◌≤◌, ◌++◌, ◌∷◌, [], IsTrue, cond, eqb, get_or, refl, sym, ap, subst, ◌∙◌, arith, length, length-append, length-set}
+use Rattle.mls_tables.specs.declared.limits.TheConstants.{MAX_OBJECTS}
 use Rattle.mls_tree.specs.Tree.{is_active, children}
-use Rattle.mls_tree.specs.Numbered.{numbered}
-use Rattle.mls_tree.specs.Kept.{hierarchy_of}
-use Rattle.mls_tree.proofs.Numbers.{numbered-push}
+use Rattle.mls_tree.specs.Kept.{parents_of, hierarchy_of}
 use Rattle.mls_tree.proofs.Listed.{length-children}
-use Rattle.mls_tree.proofs.Kept.{IsKept-push, get_or-pushed}
+use Rattle.mls_tree.proofs.Kept.{IsKept-push, get_or-pushed, parents_of-push}
 use Rattle.mls_tree.proofs.tree.Tree.add.Goals as goal
 
-pub push-requires-clause-few : goal.push-requires-clause-few
-push-requires-clause-few g c =
+pub enter-requires-clause-few : goal.enter-requires-clause-few
+enter-requires-clause-few g c =
     let parents = c.self.inside.parents.items in
-    let list = c.spare_list.ensures.same c.number.result ∙ c.self.invariant.listed c.number.result in
-    let few : length (children (hierarchy_of parents) c.number.result) ≤ length parents = length-children (hierarchy_of parents) c.number.result in
-    let numbers : length parents ≤ 4096 = c.self.invariant.tree.few in
+    let list = c.spare_list.ensures.same c.args.parent ∙ c.self.invariant.listed c.args.parent in
+    let few : length (children (hierarchy_of parents) c.args.parent) ≤ length parents = length-children (hierarchy_of parents) c.args.parent in
+    let numbers : length parents ≤ MAX_OBJECTS = c.self.invariant.tree.few in
     rw list (omega arith)
 
 pub invariant_of-self-2 : goal.invariant_of-self-2
@@ -20,22 +19,21 @@ invariant_of-self-2 g c =
     let parents = c.self.inside.parents.items in
     let lists = c.self.inside.children in
     let spare = c.spare_list.new.lists in
-    let few : length parents ≤ 4096 = c.self.invariant.tree.few in
     let next : length parents ≡ c.args.self.now.next = ap (λ h. h.next) c.self.view_is in
-    let room : length parents < 4096 = omega (arith, c.next-next.ensures.number) in
-    let below : IsTrue (is_active (numbered parents) c.args.parent) = subst (λ h. IsTrue (is_active h.parent c.args.parent)) (sym c.self.view_is) c.requires in
+    let room : length parents < MAX_OBJECTS = omega (arith, c.next-next.ensures.number) in
+    let below : IsTrue (is_active (parents_of parents) c.args.parent) = subst (λ h. IsTrue (is_active h.parent c.args.parent)) (sym c.self.view_is) c.requires in
     let low : c.args.parent < length parents = c.self.invariant.tree.below_next c.args.parent below in
     let many : length parents ≤ length lists = c.self.invariant.as_many in
     let longer : length lists ≤ length spare = c.spare_list.ensures.longer in
-    let within : c.number.result < length spare = omega (arith, c.number.ensures) in
+    let within : c.args.parent < length spare = omega arith in
     let free : c.next-next.result < length spare = c.in_ok-spare_list.ensures.room in
-    let number : c.new.result ≡ length parents = c.new.ensures ∙ c.next-next.ensures.number ∙ sym next in
-    let long : length c.push.new.self ≡ length spare = ap length c.in_ok-push.ensures.ok ∙ length-set spare c.number.result (get_or spare c.number.result [] ++ c.new.result ∷ []) in
-    let enough : length parents < length c.push.new.self = omega (arith, c.next-next.ensures.number) in
-    rw (c.push_reserved.ensures.items, c.in_ok-reserve.ensures.items)
-    (IsKept-push parents lists c.push.new.self c.args.parent c.self.invariant below room enough (λ o.
-    ap (λ l. get_or l o []) c.in_ok-push.ensures.ok ∙ get_or-pushed spare c.number.result c.new.result o within
-    ∙ (λ i. c.spare_list.ensures.same o i ++ cond (eqb o (c.number.ensures i)) (number i ∷ []) [])))
+    let number : c.next-next.result ≡ length parents = c.next-next.ensures.number ∙ sym next in
+    let long : length c.enter.new.lists ≡ length spare = ap length c.in_ok-enter.ensures.lists ∙ length-set spare c.args.parent (get_or spare c.args.parent [] ++ c.next-next.result ∷ []) in
+    let enough : length parents < length c.enter.new.lists = omega (arith, number) in
+    rw c.in_ok-enter.ensures.parents
+    (IsKept-push parents lists c.enter.new.lists c.args.parent c.self.invariant below room enough (λ o.
+    ap (λ l. get_or l o []) c.in_ok-enter.ensures.lists ∙ get_or-pushed spare c.args.parent c.next-next.result o within
+    ∙ (λ i. c.spare_list.ensures.same o i ++ cond (eqb o c.args.parent) (number i ∷ []) [])))
 
 pub returns-clause-ok : goal.returns-clause-ok
-returns-clause-ok g c = rw (c.push_reserved.ensures.items, c.in_ok-reserve.ensures.items, numbered-push, length-append, ← c.self.view_is) refl
+returns-clause-ok g c = rw (c.in_ok-enter.ensures.parents, parents_of-push, length-append, ← c.self.view_is) refl

@@ -1,5 +1,4 @@
 use Rattle.std.proofs.Common.{◌≡◌, ℕ, ◌<◌, ◌≤◌, length, get_or, ap, subst, ◌∙◌, arith, rules}
-use Rattle.std.proofs.lemmas.List.{get_or_default}
 use Rattle.std.proofs.lemmas.List.Sorted.{IsNonDecreasingBy-from_sort_by_key}
 use Rattle.mls_tree.specs.Tree.{Hierarchy, IsTree, is_active, children}
 use Rattle.mls_tree.proofs.Found.{Finds-first, Finds-more, found_few, found_below, inferiors_found}
@@ -13,11 +12,10 @@ loop-at-init g c =
     let tree = subst IsWhole c.self.view_is c.self.invariant.tree in
     rw (c.in_ok-push.ensures.items, c.clear.ensures.items) (Finds-first c.args.self.now tree c.args.o c.requires)
 
-pub list-below-requires : goal.list-below-requires
-list-below-requires g c =
+pub add_children-requires-clause-listed : goal.add_children-requires-clause-listed
+add_children-requires-clause-listed g c =
     let tree = subst IsWhole c.self.view_is c.self.invariant.tree in
     let within : c.loop-at.at < length c.loop-at.group.items = omega arith in
-    let v : c.number.result ≡ get_or c.loop-at.group.items c.loop-at.at 0 = c.number.ensures ∙ c.index.ensures ∙ get_or_default c.loop-at.group.items c.loop-at.at c.index.result.now 0 within in
     let below : get_or c.loop-at.group.items c.loop-at.at 0 < c.args.self.now.next = found_below c.args.self.now tree c.args.o c.requires c.loop-at.group.items c.loop-at.at c.loop-at.invariant within in
     let next : length c.self.inside.parents.items ≡ c.args.self.now.next = ap (λ h. h.next) c.self.view_is in
     let many : length c.self.inside.parents.items ≤ length c.self.inside.children = c.self.invariant.as_many in
@@ -34,9 +32,9 @@ pub loop-at-preserved : goal.loop-at-preserved
 loop-at-preserved g c =
     let tree = subst IsWhole c.self.view_is c.self.invariant.tree in
     let within : c.loop-at.at < length c.loop-at.group.items = omega arith in
-    let v : c.number.result ≡ get_or c.loop-at.group.items c.loop-at.at 0 = c.number.ensures ∙ c.index.ensures ∙ get_or_default c.loop-at.group.items c.loop-at.at c.index.result.now 0 within in
-    let below : c.list-below.result.now ≡ children c.args.self.now (get_or c.loop-at.group.items c.loop-at.at 0) = c.list-below.ensures ∙ c.self.invariant.listed c.number.result ∙ (λ i. children (c.self.view_is i) (v i)) in
-    rw (c.in_ok-extend_from_slice.ensures.items, below) (Finds-more c.args.self.now tree c.args.o c.requires c.loop-at.group.items c.loop-at.at c.loop-at.invariant within)
+    let v = get_or c.loop-at.group.items c.loop-at.at 0 in
+    let below = c.self.invariant.listed v ∙ ap (λ h. children h v) c.self.view_is in
+    rw (c.in_ok-add_children.ensures, below) (Finds-more c.args.self.now tree c.args.o c.requires c.loop-at.group.items c.loop-at.at c.loop-at.invariant within)
 
 pub returns : goal.returns
 returns g c =

@@ -3,8 +3,8 @@ use Rattle.std.proofs.lemmas.List.{with_items_is}
 use Rattle.std.specs.List.{list_any}
 use Rattle.mls_tree.specs.Tree.{inferiors}
 use Rattle.mls_tree.specs.Kept.{stays_listed}
-use Rattle.mls_tree.proofs.Numbers.{get-numbered}
-use Rattle.mls_tree.proofs.Kept.{group_below, numbered-retain, IsKept-retain}
+use Rattle.mls_facts.proofs.Numbered.{get-numbered-option}
+use Rattle.mls_tree.proofs.Kept.{group_below, parents_of-retain, IsKept-retain}
 use Rattle.mls_tree.proofs.tree.Tree.remove_group.Goals as goal
 
 pub clear_each-requires : goal.clear_each-requires
@@ -24,7 +24,7 @@ discard_each-requires-clause-numbers g c k d h =
 pub discard_each-requires-clause-listed : goal.discard_each-requires-clause-listed
 discard_each-requires-clause-listed g c x p is =
     let parents = c.self.inside.parents.items in
-    let step = get-numbered parents x ∙ ap (λ l. get_or l x None) (sym c.deref.ensures.value) ∙ is in
+    let step = get-numbered-option parents x ∙ ap (λ l. get_or l x None) (sym c.deref.ensures.value) ∙ is in
     let below : p < length parents = c.self.invariant.tree.below_next p (c.self.invariant.tree.children_active x p step).1 in
     let enough : length parents ≤ length c.self.inside.children = c.self.invariant.as_many in
     let many : length c.clear_each.new.lists ≡ length c.self.inside.children = c.clear_each.ensures.many in
@@ -56,6 +56,6 @@ returns g c o is =
     let all = is ∙ ap (λ t. inferiors t o) (sym c.self.view_is) in
     let many = c.forget_each.auto.parents ∙ ap length c.deref_mut.ensures.value in
     let after = with_items_is c.self.inside.parents c.forget_each.new.parents (c.forget_each.auto.parents ∙ c.deref_mut.ensures.len) in
-    let map_is = numbered-retain parents group o c.self.invariant.tree all c.forget_each.new.parents many
+    let map_is = parents_of-retain parents group o c.self.invariant.tree all c.forget_each.new.parents many
     (λ q. c.forget_each.ensures q ∙ ap (λ l. cond (list_any (eqb q) group) None (get_or l q None)) c.deref_mut.ensures.value) in
     rw (after, ← c.self.view_is) (λ i. record { parent = map_is i; next = many i })

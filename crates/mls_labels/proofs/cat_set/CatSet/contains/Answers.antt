@@ -1,8 +1,0 @@
-use Rattle.std.proofs.Common.{refl}
-use Rattle.std.proofs.lemmas.Nat.Bits.{shr_and_one}
-use Rattle.mls_labels.specs.CategoryBits.{contains-categories_of, true_below}
-use Rattle.mls_labels.proofs.cat_set.CatSet.contains.Goals as goal
-
-pub returns : goal.returns
-returns c =
-    rw (← c.self.view_is, shr_and_one, contains-categories_of c.self.inside.bits c.args.n, true_below c.args.n 64 c.requires) refl

@@ -1,5 +1,0 @@
-use Rattle.mls_labels.proofs.Dominance.{reflexive, antisymmetric, transitive}
-use Rattle.mls_labels.proofs.laws.dominance_is_a_partial_order.Goals as goal
-
-pub returns : goal.returns
-returns c = record { reflexive = reflexive; antisymmetric = antisymmetric; transitive = transitive }

@@ -1,5 +1,0 @@
-use Rattle.mls_labels.proofs.Dominance.{each_other}
-use Rattle.mls_labels.proofs.laws.equal_labels_dominate_each_other.Goals as goal
-
-pub returns : goal.returns
-returns c = each_other

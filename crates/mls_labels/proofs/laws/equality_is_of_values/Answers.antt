@@ -1,5 +1,0 @@
-use Rattle.mls_labels.proofs.Equality.{sets_same, labels_same, bounds_same}
-use Rattle.mls_labels.proofs.laws.equality_is_of_values.Goals as goal
-
-pub returns : goal.returns
-returns c = record { sets = sets_same; labels = labels_same; bounds = bounds_same }

@@ -1,0 +1,4 @@
+pub mod ModeWords
+pub mod ActionWords
+pub mod ReasonWords
+pub mod ReplyWords

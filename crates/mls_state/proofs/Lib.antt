@@ -1,0 +1,14 @@
+mod AllTriples
+mod Changes
+mod Copies
+mod EachTriple
+mod Growing
+mod Kept
+pub mod Laws
+mod NumberedSet
+mod Removing
+mod Replacing
+mod StandardSecure
+mod StandardState
+mod Tables
+mod TreeKept

@@ -1,0 +1,21 @@
+use Rattle.std.proofs.Common.{◌≡◌, ℕ, true, eqb, get_or, refl, sym, ◌∙◌}
+use Rattle.std.specs.List.{list_any}
+use Rattle.std.specs.FinMap as map
+use Rattle.std.proofs.lemmas.Bool.{eq-eqb}
+use Rattle.std.proofs.lemmas.List.Folds.{list_any_at}
+use Rattle.mls_tree.specs.Tree.{children}
+use Rattle.mls_tree.proofs.Laws.{list_any-children, parent_from_child}
+use Rattle.mls_state.proofs.Tables.{active-tree}
+use Rattle.mls_state.proofs.state.State.children.Goals as goal
+
+pub children-requires : goal.children-requires
+children-requires g c = sym (active-tree c.self.inside c.self.invariant c.args.o) ∙ rw (← c.self.view_is) at c.requires
+
+pub returns-clause-active : goal.returns-clause-active
+returns-clause-active g c = rw (c.children.ensures, ← c.self.view_is) (λ k d within.
+    let h = c.self.inside.tree in
+    let tree = c.self.invariant.tree in
+    let x : ℕ = get_or (children h c.args.o) k d in
+    let listed : list_any (eqb x) (children h c.args.o) ≡ true = list_any_at (eqb x) (children h c.args.o) k d within (eq-eqb x x refl) in
+    let step = parent_from_child h.parent x c.args.o (sym (list_any-children h tree x c.args.o) ∙ listed) in
+    active-tree c.self.inside c.self.invariant x ∙ (tree.children_active x c.args.o step).0)

@@ -1,0 +1,29 @@
+-- States that differ from another by one change.
+use Rattle.std.specs.Prelude.{ℕ, Bool, not}
+use Rattle.std.specs.FinSet as set
+use Rattle.std.specs.FinMap as map
+use Rattle.mls_labels.specs.Label.{Label}
+use Rattle.mls_tree.specs.Tree.{is_inferior}
+use Rattle.mls_state.specs.State.{State}
+
+-- The state with another current label of a subject. (own, after MTR-2997's rules to change levels)
+abbrev pub with_current : State → ℕ → Label → State
+with_current v s l = record v { current = map.insert v.current s l }
+
+-- The state with another security label of an object. (own, after MTR-2997's rules to change levels)
+abbrev pub with_object_label : State → ℕ → Label → State
+with_object_label v o l = record v { object_label = map.insert v.object_label o l }
+
+-- Whether an object stays when one is deleted: it is no inferior of that one. (own, after MTR-2997's rule to delete an object group)
+abbrev pub stays : State → ℕ → ℕ → Bool
+stays v o x = not (is_inferior v.parent x o)
+
+-- The state with just those of its objects that pass the test, and just the triples that name such objects. (own)
+abbrev pub with_objects : State → (ℕ → Bool) → State
+with_objects v passes = record v {
+  object_label = map.retain_keys v.object_label passes;
+  object_integrity = map.retain_keys v.object_integrity passes;
+  parent = map.retain_keys v.parent passes;
+  matrix = set.retain v.matrix (λ t. passes t.1);
+  accesses = set.retain v.accesses (λ t. passes t.1);
+}

@@ -1,0 +1,100 @@
+//! The audit: whether a state is secure, looked at from scratch.
+ghost use Rattle.std.specs.Prelude.{◌≡◌, ◌↔◌, IsTrue, All};
+ghost use Rattle.std.specs.List.{list_all};
+ghost use Rattle.mls_state.specs.State.{is_subject, is_active};
+ghost use Rattle.mls_state.specs.Properties.{IsSecure, HasTree, Each};
+ghost use Rattle.mls_state.specs.Audit.{access_holds, fits_parent, ceiling_holds, EachBelow, EachSubject};
+
+use crate::conditions::{discretionary_holds, integrity_holds, simple_holds, star_holds};
+use crate::state::State;
+use mls_tables::{Mode, ObjectId, SubjectId};
+use std::alloc::Allocator;
+
+/// Whether a current access meets all properties that speak of accesses.
+fn access_holds<A: Allocator>(state: &State<A>, s: SubjectId, o: ObjectId, x: Mode) -> bool
+    requires subject { IsTrue (is_subject state.now s) }
+    requires object { IsTrue (is_active state.now o) }
+    ensures { result ≡ access_holds state.now (s, o, x) }
+{
+    discretionary_holds(state, s, o, x)
+        && simple_holds(state, s, o, x)
+        && star_holds(state, s, o, x)
+        && integrity_holds(state, s, o, x)
+}
+
+/// Whether each of some accesses does.
+fn all_hold<A: Allocator>(state: &State<A>, triples: &[(SubjectId, ObjectId, Mode)]) -> bool
+    requires subjects { All (λ t. IsTrue (is_subject state.now t.0)) triples.now }
+    requires objects { All (λ t. IsTrue (is_active state.now t.1)) triples.now }
+    ensures { result ≡ list_all (access_holds state.now) triples.now }
+{
+    for t in triples {
+        if !access_holds(state, t.0, t.1, t.2) {
+            return false;
+        }
+    }
+    true
+}
+
+/// Whether all current accesses do.
+fn accesses_hold<A: Allocator>(state: &State<A>) -> bool
+    ensures { IsTrue result ↔ Each state.now.accesses (access_holds state.now) }
+{
+    all_hold(state, state.triples())
+}
+
+/// Whether an object is compatible with its parent. What isn't active has none, and is.
+fn fits_parent<A: Allocator>(state: &State<A>, o: ObjectId) -> bool
+    requires { HasTree state.now }
+    ensures { result ≡ fits_parent state.now o }
+{
+    if !state.is_active(o) {
+        return true;
+    }
+    match state.parent(o) {
+        Some(p) => {
+            state.object_label(o).dominates(&state.object_label(p))
+                && state
+                    .object_integrity(p)
+                    .dominates(&state.object_integrity(o))
+        }
+        None => true,
+    }
+}
+
+/// Whether all objects are compatible with their parents.
+fn objects_fit<A: Allocator>(state: &State<A>) -> bool
+    ensures { IsTrue result ↔ EachBelow state.now.next (fits_parent state.now) }
+{
+    for n in 0..state.next() {
+        if !fits_parent(state, ObjectId::new(n)) {
+            return false;
+        }
+    }
+    true
+}
+
+/// Whether the maximum labels of all subjects dominate their current ones.
+fn ceilings_hold<A: Allocator>(state: &State<A>) -> bool
+    ensures { IsTrue result ↔ EachSubject state.now (ceiling_holds state.now) }
+{
+    for n in 0..state.subject_count() {
+        let s = SubjectId::new(n);
+        if !state.maximum(s).dominates(&state.current(s)) {
+            return false;
+        }
+    }
+    true
+}
+
+/// Whether the state is secure: whether all properties hold, each looked at anew. It goes once over the current
+/// accesses, once over the object numbers and once over the subjects, and doesn't allocate. That the objects are a tree
+/// and the tables agree is so of every state.
+pub fn is_secure<A: Allocator>(state: &State<A>) -> bool
+    ensures secure { IsTrue result → IsSecure state.now }
+    ensures exact { IsSecure state.now → IsTrue result }
+{
+    // that the objects are a tree and the tables agree
+    let _ = state.next();
+    accesses_hold(state) && objects_fit(state) && ceilings_hold(state)
+}

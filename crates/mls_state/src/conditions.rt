@@ -1,0 +1,64 @@
+//! The conditions of one triple, each looked at alone.
+ghost use Rattle.std.specs.Prelude.{◌≡◌, IsTrue, Some};
+ghost use Rattle.mls_state.specs.State.{is_subject, is_active};
+ghost use Rattle.mls_state.specs.Properties.{simple_holds, star_between, star_holds, integrity_holds, discretionary_holds};
+
+use crate::state::State;
+use mls_labels::SecLabel;
+use mls_tables::{Mode, ObjectId, SubjectId};
+use std::alloc::Allocator;
+
+/// Whether the matrix permits the access.
+pub fn discretionary_holds<A: Allocator>(
+    state: &State<A>,
+    s: SubjectId,
+    o: ObjectId,
+    x: Mode,
+) -> bool
+    requires subject { IsTrue (is_subject state.now s) }
+    requires object { IsTrue (is_active state.now o) }
+    ensures { result ≡ discretionary_holds state.now (s, o, x) }
+{
+    state.allowed(s, o).has(x)
+}
+
+/// Whether the access meets simple security.
+pub fn simple_holds<A: Allocator>(state: &State<A>, s: SubjectId, o: ObjectId, x: Mode) -> bool
+    requires subject { IsTrue (is_subject state.now s) }
+    requires object { IsTrue (is_active state.now o) }
+    ensures { result ≡ simple_holds state.now (s, o, x) }
+{
+    !x.observes() || state.maximum(s).dominates(&state.object_label(o))
+}
+
+/// Whether star holds between the current label of an untrusted subject and the label of an object that it accesses.
+pub fn star_between(own: SecLabel, label: SecLabel, x: Mode) -> bool
+    ensures { result ≡ star_between (Some own) (Some label) x }
+{
+    match x {
+        Mode::Append => label.dominates(&own),
+        Mode::Write => label.dominates(&own) && own.dominates(&label),
+        Mode::Read => own.dominates(&label),
+        Mode::Execute => true,
+    }
+}
+
+/// Whether the access meets the star property, which doesn't bind a trusted subject.
+pub fn star_holds<A: Allocator>(state: &State<A>, s: SubjectId, o: ObjectId, x: Mode) -> bool
+    requires subject { IsTrue (is_subject state.now s) }
+    requires object { IsTrue (is_active state.now o) }
+    ensures { result ≡ star_holds state.now (s, o, x) }
+{
+    state.is_trusted(s) || star_between(state.current(s), state.object_label(o), x)
+}
+
+/// Whether the access meets strict integrity, which binds every subject.
+pub fn integrity_holds<A: Allocator>(state: &State<A>, s: SubjectId, o: ObjectId, x: Mode) -> bool
+    requires subject { IsTrue (is_subject state.now s) }
+    requires object { IsTrue (is_active state.now o) }
+    ensures { result ≡ integrity_holds state.now (s, o, x) }
+{
+    let own = state.subject_integrity(s);
+    let label = state.object_integrity(o);
+    (!x.uses() || label.dominates(&own)) && (!x.alters() || own.dominates(&label))
+}

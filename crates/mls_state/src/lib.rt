@@ -1,0 +1,18 @@
+//! What a state of the monitor is, what makes one secure, the start that it opens with, and the audit that looks at
+//! all of it anew.
+#![tactic(auto)]
+
+mod audit;
+mod conditions;
+mod standard;
+mod start;
+mod state;
+mod subject;
+
+pub use audit::is_secure;
+pub use conditions::{
+    discretionary_holds, integrity_holds, simple_holds, star_between, star_holds,
+};
+pub use start::Start;
+pub use state::State;
+pub use subject::ObjectLabels;

@@ -1,0 +1,89 @@
+//! Objects and cells that join a state.
+ghost use Rattle.std.specs.Prelude.{◌≡◌, ◌<◌, ◌≤◌, ◌+◌, IsTrue, OnOk, OnErr, All};
+ghost use Rattle.std.specs.FinSet as set;
+ghost use Rattle.std.specs.FinMap as map;
+ghost use Rattle.mls_tables.specs.declared.limits.TheConstants.{MAX_OBJECTS};
+ghost use Rattle.mls_state.specs.State.{is_subject, is_active};
+ghost use Rattle.mls_state.specs.Properties.{is_known};
+ghost use Rattle.mls_state.specs.First.{with_triples, SameCells};
+
+use crate::state::State;
+use crate::subject::ObjectLabels;
+use mls_tables::{AccessSet, Matrix, Mode, ObjectId, SubjectId};
+use std::alloc::{AllocError, Allocator};
+
+/// Sees that the matrix has a column for the next object.
+fn widen_matrix<A: Allocator>(matrix: &mut Matrix<A>, next: u16) -> Result<(), AllocError>
+    requires room { next < MAX_OBJECTS }
+    requires near { next ≤ matrix.old.columns }
+    ensures ok { OnOk result (next < matrix.new.columns) }
+    ensures kept { SameCells matrix.old matrix.new }
+{
+    if matrix.columns() <= next {
+        matrix.add_object()?;
+    }
+    Ok(())
+}
+
+/// Sees that the current accesses have a column for the next object.
+fn widen_accesses<A: Allocator>(accesses: &mut AccessSet<A>, next: u16) -> Result<(), AllocError>
+    requires room { next < MAX_OBJECTS }
+    requires near { next ≤ accesses.old.columns }
+    ensures ok { OnOk result (next < accesses.new.columns) }
+    ensures kept { SameCells accesses.old accesses.new }
+{
+    if accesses.columns() <= next {
+        accesses.add_object()?;
+    }
+    Ok(())
+}
+
+impl<A: Allocator> State<A> {
+    /// Adds an object with the next number below an active parent: what a creation changes. It doesn't ask whether the
+    /// labels fit, nor whether they are within the bounds.
+    ///
+    /// # Errors
+    /// `AllocError` where an allocation failed; no read then tells the state from what it was.
+    pub fn add_object(&mut self, parent: ObjectId, labels: ObjectLabels) -> Result<(), AllocError>
+        requires room { self.old.next < MAX_OBJECTS }
+        requires parent { IsTrue (is_active self.old parent) }
+        ensures ok { OnOk result (self.new ≡ record self.old {
+          object_label = map.insert self.old.object_label self.old.next labels.security;
+          object_integrity = map.insert self.old.object_integrity self.old.next labels.integrity;
+          parent = map.insert self.old.parent self.old.next parent;
+          next = self.old.next + 1;
+        }) }
+        ensures err { OnErr result (self.new ≡ self.old) }
+    {
+        let next = self.next();
+        widen_matrix(&mut self.matrix, next)?;
+        widen_accesses(&mut self.accesses, next)?;
+        self.objects.reserve(1)?;
+        let Ok(_) = self.tree.add(parent) else {
+            return Err(AllocError);
+        };
+        self.objects.push_reserved(labels);
+        // that the objects are a tree with the new one
+        let _ = self.tree.next();
+        Ok(())
+    }
+
+    /// Permits a triple: what a give changes. It doesn't ask who controls the object.
+    pub fn permit(&mut self, s: SubjectId, o: ObjectId, x: Mode)
+        requires subject { IsTrue (is_subject self.old s) }
+        requires object { IsTrue (is_active self.old o) }
+        ensures { self.new ≡ record self.old { matrix = set.insert self.old.matrix (s, o, x) } }
+    {
+        self.matrix.give(s, o, x);
+    }
+
+    /// Permits some triples.
+    pub(crate) fn permit_all(&mut self, cells: &[(SubjectId, ObjectId, Mode)])
+        requires { All (λ t. IsTrue (is_known self.old t)) cells.now }
+        ensures { self.new ≡ record self.old { matrix = with_triples self.old.matrix cells.now } }
+    {
+        for cell in cells {
+            self.permit(cell.0, cell.1, cell.2);
+        }
+    }
+}

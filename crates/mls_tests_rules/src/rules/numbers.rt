@@ -1,0 +1,77 @@
+//! All object numbers given out: below the root, and in a chain.
+use super::{ROOT, SEC, asks, create, get, give_sec_write, opened};
+use mls_rules::{Action, Reason, Reply, Request, State, apply, is_secure};
+use mls_tables::{Mode, ObjectId};
+use std::alloc::Allocator;
+use std::process::Abort;
+use std::test::Fail;
+
+/// Makes a request, and asserts its reply.
+fn is_answered<A: Allocator>(
+    rt: &impl Abort,
+    state: &mut State<A>,
+    request: Request,
+    reply: Reply,
+) {
+    let n = state.next();
+    assert!(rt; apply(state, &request) == Ok(reply), "at {n}");
+}
+
+/// Asserts that an object is there with so many children.
+fn has_children<A: Allocator>(rt: &impl Abort, state: &State<A>, o: ObjectId, count: usize) {
+    assert!(rt; state.is_active(o) && state.children(o).len() == count);
+}
+
+/// Gives out all numbers to children of the root, deletes one, and finds that its number isn't given out again.
+fn fill_the_root<A: Allocator>(rt: &impl Abort, state: &mut State<A>) {
+    is_answered(rt, state, get(SEC, Mode::Write, ROOT), Reply::Yes);
+    for n in 4..4096u16 {
+        let made = Reply::Created(ObjectId(n));
+        is_answered(rt, state, create(SEC, ROOT, 0, 1), made);
+    }
+    is_answered(rt, state, create(SEC, ROOT, 0, 1), Reply::No(Reason::Full));
+    has_children(rt, state, ROOT, 4095);
+    is_answered(
+        rt,
+        state,
+        asks(SEC, Action::Delete(ObjectId(9))),
+        Reply::Yes,
+    );
+    is_answered(rt, state, create(SEC, ROOT, 0, 1), Reply::No(Reason::Full));
+    has_children(rt, state, ROOT, 4094);
+}
+
+#[test]
+fn all_numbers_below_the_root(rt: HostRuntime) -> Result<(), Fail> {
+    let mut state = opened(rt.alloc())?;
+    fill_the_root(&rt, &mut state);
+    assert!(rt; is_secure(&state) && state.next() == 4096);
+    assert!(rt; state.is_active(ObjectId(4095)) && !state.is_active(ObjectId(9)));
+    Ok(())
+}
+
+/// Gives out all numbers to a chain below the root, each of which sec may write and does.
+fn fill_a_chain<A: Allocator>(rt: &impl Abort, state: &mut State<A>) {
+    let mut above = ROOT;
+    is_answered(rt, state, get(SEC, Mode::Write, ROOT), Reply::Yes);
+    for n in 4..4096u16 {
+        let o = ObjectId(n);
+        is_answered(rt, state, create(SEC, above, 0, 1), Reply::Created(o));
+        is_answered(rt, state, give_sec_write(o), Reply::Yes);
+        is_answered(rt, state, get(SEC, Mode::Write, o), Reply::Yes);
+        above = o;
+    }
+}
+
+#[test]
+fn all_numbers_in_a_chain(rt: HostRuntime) -> Result<(), Fail> {
+    let mut state = opened(rt.alloc())?;
+    let last = ObjectId(4095);
+    fill_a_chain(&rt, &mut state);
+    assert!(rt; is_secure(&state) && state.has_access(SEC, last, Mode::Write));
+    let delete = asks(SEC, Action::Delete(ObjectId(4)));
+    is_answered(&rt, &mut state, delete, Reply::Yes);
+    assert!(rt; !state.has_access(SEC, last, Mode::Write) && !state.is_active(last));
+    assert!(rt; state.has_access(SEC, ROOT, Mode::Write) && is_secure(&state));
+    Ok(())
+}

@@ -1,0 +1,128 @@
+//! Each change of a state made alone, a copy of it, and the tests of one triple.
+use mls_labels::{CatSet, IntLabel, Label, SecLabel};
+use mls_state::{
+    ObjectLabels, Start, State, discretionary_holds, integrity_holds, is_secure, simple_holds,
+    star_between, star_holds,
+};
+use mls_tables::{Mode, ObjectId, SubjectId};
+use std::alloc::{AllocError, Allocator};
+use std::process::Abort;
+use std::test::Fail;
+
+const ANN: SubjectId = SubjectId(0);
+
+const BOB: SubjectId = SubjectId(1);
+
+const ROOT: ObjectId = ObjectId(0);
+
+const PLANS: ObjectId = ObjectId(1);
+
+const MEMO: ObjectId = ObjectId(2);
+
+/// A security label of a level, without categories.
+fn security(level: u8) -> SecLabel {
+    SecLabel::of(Label::new(level % 4, CatSet::empty()))
+}
+
+/// The opening of the standard start.
+fn opened<A: Allocator + Clone>(alloc: A) -> Result<State<A>, AllocError> {
+    Start::standard(alloc.clone()?)?.opening(alloc)
+}
+
+/// Asserts what becomes of one current access.
+fn changes_an_access<A: Allocator>(rt: &impl Abort, state: &mut State<A>) {
+    assert!(rt; state.is_subject(ANN) && state.is_active(PLANS));
+    assert!(rt; state.put_access(ANN, PLANS, Mode::Read) == Ok(true));
+    assert!(rt; state.triples() == [(ANN, PLANS, Mode::Read)].as_slice());
+    assert!(rt; state.remove_access(ANN, PLANS, Mode::Read));
+    assert!(rt; !state.remove_access(ANN, PLANS, Mode::Read));
+    assert!(rt; state.triples().is_empty());
+}
+
+#[test]
+fn an_access_comes_and_goes(rt: HostRuntime) -> Result<(), Fail> {
+    let mut state = opened(rt.alloc())?;
+    changes_an_access(&rt, &mut state);
+    Ok(())
+}
+
+/// Asserts what becomes of one cell of the matrix, and of the access with it.
+fn changes_a_cell<A: Allocator>(rt: &impl Abort, state: &mut State<A>) {
+    assert!(rt; state.is_subject(BOB) && state.is_active(PLANS));
+    state.permit(BOB, PLANS, Mode::Read);
+    assert!(rt; state.allowed(BOB, PLANS).has(Mode::Read));
+    assert!(rt; state.put_access(BOB, PLANS, Mode::Read) == Ok(true));
+    state.forbid(BOB, PLANS, Mode::Read);
+    assert!(rt; !state.allowed(BOB, PLANS).has(Mode::Read));
+    assert!(rt; !state.has_access(BOB, PLANS, Mode::Read));
+}
+
+#[test]
+fn a_cell_comes_and_goes(rt: HostRuntime) -> Result<(), Fail> {
+    let mut state = opened(rt.alloc())?;
+    changes_a_cell(&rt, &mut state);
+    Ok(())
+}
+
+/// Asserts what becomes of one object, and of the triples that name it.
+fn changes_an_object<A: Allocator>(rt: &impl Abort, state: &mut State<A>) {
+    let made = ObjectId(4);
+    let labels = ObjectLabels {
+        security: security(2),
+        integrity: IntLabel::of(Label::new(1, CatSet::empty())),
+    };
+    assert!(rt; state.is_active(PLANS) && state.next() == 4);
+    assert!(rt; state.add_object(PLANS, labels) == Ok(()));
+    assert!(rt; state.is_subject(ANN) && state.is_active(made) && state.is_active(PLANS));
+    assert!(rt; state.parent(made) == Some(PLANS) && state.children(PLANS) == [made].as_slice());
+    assert!(rt; state.object_label(made) == security(2));
+    state.permit(ANN, made, Mode::Read);
+    assert!(rt; PLANS != ROOT && state.remove_object(PLANS) == Ok(()));
+    assert!(rt; !state.is_active(PLANS) && !state.is_active(made) && state.next() == 5);
+}
+
+#[test]
+fn an_object_comes_and_goes(rt: HostRuntime) -> Result<(), Fail> {
+    let mut state = opened(rt.alloc())?;
+    changes_an_object(&rt, &mut state);
+    Ok(())
+}
+
+/// Asserts what becomes of the current label of a subject and of the label of an object.
+fn changes_labels<A: Allocator>(rt: &impl Abort, state: &mut State<A>) {
+    assert!(rt; state.is_subject(ANN) && state.is_active(MEMO));
+    state.set_current(ANN, security(1));
+    state.set_object_label(MEMO, security(3));
+    assert!(rt; state.is_subject(ANN) && state.is_active(MEMO));
+    assert!(rt; state.current(ANN) == security(1) && state.object_label(MEMO) == security(3));
+    assert!(rt; state.maximum(ANN) != security(1) && is_secure(state));
+}
+
+#[test]
+fn labels_change(rt: HostRuntime) -> Result<(), Fail> {
+    let mut state = opened(rt.alloc())?;
+    changes_labels(&rt, &mut state);
+    Ok(())
+}
+
+/// Asserts which tests the triples of the standard start's opening pass.
+fn tests_triples<A: Allocator>(rt: &impl Abort, state: &State<A>) {
+    assert!(rt; state.is_subject(BOB) && state.is_active(PLANS) && state.is_active(MEMO));
+    assert!(rt; discretionary_holds(state, BOB, PLANS, Mode::Append));
+    assert!(rt; !discretionary_holds(state, BOB, PLANS, Mode::Read));
+    assert!(rt; simple_holds(state, BOB, MEMO, Mode::Read));
+    assert!(rt; !simple_holds(state, BOB, PLANS, Mode::Read));
+    assert!(rt; star_holds(state, BOB, PLANS, Mode::Append));
+    assert!(rt; !star_holds(state, BOB, MEMO, Mode::Read));
+    assert!(rt; integrity_holds(state, BOB, MEMO, Mode::Append));
+    assert!(rt; !integrity_holds(state, BOB, PLANS, Mode::Append));
+}
+
+#[test]
+fn triples_are_tested(rt: HostRuntime) -> Result<(), Fail> {
+    let state = opened(rt.alloc())?;
+    tests_triples(&rt, &state);
+    assert!(rt; star_between(security(1), security(2), Mode::Append));
+    assert!(rt; !star_between(security(1), security(2), Mode::Read));
+    Ok(())
+}
