@@ -68,28 +68,35 @@ fn open(rt: &HostRuntime, start: Start<Global>) -> Option<Monitor<Global>> {
     Monitor::open(rt.alloc(), start).ok()
 }
 
-/// Answers the script over a start.
+/// Answers the script over a start. What is lent is dropped by a call: at the end of its scope the proof of that is dear.
 fn serve_start(
     rt: &HostRuntime,
     names: &Names<Global>,
     start: Start<Global>,
 ) -> Result<u64, &'static str> {
-    match open(rt, start) {
-        Some(mut monitor) => serve_input(rt, names, &mut monitor),
-        None => Err(NO_MEMORY),
-    }
+    let Some(mut monitor) = open(rt, start) else {
+        return Err(NO_MEMORY);
+    };
+    let served = serve_input(rt, names, &mut monitor);
+    drop(monitor);
+    served
 }
 
 /// Answers the script over a start and its names.
-fn serve_loaded(rt: &HostRuntime, loaded: Loaded<Global>) -> Result<u64, &'static str> {
-    let Loaded { names, start } = loaded;
-    serve_start(rt, &names, start)
+fn serve_over(
+    rt: &HostRuntime,
+    names: Names<Global>,
+    start: Start<Global>,
+) -> Result<u64, &'static str> {
+    let served = serve_start(rt, &names, start);
+    drop(names);
+    served
 }
 
 /// Answers the script over the standard start.
 fn serve_standard(rt: &HostRuntime) -> Result<u64, &'static str> {
     match standard_start(rt.alloc()) {
-        Ok(loaded) => serve_loaded(rt, loaded),
+        Ok(Loaded { names, start }) => serve_over(rt, names, start),
         Err(fault) => Err(start_line(fault)),
     }
 }

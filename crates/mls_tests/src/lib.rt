@@ -11,3 +11,5 @@ mod rows;
 mod scripts;
 #[cfg(test)]
 mod serving;
+#[cfg(test)]
+mod standard;

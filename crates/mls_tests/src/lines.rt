@@ -1,6 +1,7 @@
 //! Names of the standard start, and lines whose reading the format fixes.
+use crate::standard::{self, over_names};
 use mls_cli::{Line, LineFault, Names, Vars, read_line};
-use mls_labels::{CatSet, Label, LabelFault, Scheme};
+use mls_labels::{CatSet, Label, LabelFault};
 use mls_tables::{ObjectId, SubjectId};
 use std::alloc::{AllocError, Global};
 use std::process::Abort;
@@ -15,17 +16,9 @@ use asking::lines_ask;
 use faults::first_fault_is_named;
 use making::lines_make_and_change;
 
-fn standard_names(alloc: Global) -> Result<Names, Fail> {
-    let security = Scheme::new(alloc, &["U", "C", "S", "T"], &["A", "B"])?;
-    let integrity = Scheme::new(alloc, &["lo", "hi"], &[])?;
-    let subjects = ["ann", "bob", "sec", "aud"];
-    let objects = ["root", "plans", "memo", "tool"];
-    Ok(Names::new(alloc, &subjects, &objects, security, integrity)?)
-}
-
 /// What a test of lines asserts over the standard names, and variables of which `$a-4` stands for object 4.
 #[derive(Clone, Copy)]
-enum Test {
+pub enum Test {
     NamesHaveTheirNumbers,
     LinesHaveAMost,
     LinesAsk,
@@ -51,18 +44,23 @@ fn assert_over(
     Ok(())
 }
 
-/// Makes the names, and lends them to a test.
-fn over_names(rt: &impl Abort, alloc: Global, vars: &Vars<Global>, test: Test) -> Result<(), Fail> {
-    let names = standard_names(alloc)?;
-    assert_over(rt, alloc, &names, vars, test)
-}
-
-/// Makes the variables and the names, and lends them to a test. All tests of lines go through here: each function that owns names is
-/// dear to prove.
-fn over_standard(rt: &impl Abort, alloc: Global, test: Test) -> Result<(), Fail> {
+/// Makes the variables, and lends them to a test of lines.
+pub fn over_vars(
+    rt: &impl Abort,
+    alloc: Global,
+    names: &Names<Global>,
+    test: Test,
+) -> Result<(), Fail> {
     let mut vars = Vars::new(alloc);
     vars.bind("a-4", ObjectId(4))?;
-    over_names(rt, alloc, &vars, test)
+    let outcome = assert_over(rt, alloc, names, &vars, test);
+    drop(vars);
+    outcome
+}
+
+/// Runs a test of lines.
+fn over_standard(rt: &impl Abort, alloc: Global, test: Test) -> Result<(), Fail> {
+    over_names(rt, alloc, standard::Test::Lines(test))
 }
 
 /// Whether a line asks nothing.
@@ -122,7 +120,7 @@ fn have_a_most(
     names: &Names<Global>,
     vars: &Vars<Global>,
 ) -> Result<(), AllocError> {
-    for text in [b"".as_slice(), b";".as_slice()] {
+    for text in &[b"".as_slice(), b";".as_slice()] {
         let within = filled(alloc, text, 20_000)?;
         assert!(rt; is_blank(names, vars, &within));
         let past = filled(alloc, text, 20_001)?;

@@ -20,8 +20,8 @@ fn held<A: Allocator>(monitor: &Monitor<A>) -> usize {
     let mut count = 0usize;
     for subject in 0..5 {
         for object in 0..9 {
-            for mode in [Mode::Execute, Mode::Read, Mode::Append, Mode::Write] {
-                if monitor.check(SubjectId(subject), ObjectId(object), mode) {
+            for mode in &[Mode::Execute, Mode::Read, Mode::Append, Mode::Write] {
+                if monitor.check(SubjectId(subject), ObjectId(object), *mode) {
                     count = count.saturating_add(1);
                 }
             }
@@ -60,22 +60,35 @@ fn served_over(
     script: &[u8],
     written: &mut Vec<u8>,
 ) -> Option<Left> {
-    match Monitor::open(alloc, start) {
-        Ok(mut monitor) => left_by(alloc, names, &mut monitor, script, written),
-        Err(_) => None,
-    }
+    let mut monitor = Monitor::open(alloc, start).ok()?;
+    let left = left_by(alloc, names, &mut monitor, script, written);
+    drop(monitor);
+    left
+}
+
+/// Serves a script over a start and its names.
+fn served_by(
+    alloc: Global,
+    loaded: Loaded<Global>,
+    script: &[u8],
+    written: &mut Vec<u8>,
+) -> Option<Left> {
+    let Loaded { names, start } = loaded;
+    let left = served_over(alloc, &names, start, script, written);
+    drop(names);
+    left
 }
 
 /// Serves a script over the standard start, which is made anew, and says what it left.
 pub fn served(alloc: Global, script: &[u8], written: &mut Vec<u8>) -> Option<Left> {
     match standard_start(alloc) {
-        Ok(Loaded { names, start }) => served_over(alloc, &names, start, script, written),
+        Ok(loaded) => served_by(alloc, loaded, script, written),
         Err(_) => None,
     }
 }
 
 /// Whether a script leaves what its row says.
-fn is_answered(alloc: Global, row: Row) -> bool {
+fn is_answered(alloc: Global, row: &Row) -> bool {
     let mut written = Vec::new(alloc);
     let is_left = match served(alloc, row.script, &mut written) {
         Some(left) => left.entries == row.entries && left.held == row.held,
@@ -86,7 +99,7 @@ fn is_answered(alloc: Global, row: Row) -> bool {
 
 #[test]
 fn scripts_are_answered(rt: HostRuntime) {
-    for row in ROWS {
+    for row in &ROWS {
         let name = row.name;
         assert!(rt; is_answered(rt.alloc(), row), "{name}");
     }

@@ -5,9 +5,10 @@ mod flushes;
 mod refusals;
 mod streams;
 
+use crate::standard::{self, over_names};
 use bounds::{lines_are_bounded, script_is_limited};
 use failures::{reader_fails_in_turn, writer_fails_in_turn};
-use mls_cli::{Loaded, Names, ServeFault, serve, standard_start};
+use mls_cli::{Names, ServeFault, serve};
 use mls_monitor::{Entry, Monitor};
 use mls_rules::Start;
 use refusals::allocations_are_refused;
@@ -24,16 +25,9 @@ const SHORT: &[u8] = b"ann get-read plans\nann get-read plans\nann check read pl
 /// Its answers.
 const SHORT_ANSWERS: &[u8] = b"yes\nyes\nheld\n";
 
-fn standard_names(alloc: Global) -> Result<Names<Global>, AllocError> {
-    match standard_start(alloc) {
-        Ok(Loaded { names, start: _ }) => Ok(names),
-        Err(_) => Err(AllocError),
-    }
-}
-
 /// What a test of serving asserts over the standard names.
 #[derive(Clone, Copy)]
-enum Test {
+pub enum Test {
     AnswersScripts,
     AnswersBeforeItReadsOn,
     LinesAtTheBounds,
@@ -44,7 +38,7 @@ enum Test {
 }
 
 /// Asserts what a test does.
-fn assert_over(rt: &impl Abort, alloc: Global, names: &Names<Global>, test: Test) {
+pub fn assert_over(rt: &impl Abort, alloc: Global, names: &Names<Global>, test: Test) {
     match test {
         Test::AnswersScripts => scripts_are_answered(rt, alloc, names),
         Test::AnswersBeforeItReadsOn => is_answered_before_it_reads_on(rt, alloc, names),
@@ -56,11 +50,9 @@ fn assert_over(rt: &impl Abort, alloc: Global, names: &Names<Global>, test: Test
     }
 }
 
-/// Makes the names, and lends them to a test. All tests of serving go through here: each function that owns names is dear to prove.
-fn over_names(rt: &impl Abort, alloc: Global, test: Test) -> Result<(), Fail> {
-    let names = standard_names(alloc)?;
-    assert_over(rt, alloc, &names, test);
-    Ok(())
+/// Runs a test of serving.
+fn over_standard(rt: &impl Abort, alloc: Global, test: Test) -> Result<(), Fail> {
+    over_names(rt, alloc, standard::Test::Serving(test))
 }
 
 fn standard_monitor<A: Allocator + Copy>(alloc: A) -> Result<Monitor<A>, AllocError> {
@@ -84,6 +76,7 @@ fn run<R: Read, W: Write>(
     let mut monitor = standard_monitor(alloc)?;
     let result = serve(alloc, names, &mut monitor, 7, reader, writer);
     let entries = entries_of_seven(monitor.entries());
+    drop(monitor);
     Ok(Left { result, entries })
 }
 
@@ -152,9 +145,9 @@ const SCRIPTS: [Case; 10] = [
 
 /// Asserts the answers to the scripts above, in pieces of three sizes.
 fn scripts_are_answered(rt: &impl Abort, alloc: Global, names: &Names<Global>) {
-    for (script, answers, entries) in SCRIPTS {
-        for most in [1, 7, 65_536] {
-            let is_right = is_answered(alloc, names, script, most, answers, entries);
+    for (script, answers, entries) in &SCRIPTS {
+        for most in &[1, 7, 65_536] {
+            let is_right = is_answered(alloc, names, script, *most, answers, *entries);
             assert!(rt; is_right, "in pieces of {most}");
         }
     }
@@ -162,7 +155,7 @@ fn scripts_are_answered(rt: &impl Abort, alloc: Global, names: &Names<Global>) {
 
 #[test]
 fn answers_scripts(rt: HostRuntime) -> Result<(), Fail> {
-    over_names(&rt, rt.alloc(), Test::AnswersScripts)
+    over_standard(&rt, rt.alloc(), Test::AnswersScripts)
 }
 
 /// A script that a person types, who waits after each of its pieces for the answers of the steps below.
@@ -186,5 +179,5 @@ fn is_answered_before_it_reads_on(rt: &impl Abort, alloc: Global, names: &Names<
 
 #[test]
 fn answers_before_it_reads_on(rt: HostRuntime) -> Result<(), Fail> {
-    over_names(&rt, rt.alloc(), Test::AnswersBeforeItReadsOn)
+    over_standard(&rt, rt.alloc(), Test::AnswersBeforeItReadsOn)
 }

@@ -113,8 +113,8 @@ pub fn submit(
 
 /// Asserts what the lines that check ask.
 fn check(rt: &impl Abort, names: &Names<Global>, vars: &Vars<Global>) {
-    for (line, subject, mode, object) in CHECKS {
-        let ask = Ask::Check(SubjectId(subject), ObjectId(object), mode);
+    for (line, subject, mode, object) in &CHECKS {
+        let ask = Ask::Check(SubjectId(*subject), ObjectId(*object), *mode);
         assert!(rt; is_asked(names, vars, line, ask));
         assert!(rt; bound_by(names, vars, line).is_none());
     }
@@ -125,7 +125,7 @@ pub fn lines_ask(rt: &impl Abort, names: &Names<Global>, vars: &Vars<Global>) {
     submit(rt, names, vars, &ACCESSES);
     submit(rt, names, vars, &CELLS);
     check(rt, names, vars);
-    for line in BLANKS {
+    for line in &BLANKS {
         assert!(rt; is_blank(names, vars, line));
     }
 }

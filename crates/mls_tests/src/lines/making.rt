@@ -77,24 +77,24 @@ fn submits(subject: u16, action: Action) -> Ask {
 
 /// Asserts what the lines that make an object ask and bind.
 fn make(rt: &impl Abort, names: &Names<Global>, vars: &Vars<Global>) {
-    for (line, bind, subject, parent, security, integrity) in MAKING {
-        let l = SecLabel::of(label(security));
-        let i = IntLabel::of(label(integrity));
-        let ask = submits(subject, Action::Create(ObjectId(parent), l, i));
+    for (line, bind, subject, parent, security, integrity) in &MAKING {
+        let l = SecLabel::of(label(*security));
+        let i = IntLabel::of(label(*integrity));
+        let ask = submits(*subject, Action::Create(ObjectId(*parent), l, i));
         assert!(rt; is_asked(names, vars, line, ask));
-        assert!(rt; bound_by(names, vars, line) == bind);
+        assert!(rt; bound_by(names, vars, line) == *bind);
     }
 }
 
 /// Asserts what the lines that change a level ask.
 fn change(rt: &impl Abort, names: &Names<Global>, vars: &Vars<Global>) {
-    for (line, subject, object, numbers) in LEVELS {
-        let l = SecLabel::of(label(numbers));
-        let action = match object {
+    for (line, subject, object, numbers) in &LEVELS {
+        let l = SecLabel::of(label(*numbers));
+        let action = match *object {
             Some(o) => Action::ObjectLevel(o, l),
             None => Action::SubjectLevel(l),
         };
-        assert!(rt; is_asked(names, vars, line, submits(subject, action)));
+        assert!(rt; is_asked(names, vars, line, submits(*subject, action)));
         assert!(rt; bound_by(names, vars, line).is_none());
     }
 }

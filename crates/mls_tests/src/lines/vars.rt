@@ -52,13 +52,13 @@ fn bind<A: Allocator + Copy>(
 /// Binds the variables in their order, and says how often memory was refused.
 fn bind_all<A: Allocator + Copy>(rt: &impl Abort, vars: &mut Vars<A>) -> u32 {
     let mut refusals = 0u32;
-    for (name, object) in BINDS {
-        if bind(rt, vars, name, ObjectId(object)) {
+    for (name, object) in &BINDS {
+        if bind(rt, vars, name, ObjectId(*object)) {
             refusals = refusals.saturating_add(1);
         }
     }
-    for (name, object) in BOUND {
-        assert!(rt; vars.get(name) == object, "{name} in the end");
+    for (name, object) in &BOUND {
+        assert!(rt; vars.get(name) == *object, "{name} in the end");
     }
     refusals
 }

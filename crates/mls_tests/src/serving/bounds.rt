@@ -1,6 +1,6 @@
 //! Lines and scripts at their limits.
 use super::streams::{Narrow, Pieces};
-use super::{Case, Left, Test, is_answered, over_names, run};
+use super::{Case, Left, Test, is_answered, over_standard, run};
 use mls_cli::{Names, SCRIPT_LIMIT, ServeFault};
 use std::alloc::{AllocError, Global};
 use std::process::Abort;
@@ -40,8 +40,8 @@ const LINES: [Case; 3] = [
 pub fn lines_are_bounded(rt: &impl Abort, alloc: Global, names: &Names<Global>) {
     let too_long: Case = (b"", b"bad form\n", 0);
     let far_too_long: Case = (b"\nann check read plans\n", b"bad form\nnot held\n", 0);
-    for (text, answers, entries) in LINES {
-        let within = is_answered_at(alloc, names, text, 20_000, (b"", answers, entries));
+    for (text, answers, entries) in &LINES {
+        let within = is_answered_at(alloc, names, text, 20_000, (b"", answers, *entries));
         assert!(rt; within == Ok(true), "after {answers:?}");
         let past = is_answered_at(alloc, names, text, 20_001, too_long);
         assert!(rt; past == Ok(true));
@@ -52,7 +52,7 @@ pub fn lines_are_bounded(rt: &impl Abort, alloc: Global, names: &Names<Global>) 
 
 #[test]
 fn lines_at_the_bounds(rt: HostRuntime) -> Result<(), Fail> {
-    over_names(&rt, rt.alloc(), Test::LinesAtTheBounds)
+    over_standard(&rt, rt.alloc(), Test::LinesAtTheBounds)
 }
 
 /// Serves so many newlines one by one, and tells how often the reader was called.
@@ -84,5 +84,5 @@ pub fn script_is_limited(rt: &impl Abort, alloc: Global, names: &Names<Global>) 
 
 #[test]
 fn a_script_at_its_limit(rt: HostRuntime) -> Result<(), Fail> {
-    over_names(&rt, rt.alloc(), Test::AScriptAtItsLimit)
+    over_standard(&rt, rt.alloc(), Test::AScriptAtItsLimit)
 }

@@ -1,6 +1,6 @@
 //! A reader that fails after each byte, and a writer that does.
 use super::streams::{Narrow, Pieces};
-use super::{Left, SHORT, SHORT_ANSWERS, Test, over_names, run};
+use super::{Left, SHORT, SHORT_ANSWERS, Test, over_standard, run};
 use mls_cli::{Names, ServeFault};
 use std::alloc::Global;
 use std::io::{BufWriter, ErrorKind, Write};
@@ -32,8 +32,8 @@ fn reader_fails(alloc: Global, names: &Names<Global>, count: usize, most: usize)
 /// Asserts what is left where a reader fails, after each byte of the short script.
 pub fn reader_fails_in_turn(rt: &impl Abort, alloc: Global, names: &Names<Global>) {
     for count in 0..60 {
-        for most in [1, 65_536] {
-            let is_right = reader_fails(alloc, names, count, most);
+        for most in &[1, 65_536] {
+            let is_right = reader_fails(alloc, names, count, *most);
             assert!(rt; is_right, "after {count}");
         }
     }
@@ -41,7 +41,7 @@ pub fn reader_fails_in_turn(rt: &impl Abort, alloc: Global, names: &Names<Global
 
 #[test]
 fn reader_fails_after_each_byte(rt: HostRuntime) -> Result<(), Fail> {
-    over_names(&rt, rt.alloc(), Test::ReaderFails)
+    over_standard(&rt, rt.alloc(), Test::ReaderFails)
 }
 
 /// Whether the short script into a writer that breaks off after `room` bytes ends so, with no entry after the line whose answer broke off.
@@ -94,5 +94,5 @@ pub fn writer_fails_in_turn(rt: &impl Abort, alloc: Global, names: &Names<Global
 
 #[test]
 fn writer_fails_after_each_byte(rt: HostRuntime) -> Result<(), Fail> {
-    over_names(&rt, rt.alloc(), Test::WriterFails)
+    over_standard(&rt, rt.alloc(), Test::WriterFails)
 }

@@ -1,7 +1,7 @@
 //! Each allocation refused in turn: the lines before are answered, and the rest of the script then as ever.
 use super::failures::count_lines;
 use super::streams::Pieces;
-use super::{Left, Test, entries_of_seven, over_names, standard_monitor};
+use super::{Left, Test, entries_of_seven, over_standard, standard_monitor};
 use mls_cli::{Names, ServeFault, serve};
 use mls_monitor::Monitor;
 use refusing::Refusing;
@@ -87,10 +87,12 @@ fn opens_and_serves(
     names: &Names<Global>,
     written: &mut Vec<u8>,
 ) -> (Asked, bool) {
-    match standard_monitor(heap) {
-        Ok(mut monitor) => serves(heap, names, &mut monitor, written),
-        Err(_) => (Asked::Opening, true),
-    }
+    let Ok(mut monitor) = standard_monitor(heap) else {
+        return (Asked::Opening, true);
+    };
+    let served = serves(heap, names, &mut monitor, written);
+    drop(monitor);
+    served
 }
 
 /// Where the allocation of this number is asked for, and whether all is as it must be.
@@ -122,5 +124,5 @@ pub fn allocations_are_refused(rt: &impl Abort, alloc: Global, names: &Names<Glo
 
 #[test]
 fn each_allocation_refused_in_turn(rt: HostRuntime) -> Result<(), Fail> {
-    over_names(&rt, rt.alloc(), Test::EachAllocationRefused)
+    over_standard(&rt, rt.alloc(), Test::EachAllocationRefused)
 }
