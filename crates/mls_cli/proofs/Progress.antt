@@ -1,5 +1,5 @@
 -- How far a script has come.
-use Rattle.std.proofs.Common.{◌≡◌, ℕ, ◌+◌, ◌-◌, ◌<◌, ◌≤◌, min, arith, List, [], ◌∷◌, ◌++◌, Option, Some, None, Result, Ok, Err, false, length, take, drop, sym, refl, ap, ◌∙◌, subst, append_assoc, append-nil, length-append, length-drop, take-append-drop, IfSome, inl, inr}
+use Rattle.std.proofs.Common.{◌≡◌, ℕ, ◌+◌, ◌<◌, ◌≤◌, arith, List, [], ◌∷◌, ◌++◌, Option, Some, None, Result, Ok, Err, false, length, take, sym, refl, ap, ◌∙◌, subst, append_assoc, append-nil, length-append, IfSome, inl, inr}
 use Rattle.std.proofs.lemmas.List.{take_all, take-append-le}
 use Rattle.std.proofs.Math.Seq.{take-append-add}
 use Rattle.std.proofs.KnownBytes.{Consumes-trans, Consumes-nil, Consumes-kept}

@@ -1,4 +1,4 @@
-use Rattle.std.proofs.Common.{length, sym, ap, ◌∙◌, subst, ◌<◌}
+use Rattle.std.proofs.Common.{length, sym, ◌∙◌, subst, ◌<◌}
 use Rattle.mls_cli.proofs.Pieces.{ends_empty, ends_line}
 use Rattle.mls_cli.proofs.served.Served.take_end.Goals as goal
 
