@@ -8,6 +8,7 @@ mod streams;
 use crate::standard::{self, over_names};
 use bounds::{lines_are_bounded, script_is_limited};
 use failures::{reader_fails_in_turn, writer_fails_in_turn};
+use flushes::{all_is_flushed, failed_flush_leaves_what_was_read};
 use mls_cli::{Names, ServeFault, serve};
 use mls_monitor::{Entry, Monitor};
 use mls_rules::Start;
@@ -35,6 +36,8 @@ pub enum Test {
     ReaderFails,
     WriterFails,
     EachAllocationRefused,
+    AllIsFlushed,
+    AFlushThatFails,
 }
 
 /// Asserts what a test does.
@@ -47,6 +50,8 @@ pub fn assert_over(rt: &impl Abort, alloc: Global, names: &Names<Global>, test: 
         Test::ReaderFails => reader_fails_in_turn(rt, alloc, names),
         Test::WriterFails => writer_fails_in_turn(rt, alloc, names),
         Test::EachAllocationRefused => allocations_are_refused(rt, alloc, names),
+        Test::AllIsFlushed => all_is_flushed(rt, alloc, names),
+        Test::AFlushThatFails => failed_flush_leaves_what_was_read(rt, alloc, names),
     }
 }
 
