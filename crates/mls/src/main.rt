@@ -16,7 +16,7 @@ fn has_words(env: &impl Env) -> bool {
     !matches!(env.arg(1, &mut [0u8; 1]), Err(FillError::NotPresent))
 }
 
-/// The line on standard error where memory was refused.
+/// The line on standard error where an allocation failed.
 const NO_MEMORY: &str = "mls: memory";
 
 /// The line on standard error where the standard start was refused.

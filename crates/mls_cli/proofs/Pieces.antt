@@ -1,6 +1,6 @@
 -- What the lines of one piece of a script come to.
 use Rattle.std.proofs.Math.Dec.{eqb-suc-zero}
-use Rattle.std.proofs.Common.{◌≡◌, ℕ, ◌<◌, arith, List, [], ◌∷◌, ◌++◌, Option, Result, Ok, Err, OnOk, IfErr, false, true, length, sym, refl, ap, ◌∙◌, subst, append_assoc, append-nil, eqb, inl, inr, ◌⊎◌}
+use Rattle.std.proofs.Common.{◌≡◌, ℕ, ◌<◌, arith, List, [], ◌∷◌, ◌++◌, Option, Result, Ok, Err, OnOk, IfErr, false, true, length, sym, refl, ap, ◌∙◌, subst, append_assoc, append-nil, eqb, inl, inr, ◌⊎◌, MatchResult}
 use Rattle.std.specs.Io.KnownBytes.{Keeps}
 use Rattle.mls_cli.specs.Lines.{lines_of, closed_lines, open_part, has_newline, kept_of, Cuts}
 use Rattle.mls_lines.specs.Names.{Names}
@@ -156,16 +156,15 @@ module _ (names : Names) (session : ℕ) where
 
   -- a piece, once the writer was flushed
   pub feeds_settled : (held holds flushed : Option (List ℕ)) (before after : Standing) (kept keeps piece : List ℕ) (outcome result : Result (Unit {0}) ServeFault)
-      → Feeds names session held holds before after kept keeps piece outcome → Keeps holds flushed → (result ≡ outcome) ⊎ (result ≡ Err Write)
+      → Feeds names session held holds before after kept keeps piece outcome → Keeps holds flushed
+      → MatchResult outcome (λ _. (result ≡ outcome) ⊎ (result ≡ Err Write)) (λ _. result ≡ outcome)
       → Takes names session held flushed before after kept keeps piece result
   feeds_settled held holds flushed before after kept keeps piece (Ok x) result f k (inl same) line none is =
       rw same (Answers-kept names session held holds flushed before after (closed_lines (line ++ piece)) (f line none is).0 k, (f line none is).1)
-  feeds_settled held holds flushed before after kept keeps piece (Err fault) result f k (inl same) line none is =
-      rw same (Stops-flushed names session held holds flushed before after (closed_lines (line ++ piece)) fault (f line none is) k)
   feeds_settled held holds flushed before after kept keeps piece (Ok x) result f k (inr failed) line none is =
-      rw failed (flush_failed names session held holds flushed before after (closed_lines (line ++ piece)) (Ok x) (f line none is).0 k)
-  feeds_settled held holds flushed before after kept keeps piece (Err fault) result f k (inr failed) line none is =
-      rw failed (flush_failed names session {X = Unit {0}} held holds flushed before after (closed_lines (line ++ piece)) (Err fault) (f line none is) k)
+      rw failed (flush_failed names session held holds flushed before after (closed_lines (line ++ piece)) (f line none is).0 k)
+  feeds_settled held holds flushed before after kept keeps piece (Err fault) result f k same line none is =
+      rw same (Stops-flushed names session held holds flushed before after (closed_lines (line ++ piece)) fault (f line none is) k)
 
   -- the end of a script that has no unfinished line
   pub ends_empty : (held : Option (List ℕ)) (before : Standing) (kept line : List ℕ) → length kept ≡ 0 → kept ≡ kept_of line
@@ -177,7 +176,7 @@ module _ (names : Names) (session : ℕ) where
   pub ends_line : (held holds flushed : Option (List ℕ)) (before after : Standing) (kept line : List ℕ) (outcome result : Result (Unit {0}) ServeFault)
       → 0 < length kept
       → Replies held holds before after (answer_to names before kept) (after_line names session before kept) outcome
-      → Keeps holds flushed → (result ≡ outcome) ⊎ (result ≡ Err Write)
+      → Keeps holds flushed → MatchResult outcome (λ _. (result ≡ outcome) ⊎ (result ≡ Err Write)) (λ _. result ≡ outcome)
       → has_newline line ≡ false → kept ≡ kept_of line
       → AnswersOrFails names session held flushed before after (lines_of line) result
   ends_line held holds flushed before after kept line outcome result some reply k which none is =

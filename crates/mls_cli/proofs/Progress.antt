@@ -195,7 +195,7 @@ module _ (names : Names) (session : ℕ) where
   fails_start : (held holds : Option (List ℕ)) (before after : Standing) (lines : List (List ℕ)) (fault : ServeFault) → Fails names session held holds before after lines fault → after.start ≡ before.start
   fails_start held holds before after lines Read s = absurd s
   fails_start held holds before after lines Write (inl s) = ap (λ (t : Standing). t.start) s.asked ∙ lines_start before (s.front ++ s.line ∷ [])
-  fails_start held holds before after lines Write (inr s) = unless_start held holds before after lines s
+  fails_start held holds before after lines Write (inr s) = ap (λ (t : Standing). t.start) s.stands ∙ lines_start before lines
   fails_start held holds before after lines Memory s = unless_start held holds before after lines s
   fails_start held holds before after lines TooLong s = absurd s
 

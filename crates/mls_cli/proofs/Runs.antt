@@ -1,5 +1,5 @@
 -- What answers to lines one after another are.
-use Rattle.std.proofs.Common.{◌≡◌, ℕ, ◌<◌, List, [], ◌∷◌, ◌++◌, Option, Result, Ok, Err, length, sym, refl, ap, ◌∙◌, subst, append_assoc, append-nil, inl, inr, ◌⊎◌}
+use Rattle.std.proofs.Common.{◌≡◌, ℕ, ◌<◌, List, [], ◌∷◌, ◌++◌, Option, Result, Ok, Err, length, sym, refl, ap, ◌∙◌, subst, append_assoc, append-nil, inl, inr, ◌⊎◌, MatchResult}
 use Rattle.std.proofs.KnownBytes.{Appends-trans, Appends-nil, Appends-kept}
 use Rattle.std.specs.Io.KnownBytes.{Appends, Keeps}
 use Rattle.mls_cli.specs.Lines.{open_part, closed_lines}
@@ -168,7 +168,7 @@ module _ (names : Names) (session : ℕ) where
   pub Fails-after : (a b c : Option (List ℕ)) (i j k : Standing) (front lines : List (List ℕ)) (fault : ServeFault) → Answers names session a b i j front → Fails names session b c j k lines fault → Fails names session a c i k (front ++ lines) fault
   Fails-after a b c i j k front lines Read first s = s
   Fails-after a b c i j k front lines Write first (inl s) = inl (broken_after a b c i j k front lines first s)
-  Fails-after a b c i j k front lines Write first (inr s) = inr (unless_after a b c i j k front lines first s)
+  Fails-after a b c i j k front lines Write first (inr s) = inr (Answers-trans a b c i j k front lines first s)
   Fails-after a b c i j k front lines Memory first s = unless_after a b c i j k front lines first s
   Fails-after a b c i j k front lines TooLong first s = s
 
@@ -204,26 +204,16 @@ module _ (names : Names) (session : ℕ) where
   Stops-flushed a b c i j lines Memory s k = unless_kept a b c i j lines s k
   Stops-flushed a b c i j lines TooLong s k = s
 
-  -- where the flush fails, so did the writer
-  pub flush_failed : {X : Type 0} (a b c : Option (List ℕ)) (i j : Standing) (lines : List (List ℕ)) (outcome : Result X ServeFault)
-      → AnswersOrStops names session a b i j lines outcome → Keeps b c → Fails names session a c i j lines Write
-  flush_failed a b c i j lines (Ok x) s k = inr (inl (Answers-kept a b c i j lines s k))
-  flush_failed a b c i j lines (Err Read) s k = absurd s
-  flush_failed a b c i j lines (Err Write) s k = inl (broken_kept a b c i j lines s k)
-  flush_failed a b c i j lines (Err Memory) s k = inr (unless_kept a b c i j lines s k)
-  flush_failed a b c i j lines (Err TooLong) s k = absurd s
+  -- where all lines are answered, the flush may fail
+  pub flush_failed : (a b c : Option (List ℕ)) (i j : Standing) (lines : List (List ℕ)) → Answers names session a b i j lines → Keeps b c → Fails names session a c i j lines Write
+  flush_failed a b c i j lines s k = inr (Answers-kept a b c i j lines s k)
 
-  -- an outcome, once the writer was flushed
-  flushed : {X : Type 0} (a b c : Option (List ℕ)) (i j : Standing) (lines : List (List ℕ)) (outcome : Result X ServeFault)
-      → AnswersOrStops names session a b i j lines outcome → Keeps b c → AnswersOrFails names session a c i j lines outcome
-  flushed a b c i j lines (Ok x) s k = Answers-kept a b c i j lines s k
-  flushed a b c i j lines (Err fault) s k = Stops-flushed a b c i j lines fault s k
-
-  pub settled : {X : Type 0} (a b c : Option (List ℕ)) (i j : Standing) (lines : List (List ℕ)) (outcome result : Result X ServeFault)
-      → AnswersOrStops names session a b i j lines outcome → Keeps b c → (result ≡ outcome) ⊎ (result ≡ Err Write)
+  pub settled : (a b c : Option (List ℕ)) (i j : Standing) (lines : List (List ℕ)) (outcome result : Result (Unit {0}) ServeFault)
+      → AnswersOrStops names session a b i j lines outcome → Keeps b c → MatchResult outcome (λ _. (result ≡ outcome) ⊎ (result ≡ Err Write)) (λ _. result ≡ outcome)
       → AnswersOrFails names session a c i j lines result
-  settled a b c i j lines outcome result s k (inl same) = rw same (flushed a b c i j lines outcome s k)
-  settled a b c i j lines outcome result s k (inr failed) = rw failed (flush_failed a b c i j lines outcome s k)
+  settled a b c i j lines (Ok x) result s k (inl same) = rw same (Answers-kept a b c i j lines s k)
+  settled a b c i j lines (Ok x) result s k (inr failed) = rw failed (flush_failed a b c i j lines s k)
+  settled a b c i j lines (Err fault) result s k same = rw same (Stops-flushed a b c i j lines fault s k)
 
   -- a piece more of a script of which a front was answered
   pub answered_more : (a b c : Option (List ℕ)) (i j k : Standing) (front more : List ℕ) → Answers names session a b i j (closed_lines front) → Answers names session b c j k (closed_lines (open_part front ++ more))

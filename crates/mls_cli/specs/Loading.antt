@@ -4,7 +4,7 @@ use Rattle.mls_labels.specs.declared.scheme_fault.SchemeFault.TheVariants as ref
 use Rattle.mls_cli.specs.declared.loaded.LoadFault.{LoadFault}
 use Rattle.mls_cli.specs.declared.loaded.LoadFault.TheVariants.{Scheme, Memory}
 
--- The fault of a start whose scheme is refused: want of memory is that, whatever met it. (own)
+-- The fault of a start whose scheme is refused: out of memory is that, whatever met it. (own)
 abbrev pub load_fault : SchemeFault → LoadFault
 load_fault refused.NoLevels = Scheme refused.NoLevels
 load_fault refused.TooManyLevels = Scheme refused.TooManyLevels

@@ -44,25 +44,25 @@ pub record BreaksOff (names : Names) (session : ℕ) (held holds : Option (List 
   pub short : 0 < length lost
   pub written : Appends held holds (answers names session before front ++ text)
 
--- All of the lines were answered, or, where memory was refused to one of them, those before it. (own)
+-- All of the lines were answered, or those before the one for which an allocation failed. (own)
 abbrev pub AnswersUnlessRefused : Names → ℕ → Option (List ℕ) → Option (List ℕ) → Standing → Standing → List (List ℕ) → Type 0
 AnswersUnlessRefused names session held holds before after lines =
     Answers names session held holds before after lines ⊎ AnswersBefore names session held holds before after lines
 
--- What stands where answering lines stopped by a fault, before the writer is flushed: it fails within an answer alone. Memory is refused
--- to one of the lines, or, once all are answered, to what is kept of a line that isn't complete. (own)
+-- What stands where answering lines stopped by a fault, before the writer is flushed: it fails within an answer alone. An allocation
+-- fails for one of the lines, or, once all are answered, for what is kept of a line that isn't complete. (own)
 abbrev pub Stops : Names → ℕ → Option (List ℕ) → Option (List ℕ) → Standing → Standing → List (List ℕ) → ServeFault → Type 0
 Stops names session held holds before after lines Read = ⊥
 Stops names session held holds before after lines Write = BreaksOff names session held holds before after lines
 Stops names session held holds before after lines Memory = AnswersUnlessRefused names session held holds before after lines
 Stops names session held holds before after lines TooLong = ⊥
 
--- What stands where answering lines stopped by a fault, once the writer was to be flushed. An answer broke off; or the flush failed, and
--- all of the lines were answered, or, where memory was refused too, those before the one that met it. (own)
+-- What stands where answering lines stopped by a fault, once the writer was to be flushed. For `Write`, an answer broke off, or the flush
+-- failed and all of the lines were answered. (own)
 abbrev pub Fails : Names → ℕ → Option (List ℕ) → Option (List ℕ) → Standing → Standing → List (List ℕ) → ServeFault → Type 0
 Fails names session held holds before after lines Read = ⊥
 Fails names session held holds before after lines Write =
-    BreaksOff names session held holds before after lines ⊎ AnswersUnlessRefused names session held holds before after lines
+    BreaksOff names session held holds before after lines ⊎ Answers names session held holds before after lines
 Fails names session held holds before after lines Memory = AnswersUnlessRefused names session held holds before after lines
 Fails names session held holds before after lines TooLong = ⊥
 

@@ -1,5 +1,5 @@
 //! Writing answers.
-ghost use Rattle.std.specs.Prelude.{◌≡◌, ◌≤◌, ◌++◌, ◌∷◌, ◌⊎◌, [], List, ℕ, length, Err, false};
+ghost use Rattle.std.specs.Prelude.{◌≡◌, ◌<◌, ◌≤◌, ◌+◌, ◌++◌, ◌∷◌, ◌⊎◌, [], List, ℕ, length, Err, false, MatchResult};
 ghost use Rattle.std.specs.Io.KnownBytes.{Keeps};
 ghost use Rattle.mls_requests.specs.ReplyWords.{reply_text};
 ghost use Rattle.mls_cli.specs.Script.{answer_bytes};
@@ -7,7 +7,7 @@ ghost use Rattle.mls_cli.specs.Serve.{Writes};
 
 use crate::answer::Answer;
 use crate::serving::ServeFault;
-use arrayvec::ArrayString;
+use arrayvec::ArrayVec;
 use itoa::Buffer;
 use mls_requests::{Reply, ReplyWord};
 use std::io::Write;
@@ -32,6 +32,16 @@ fn write_out<W: Write>(writer: &mut W, text: &[u8]) -> Result<(), ServeFault>
     Ok(())
 }
 
+/// Adds a word and a byte after it to a line that has room for them.
+fn add(line: &mut ArrayVec<u8, LINE_ROOM>, word: &str, after: u8)
+    requires { length line.old.items + length word.now < LINE_ROOM }
+    ensures { line.new.items ≡ line.old.items ++ word.now ++ after ∷ [] }
+{
+    // that there was room for the word
+    let _ = line.try_extend_from_slice(word.as_bytes());
+    line.push(after);
+}
+
 /// Writes a text as a line. The line is made up first, so that the writer is handed it at once.
 ///
 /// # Errors
@@ -40,10 +50,9 @@ fn write_line<W: Write>(writer: &mut W, text: &str) -> Result<(), ServeFault>
     requires { length text.now ≤ LONGEST_WORD }
     ensures { Writes (W.contents writer.old) (W.contents writer.new) (text.now ++ 10 ∷ []) result }
 {
-    let mut line = ArrayString::<LINE_ROOM>::new();
-    line.push_str(text);
-    line.push_str("\n");
-    write_out(writer, line.as_str().as_bytes())
+    let mut line = ArrayVec::new();
+    add(&mut line, text, b'\n');
+    write_out(writer, &line)
 }
 
 /// Writes two words as a line, with a space between them. The line is made up first, so that the writer is handed it at once.
@@ -55,12 +64,10 @@ fn write_pair<W: Write>(writer: &mut W, first: &str, second: &str) -> Result<(),
     requires second { length second.now ≤ LONGEST_WORD }
     ensures { Writes (W.contents writer.old) (W.contents writer.new) (first.now ++ 32 ∷ second.now ++ 10 ∷ []) result }
 {
-    let mut line = ArrayString::<LINE_ROOM>::new();
-    line.push_str(first);
-    line.push_str(" ");
-    line.push_str(second);
-    line.push_str("\n");
-    write_out(writer, line.as_str().as_bytes())
+    let mut line = ArrayVec::new();
+    add(&mut line, first, b' ');
+    add(&mut line, second, b'\n');
+    write_out(writer, &line)
 }
 
 /// Writes a reply.
@@ -100,17 +107,21 @@ pub fn write_answer<W: Write>(writer: &mut W, answer: Answer) -> Result<(), Serv
     }
 }
 
-/// Flushes a writer where an answer was written, after lines were answered with this outcome.
+/// Flushes a writer where an answer was written, after lines were answered with this outcome. A fault that came before the flush stays.
+///
+/// # Errors
+/// The outcome's, or `Write` where there is none and the flush fails.
 pub fn settle<W: Write>(
     writer: &mut W,
     wrote: bool,
     outcome: Result<(), ServeFault>,
 ) -> Result<(), ServeFault>
     ensures same { Keeps (W.contents writer.old) (W.contents writer.new) }
-    ensures outcome { (result ≡ outcome) ⊎ (result ≡ Err ServeFault.Write) }
+    ensures outcome { MatchResult outcome (λ _. (result ≡ outcome) ⊎ (result ≡ Err ServeFault.Write)) (λ _. result ≡ outcome) }
     ensures quiet { wrote ≡ false → result ≡ outcome }
 {
-    if wrote && outcome != Err(ServeFault::Write) && writer.flush().is_err() {
+    let failed = wrote && outcome != Err(ServeFault::Write) && writer.flush().is_err();
+    if failed && outcome.is_ok() {
         return Err(ServeFault::Write);
     }
     outcome

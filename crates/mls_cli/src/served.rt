@@ -103,8 +103,8 @@ impl<N: Allocator, V: Allocator + Copy> Served<'_, N, V> {
     /// Takes one more piece: answers the lines that are complete with it, and flushes the writer where an answer was written.
     ///
     /// # Errors
-    /// - `Write` where the writer failed within an answer, or at the flush.
-    /// - `Memory` where there was no memory for a line; the lines before it are answered.
+    /// - `Write` where the writer failed within an answer, or at the flush once all lines were answered.
+    /// - `Memory` where an allocation failed for a line; the lines before it are answered.
     pub fn take_piece<W: Write, A: Allocator>(
         &mut self,
         monitor: &mut Monitor<A>,

@@ -27,7 +27,7 @@ pub enum ServeFault {
     /// The writer failed or took nothing. An interrupted write or flush counts as failed.
     #[error("the writer failed")]
     Write,
-    /// There was no memory for what a line needs.
+    /// An allocation failed that a line needs.
     #[error("out of memory")]
     Memory,
     /// The script is longer than `SCRIPT_LIMIT`.
@@ -104,9 +104,10 @@ fn serve_pieces<R: Read, W: Write, A: Allocator, N: Allocator, V: Allocator + Co
 /// # Errors
 /// The monitor is always as after the requests that were asked, each with its entry, and keeps its start.
 /// - `Read`: the lines that were complete are answered, and no other line was asked.
-/// - `Write`: an answer broke off, which was the last that was asked for; or the writer failed when it was flushed, and the
-///   lines that were complete in what was read are answered, or, where memory was refused too, those before the one that met it.
-/// - `Memory`: the lines before are answered, and the line that met it added no entry.
+/// - `Write`: an answer broke off, which was the last that was asked for; or the writer failed when it was flushed, and all
+///   lines that were complete in what was read are answered, at the end of input the last line too.
+/// - `Memory`: an allocation failed; the lines before are answered, and the line that met it added no entry. The writer is flushed
+///   all the same, and where that fails too, the result is still `Memory`.
 /// - `TooLong`: the lines whose newlines are within the limit are answered.
 pub fn serve<R: Read, W: Write, A: Allocator, B: Allocator, N: Allocator>(
     alloc: A,

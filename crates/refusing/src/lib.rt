@@ -1,4 +1,4 @@
-//! An allocator for tests that refuses one allocation, so that each want of memory can be met in turn.
+//! An allocator for tests that refuses one allocation, so that each allocation can fail in turn.
 #![tactic(auto)]
 
 mod allocator;

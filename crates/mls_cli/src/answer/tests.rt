@@ -53,7 +53,7 @@ fn standard_monitor<A: Allocator + Copy>(alloc: A) -> Result<Monitor<A>, AllocEr
     Monitor::open(alloc, Start::standard(alloc)?).map_err(|_| AllocError)
 }
 
-/// Answers a line, again where memory was refused, and says whether it was.
+/// Answers a line, again where an allocation failed, and says whether one did.
 fn answered<A: Allocator + Copy>(
     rt: &impl Abort,
     script: &Script<'_, Global>,
@@ -73,7 +73,7 @@ fn answered<A: Allocator + Copy>(
     refused
 }
 
-/// Answers the lines, and says how often memory was refused.
+/// Answers the lines, and says how often an allocation failed.
 fn all_answered<A: Allocator + Copy>(
     rt: &impl Abort,
     script: &Script<'_, Global>,
@@ -90,7 +90,7 @@ fn all_answered<A: Allocator + Copy>(
     refusals
 }
 
-/// Answers the lines over a new monitor, and says how often memory was refused: not at all where it was refused to the opening.
+/// Answers the lines over a new monitor, and says how often an allocation failed: not at all where the opening's did.
 fn run(rt: &impl Abort, script: &Script<'_, Global>, heap: &Refusing<Global>) -> u32 {
     let Ok(mut monitor) = standard_monitor(heap) else {
         return 0;

@@ -1,4 +1,4 @@
-//! Variables that are bound, bound again, and refused memory.
+//! Variables that are bound, bound again, and the allocations that they need.
 use mls_cli::Vars;
 use mls_tables::ObjectId;
 use refusing::Refusing;
@@ -32,7 +32,7 @@ const BOUND: [(&str, Option<ObjectId>); 7] = [
     ("ab", None),
 ];
 
-/// Binds a variable, again where memory was refused, and says whether it was.
+/// Binds a variable, again where an allocation failed, and says whether one did.
 fn bind<A: Allocator + Copy>(
     rt: &impl Abort,
     vars: &mut Vars<A>,
@@ -49,7 +49,7 @@ fn bind<A: Allocator + Copy>(
     refused
 }
 
-/// Binds the variables in their order, and says how often memory was refused.
+/// Binds the variables in their order, and says how often an allocation failed.
 fn bind_all<A: Allocator + Copy>(rt: &impl Abort, vars: &mut Vars<A>) -> u32 {
     let mut refusals = 0u32;
     for (name, object) in &BINDS {
@@ -105,7 +105,7 @@ fn bind_reserved_binds(rt: HostRuntime) {
     }
 }
 
-/// Binds new variables over an allocator, and says how often memory was refused.
+/// Binds new variables over an allocator, and says how often an allocation failed.
 fn run(rt: &impl Abort, heap: &Refusing<Global>) -> u32 {
     let mut vars = Vars::new(heap);
     bind_all(rt, &mut vars)
