@@ -10,7 +10,8 @@ use std::marker::Model;
 /// scheme; a label itself belongs to no scheme.
 #[derive(Clone, Copy, Debug, PartialEq, Eq)]
 pub struct Label {
-    level: u8,
+    /// A whole word: a label then has no byte that means nothing, and a copy of it is two moves.
+    level: u64,
     cats: CatSet,
 }
 
@@ -36,6 +37,7 @@ impl Label {
         requires { level < MAX_LEVELS }
         ensures { result ≡ record { level = level; categories = cats } }
     {
+        let level = level as u64;
         Label { level, cats }
     }
 
@@ -44,7 +46,7 @@ impl Label {
         ensures level { result ≡ self.level }
         ensures limit { result < MAX_LEVELS }
     {
-        self.level
+        self.level as u8
     }
 
     /// The label's categories.
