@@ -112,11 +112,12 @@ fn made<'a>(
 /// Writes a label into a text; where an allocation fails nothing is written, and the same call again writes it.
 fn writes_into<'a>(
     rt: &impl Abort,
-    heap: &Refusing<Global>,
+    heap: &'a Refusing<Global>,
     scheme: &Scheme<&'a Refusing<Global>>,
-    label: Label,
     text: &mut String<&'a Refusing<Global>>,
 ) -> Result<(), AllocError> {
+    let label = scheme.read("S:B,A").expect(rt, "a label text");
+    assert!(rt; scheme.bounds() == Bounds::new(4, 2) && label == secret());
     if scheme.write(label, text).is_err() {
         assert!(rt; heap.has_refused() && text.is_empty());
         scheme.write(label, text)?;
@@ -127,15 +128,13 @@ fn writes_into<'a>(
 
 /// Writes a label over a heap that may refuse an allocation: where it does, nothing is written, and the same
 /// call again writes it.
-fn writes(
+fn writes<'a>(
     rt: &impl Abort,
-    heap: &Refusing<Global>,
-    scheme: &Scheme<&Refusing<Global>>,
+    heap: &'a Refusing<Global>,
+    scheme: &Scheme<&'a Refusing<Global>>,
 ) -> Result<(), AllocError> {
-    let label = scheme.read("S:B,A").expect(rt, "a label text");
-    assert!(rt; scheme.bounds() == Bounds::new(4, 2) && label == secret());
     let mut text = String::new(heap);
-    let written = writes_into(rt, heap, scheme, label, &mut text);
+    let written = writes_into(rt, heap, scheme, &mut text);
     drop(text);
     written
 }
