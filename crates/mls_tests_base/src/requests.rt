@@ -55,44 +55,47 @@ const OTHERS: [&str; 6] = ["", "re", "reads", "READ", "get", "yes "];
 
 #[test]
 fn modes_have_words(rt: HostRuntime) {
-    for (mode, word) in MODES {
-        assert!(rt; mode_word(mode) == word, "{word}");
-        assert!(rt; read_mode(word.as_bytes()) == Some(mode), "{word}");
+    for (mode, word) in &MODES {
+        assert!(rt; mode_word(*mode) == *word, "{word}");
+        assert!(rt; read_mode(word.as_bytes()) == Some(*mode), "{word}");
     }
-    for word in OTHERS {
+    for word in &OTHERS {
         assert!(rt; read_mode(word.as_bytes()) == None, "{word}");
     }
 }
 
 #[test]
 fn reasons_have_words(rt: HostRuntime) {
-    for (reason, word) in REASONS {
-        assert!(rt; reason.word() == word, "{word}");
-        assert!(rt; Reason::read(word.as_bytes()) == Some(reason), "{word}");
+    for (reason, word) in &REASONS {
+        assert!(rt; reason.word() == *word, "{word}");
+        assert!(rt; Reason::read(word.as_bytes()) == Some(*reason), "{word}");
     }
-    for word in OTHERS {
+    for word in &OTHERS {
         assert!(rt; Reason::read(word.as_bytes()) == None, "{word}");
     }
 }
 
 #[test]
 fn actions_have_words(rt: HostRuntime) {
-    for (action, word) in ACTIONS {
-        assert!(rt; action.word() == word, "{word}");
-        assert!(rt; ActionWord::read(word.as_bytes()) == Some(action), "{word}");
+    for (action, word) in &ACTIONS {
+        assert!(rt; action.word() == *word, "{word}");
+        assert!(rt;
+            ActionWord::read(word.as_bytes()) == Some(*action),
+            "{word}"
+        );
     }
-    for word in OTHERS {
+    for word in &OTHERS {
         assert!(rt; ActionWord::read(word.as_bytes()) == None, "{word}");
     }
 }
 
 #[test]
 fn replies_have_words(rt: HostRuntime) {
-    for (reply, word) in REPLIES {
-        assert!(rt; reply.word() == word, "{word}");
-        assert!(rt; ReplyWord::read(word.as_bytes()) == Some(reply), "{word}");
+    for (reply, word) in &REPLIES {
+        assert!(rt; reply.word() == *word, "{word}");
+        assert!(rt; ReplyWord::read(word.as_bytes()) == Some(*reply), "{word}");
     }
-    for word in OTHERS {
+    for word in &OTHERS {
         assert!(rt; ReplyWord::read(word.as_bytes()) == None, "{word}");
     }
 }
@@ -119,8 +122,8 @@ fn actions() -> [Action; 11] {
 
 #[test]
 fn actions_are_of_their_words(rt: HostRuntime) {
-    for (action, (named, word)) in actions().iter().zip(ACTIONS) {
-        assert!(rt; ActionWord::of(*action) == named, "{word}");
+    for (action, (named, word)) in actions().iter().zip(&ACTIONS) {
+        assert!(rt; ActionWord::of(*action) == *named, "{word}");
     }
 }
 
@@ -136,8 +139,8 @@ fn replies() -> [Reply; 4] {
 
 #[test]
 fn replies_are_of_their_words(rt: HostRuntime) {
-    for (reply, (named, word)) in replies().iter().zip(REPLIES) {
-        assert!(rt; ReplyWord::of(*reply) == named, "{word}");
+    for (reply, (named, word)) in replies().iter().zip(&REPLIES) {
+        assert!(rt; ReplyWord::of(*reply) == *named, "{word}");
     }
 }
 

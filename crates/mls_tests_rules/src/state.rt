@@ -43,6 +43,7 @@ fn changes_an_access<A: Allocator>(rt: &impl Abort, state: &mut State<A>) {
 fn an_access_comes_and_goes(rt: HostRuntime) -> Result<(), Fail> {
     let mut state = opened(rt.alloc())?;
     changes_an_access(&rt, &mut state);
+    drop(state);
     Ok(())
 }
 
@@ -61,30 +62,44 @@ fn changes_a_cell<A: Allocator>(rt: &impl Abort, state: &mut State<A>) {
 fn a_cell_comes_and_goes(rt: HostRuntime) -> Result<(), Fail> {
     let mut state = opened(rt.alloc())?;
     changes_a_cell(&rt, &mut state);
+    drop(state);
     Ok(())
+}
+
+/// Asserts where an object that was made stands, and its label.
+fn is_made<A: Allocator>(rt: &impl Abort, state: &State<A>, made: ObjectId) {
+    assert!(rt; state.is_active(made) && state.is_active(PLANS));
+    assert!(rt; state.parent(made) == Some(PLANS));
+    assert!(rt; state.children(PLANS) == [made].as_slice());
+    assert!(rt; state.object_label(made) == security(2));
+}
+
+/// Takes out an object with the one below it, on which something is permitted, and asserts that both are gone.
+fn is_taken_out<A: Allocator>(rt: &impl Abort, state: &mut State<A>, made: ObjectId) {
+    assert!(rt; state.is_subject(ANN) && state.is_active(made));
+    state.permit(ANN, made, Mode::Read);
+    assert!(rt; state.is_active(PLANS) && PLANS != ROOT);
+    assert!(rt; state.remove_object(PLANS) == Ok(()));
+    assert!(rt; !state.is_active(PLANS) && !state.is_active(made) && state.next() == 5);
 }
 
 /// Asserts what becomes of one object, and of the triples that name it.
 fn changes_an_object<A: Allocator>(rt: &impl Abort, state: &mut State<A>) {
-    let made = ObjectId(4);
     let labels = ObjectLabels {
         security: security(2),
         integrity: IntLabel::of(Label::new(1, CatSet::empty())),
     };
     assert!(rt; state.is_active(PLANS) && state.next() == 4);
     assert!(rt; state.add_object(PLANS, labels) == Ok(()));
-    assert!(rt; state.is_subject(ANN) && state.is_active(made) && state.is_active(PLANS));
-    assert!(rt; state.parent(made) == Some(PLANS) && state.children(PLANS) == [made].as_slice());
-    assert!(rt; state.object_label(made) == security(2));
-    state.permit(ANN, made, Mode::Read);
-    assert!(rt; PLANS != ROOT && state.remove_object(PLANS) == Ok(()));
-    assert!(rt; !state.is_active(PLANS) && !state.is_active(made) && state.next() == 5);
+    is_made(rt, state, ObjectId(4));
+    is_taken_out(rt, state, ObjectId(4));
 }
 
 #[test]
 fn an_object_comes_and_goes(rt: HostRuntime) -> Result<(), Fail> {
     let mut state = opened(rt.alloc())?;
     changes_an_object(&rt, &mut state);
+    drop(state);
     Ok(())
 }
 
@@ -102,16 +117,22 @@ fn changes_labels<A: Allocator>(rt: &impl Abort, state: &mut State<A>) {
 fn labels_change(rt: HostRuntime) -> Result<(), Fail> {
     let mut state = opened(rt.alloc())?;
     changes_labels(&rt, &mut state);
+    drop(state);
     Ok(())
 }
 
-/// Asserts which tests the triples of the standard start's opening pass.
+/// Asserts which tests of permission and simple security the triples of the standard start's opening pass.
 fn tests_triples<A: Allocator>(rt: &impl Abort, state: &State<A>) {
     assert!(rt; state.is_subject(BOB) && state.is_active(PLANS) && state.is_active(MEMO));
     assert!(rt; discretionary_holds(state, BOB, PLANS, Mode::Append));
     assert!(rt; !discretionary_holds(state, BOB, PLANS, Mode::Read));
     assert!(rt; simple_holds(state, BOB, MEMO, Mode::Read));
     assert!(rt; !simple_holds(state, BOB, PLANS, Mode::Read));
+}
+
+/// Asserts which tests of star and integrity the triples of the standard start's opening pass.
+fn tests_star_and_integrity<A: Allocator>(rt: &impl Abort, state: &State<A>) {
+    assert!(rt; state.is_subject(BOB) && state.is_active(PLANS) && state.is_active(MEMO));
     assert!(rt; star_holds(state, BOB, PLANS, Mode::Append));
     assert!(rt; !star_holds(state, BOB, MEMO, Mode::Read));
     assert!(rt; integrity_holds(state, BOB, MEMO, Mode::Append));
@@ -122,6 +143,8 @@ fn tests_triples<A: Allocator>(rt: &impl Abort, state: &State<A>) {
 fn triples_are_tested(rt: HostRuntime) -> Result<(), Fail> {
     let state = opened(rt.alloc())?;
     tests_triples(&rt, &state);
+    tests_star_and_integrity(&rt, &state);
+    drop(state);
     assert!(rt; star_between(security(1), security(2), Mode::Append));
     assert!(rt; !star_between(security(1), security(2), Mode::Read));
     Ok(())

@@ -109,30 +109,49 @@ fn made<'a>(
     }
 }
 
-/// Writes a label over a heap that may refuse an allocation: where it does, nothing is written, and the same
-/// call again writes it.
-fn writes(
+/// Writes a label into a text; where an allocation fails nothing is written, and the same call again writes it.
+fn writes_into<'a>(
     rt: &impl Abort,
-    heap: &Refusing<Global>,
-    scheme: &Scheme<&Refusing<Global>>,
+    heap: &'a Refusing<Global>,
+    scheme: &Scheme<&'a Refusing<Global>>,
+    text: &mut String<&'a Refusing<Global>>,
 ) -> Result<(), AllocError> {
     let label = scheme.read("S:B,A").expect(rt, "a label text");
     assert!(rt; scheme.bounds() == Bounds::new(4, 2) && label == secret());
-    let mut text = String::new(heap);
-    if scheme.write(label, &mut text).is_err() {
+    if scheme.write(label, text).is_err() {
         assert!(rt; heap.has_refused() && text.is_empty());
-        scheme.write(label, &mut text)?;
+        scheme.write(label, text)?;
     }
     assert!(rt; text.as_bytes() == b"S:A,B".as_slice());
     Ok(())
+}
+
+/// Writes a label over a heap that may refuse an allocation: where it does, nothing is written, and the same
+/// call again writes it.
+fn writes<'a>(
+    rt: &impl Abort,
+    heap: &'a Refusing<Global>,
+    scheme: &Scheme<&'a Refusing<Global>>,
+) -> Result<(), AllocError> {
+    let mut text = String::new(heap);
+    let written = writes_into(rt, heap, scheme, &mut text);
+    drop(text);
+    written
+}
+
+/// Makes a scheme and writes a label, as above.
+fn made_and_written(rt: &impl Abort, heap: &Refusing<Global>) -> Result<(), AllocError> {
+    let scheme = made(rt, heap).expect(rt, "a scheme");
+    let written = writes(rt, heap, &scheme);
+    drop(scheme);
+    written
 }
 
 #[test]
 fn each_allocation_is_refused_in_turn(rt: HostRuntime) -> Result<(), Fail> {
     for number in 1..100 {
         let heap = Refusing::new(rt.alloc(), number);
-        let scheme = made(&rt, &heap).expect(&rt, "a scheme");
-        writes(&rt, &heap, &scheme)?;
+        made_and_written(&rt, &heap)?;
         if !heap.has_refused() {
             assert!(rt; number > 8, "only {number}");
             return Ok(());

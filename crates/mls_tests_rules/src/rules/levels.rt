@@ -4,7 +4,10 @@ use super::{
 };
 use mls_labels::{CatSet, Label, SecLabel};
 use mls_rules::{Action, Reason, Reply, Request, tests_are_of_all};
+use mls_state::State;
 use mls_tables::{Mode, ObjectId, SubjectId};
+use std::alloc::Allocator;
+use std::process::Abort;
 use std::test::Fail;
 
 const AUD: SubjectId = SubjectId(3);
@@ -40,14 +43,21 @@ fn level_rows() -> [(Request, Reply); 10] {
     ]
 }
 
+/// Asserts the current label of a known subject.
+fn is_at<A: Allocator>(rt: &impl Abort, state: &State<A>, s: SubjectId, l: SecLabel) {
+    assert!(rt; state.is_subject(s));
+    assert!(rt; state.current(s) == l);
+}
+
 #[test]
 fn subjects_change_their_levels(rt: HostRuntime) -> Result<(), Fail> {
     let mut state = opened(rt.alloc())?;
     are_answered(&rt, &mut state, &level_rows());
-    assert!(rt; state.is_subject(ANN) && state.is_subject(BOB) && state.is_subject(SEC));
-    assert!(rt; state.current(BOB) == security(0, None) && state.current(SEC) == top());
-    assert!(rt; state.current(ANN) == security(2, Some(0)));
-    assert!(rt; state.maximum(BOB) == security(1, None));
+    is_at(&rt, &state, BOB, security(0, None));
+    is_at(&rt, &state, SEC, top());
+    is_at(&rt, &state, ANN, security(2, Some(0)));
+    assert!(rt; state.is_subject(BOB) && state.maximum(BOB) == security(1, None));
+    drop(state);
     tests_are_of_all();
     Ok(())
 }
@@ -92,11 +102,18 @@ fn owner_rows() -> [(Request, Reply); 6] {
     ]
 }
 
+/// Asserts the security label of an active object.
+fn is_labelled<A: Allocator>(rt: &impl Abort, state: &State<A>, o: ObjectId, l: SecLabel) {
+    assert!(rt; state.is_active(o));
+    assert!(rt; state.object_label(o) == l);
+}
+
 #[test]
 fn holders_and_the_tree_bind_a_trusted_subject(rt: HostRuntime) -> Result<(), Fail> {
     let mut state = opened(rt.alloc())?;
     are_answered(&rt, &mut state, &relabel_rows());
-    assert!(rt; state.is_active(PLANS) && state.object_label(PLANS) == security(1, None));
+    is_labelled(&rt, &state, PLANS, security(1, None));
+    drop(state);
     Ok(())
 }
 
@@ -104,6 +121,7 @@ fn holders_and_the_tree_bind_a_trusted_subject(rt: HostRuntime) -> Result<(), Fa
 fn a_holder_that_writes_is_looked_at(rt: HostRuntime) -> Result<(), Fail> {
     let mut state = opened(rt.alloc())?;
     are_answered(&rt, &mut state, &holder_rows());
+    drop(state);
     Ok(())
 }
 
@@ -111,9 +129,8 @@ fn a_holder_that_writes_is_looked_at(rt: HostRuntime) -> Result<(), Fail> {
 fn an_untrusted_subject_relabels_what_it_made(rt: HostRuntime) -> Result<(), Fail> {
     let mut state = opened(rt.alloc())?;
     are_answered(&rt, &mut state, &owner_rows());
-    let made = ObjectId(4);
-    assert!(rt; state.is_active(made) && state.is_active(PLANS));
-    assert!(rt; state.object_label(made) == security(3, Some(0)));
-    assert!(rt; state.object_label(PLANS) == security(2, Some(0)));
+    is_labelled(&rt, &state, ObjectId(4), security(3, Some(0)));
+    is_labelled(&rt, &state, PLANS, security(2, Some(0)));
+    drop(state);
     Ok(())
 }

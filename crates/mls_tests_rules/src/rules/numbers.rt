@@ -39,14 +39,15 @@ fn fill_the_root<A: Allocator>(rt: &impl Abort, state: &mut State<A>) {
     );
     is_answered(rt, state, create(SEC, ROOT, 0, 1), Reply::No(Reason::Full));
     has_children(rt, state, ROOT, 4094);
+    assert!(rt; is_secure(state) && state.next() == 4096);
+    assert!(rt; state.is_active(ObjectId(4095)) && !state.is_active(ObjectId(9)));
 }
 
 #[test]
 fn all_numbers_below_the_root(rt: HostRuntime) -> Result<(), Fail> {
     let mut state = opened(rt.alloc())?;
     fill_the_root(&rt, &mut state);
-    assert!(rt; is_secure(&state) && state.next() == 4096);
-    assert!(rt; state.is_active(ObjectId(4095)) && !state.is_active(ObjectId(9)));
+    drop(state);
     Ok(())
 }
 
@@ -63,15 +64,21 @@ fn fill_a_chain<A: Allocator>(rt: &impl Abort, state: &mut State<A>) {
     }
 }
 
+/// Deletes the chain, and asserts that its accesses go with it.
+fn delete_the_chain<A: Allocator>(rt: &impl Abort, state: &mut State<A>) {
+    let last = ObjectId(4095);
+    assert!(rt; is_secure(state) && state.has_access(SEC, last, Mode::Write));
+    let delete = asks(SEC, Action::Delete(ObjectId(4)));
+    is_answered(rt, state, delete, Reply::Yes);
+    assert!(rt; !state.has_access(SEC, last, Mode::Write) && !state.is_active(last));
+    assert!(rt; state.has_access(SEC, ROOT, Mode::Write) && is_secure(state));
+}
+
 #[test]
 fn all_numbers_in_a_chain(rt: HostRuntime) -> Result<(), Fail> {
     let mut state = opened(rt.alloc())?;
-    let last = ObjectId(4095);
     fill_a_chain(&rt, &mut state);
-    assert!(rt; is_secure(&state) && state.has_access(SEC, last, Mode::Write));
-    let delete = asks(SEC, Action::Delete(ObjectId(4)));
-    is_answered(&rt, &mut state, delete, Reply::Yes);
-    assert!(rt; !state.has_access(SEC, last, Mode::Write) && !state.is_active(last));
-    assert!(rt; state.has_access(SEC, ROOT, Mode::Write) && is_secure(&state));
+    delete_the_chain(&rt, &mut state);
+    drop(state);
     Ok(())
 }

@@ -4,7 +4,10 @@ use super::{
     give_sec_write, integrity, opened, security,
 };
 use mls_rules::{Action, Reason, Reply, Request};
+use mls_state::State;
 use mls_tables::{Mode, ObjectId};
+use std::alloc::Allocator;
+use std::process::Abort;
 use std::test::Fail;
 
 /// Creations, and what each is denied for.
@@ -25,17 +28,33 @@ fn create_rows() -> [(Request, Reply); 12] {
     ]
 }
 
+/// Asserts where the object that was made stands, and its labels.
+fn is_made<A: Allocator>(rt: &impl Abort, state: &State<A>, made: ObjectId) {
+    assert!(rt; state.is_active(made) && state.next() == 7);
+    assert!(rt; state.parent(made) == Some(PLANS));
+    assert!(rt; state.object_label(made) == security(2, Some(0)));
+    assert!(rt; state.object_integrity(made) == integrity(1));
+}
+
+/// Asserts which objects stand below an active one.
+fn has_children<A: Allocator>(
+    rt: &impl Abort,
+    state: &State<A>,
+    parent: ObjectId,
+    children: &[ObjectId],
+) {
+    assert!(rt; state.is_active(parent));
+    assert!(rt; state.children(parent) == children);
+}
+
 #[test]
 fn creations(rt: HostRuntime) -> Result<(), Fail> {
     let mut state = opened(rt.alloc())?;
     are_answered(&rt, &mut state, &create_rows());
-    let made = ObjectId(4);
-    assert!(rt; state.is_active(made) && state.is_active(PLANS) && state.is_active(ROOT));
-    assert!(rt; state.parent(made) == Some(PLANS) && state.next() == 7);
-    assert!(rt; state.object_label(made) == security(2, Some(0)));
-    assert!(rt; state.object_integrity(made) == integrity(1));
-    assert!(rt; state.children(PLANS) == [made].as_slice());
-    assert!(rt; state.children(ROOT) == [PLANS, MEMO, TOOL, ObjectId(6)].as_slice());
+    is_made(&rt, &state, ObjectId(4));
+    has_children(&rt, &state, PLANS, &[ObjectId(4)]);
+    has_children(&rt, &state, ROOT, &[PLANS, MEMO, TOOL, ObjectId(6)]);
+    drop(state);
     Ok(())
 }
 
@@ -65,15 +84,26 @@ fn branch_rows() -> [(Request, Reply); 16] {
     ]
 }
 
+/// Asserts that the branch is gone, and its accesses with it.
+fn is_gone<A: Allocator>(rt: &impl Abort, state: &State<A>) {
+    assert!(rt; !state.has_access(ANN, ObjectId(6), Mode::Read));
+    assert!(rt; !state.is_active(ObjectId(4)) && !state.is_active(ObjectId(6)));
+}
+
+/// Asserts that nothing is permitted or accessed on an object that is new.
+fn is_untouched<A: Allocator>(rt: &impl Abort, state: &State<A>, o: ObjectId) {
+    assert!(rt; state.is_active(o) && state.is_subject(SEC));
+    assert!(rt; state.allowed(SEC, o).is_empty());
+    assert!(rt; state.accesses(SEC, o).is_empty());
+}
+
 #[test]
 fn a_branch_is_deleted(rt: HostRuntime) -> Result<(), Fail> {
     let mut state = opened(rt.alloc())?;
     are_answered(&rt, &mut state, &branch_rows());
-    let last = ObjectId(7);
-    assert!(rt; !state.has_access(ANN, ObjectId(6), Mode::Read));
-    assert!(rt; !state.is_active(ObjectId(4)) && !state.is_active(ObjectId(6)));
-    assert!(rt; state.is_active(ROOT) && state.is_active(last) && state.is_subject(SEC));
-    assert!(rt; state.children(ROOT) == [PLANS, MEMO, TOOL, last].as_slice());
-    assert!(rt; state.allowed(SEC, last).is_empty() && state.accesses(SEC, last).is_empty());
+    is_gone(&rt, &state);
+    has_children(&rt, &state, ROOT, &[PLANS, MEMO, TOOL, ObjectId(7)]);
+    is_untouched(&rt, &state, ObjectId(7));
+    drop(state);
     Ok(())
 }

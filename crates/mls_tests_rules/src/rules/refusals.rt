@@ -84,6 +84,7 @@ fn run<'a>(
 ) -> Result<(), AllocError> {
     let mut state = opened_again(heap)?;
     ask_both(rt, &mut state, ample);
+    drop(state);
     Ok(())
 }
 
@@ -94,7 +95,9 @@ fn run_beside<'a>(
     ample: &'a Refusing<Global>,
 ) -> Result<(), AllocError> {
     let mut plenty = opened(ample)?;
-    run(rt, heap, &mut plenty)
+    let ran = run(rt, heap, &mut plenty);
+    drop(plenty);
+    ran
 }
 
 #[test]
@@ -142,6 +145,7 @@ fn run_last<'a>(
         Err(_) => ample.duplicate(heap)?,
     };
     create_last(rt, &mut state, ample);
+    drop(state);
     Ok(())
 }
 
@@ -153,7 +157,9 @@ fn run_last_beside<'a>(
 ) -> Result<(), AllocError> {
     let mut plenty = opened(ample)?;
     nearly_fill(rt, &mut plenty);
-    run_last(rt, heap, &mut plenty)
+    let ran = run_last(rt, heap, &mut plenty);
+    drop(plenty);
+    ran
 }
 
 #[test]
