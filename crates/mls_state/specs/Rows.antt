@@ -1,5 +1,5 @@
 -- The rows of a start: what the calls on a start builder gave, and the state that opens with just them.
-use Rattle.std.specs.Prelude.{ℕ, ◌+◌, List, [], ◌∷◌, length, map, Option, Some, None, refl}
+use Rattle.std.specs.Prelude.{ℕ, ◌+◌, List, ◌∷◌, length, map, Option, Some, None, refl}
 use Rattle.std.specs.FinSet as set
 use Rattle.std.specs.Coded.{Coded, code_by, coded×, coded_list}
 use Rattle.mls_facts.specs.Numbered.{numbered, places_of}

@@ -62,6 +62,7 @@ impl<A: Allocator> Start<A> {
     }
 
     /// How many objects there are, with the root: at most `MAX_OBJECTS`.
+    #[tactic(auto, unfolding(crate::specs::Rows::opening))]
     pub fn object_count(&self) -> u16
         ensures count { result ≡ self.now.next }
         ensures most { result ≤ MAX_OBJECTS }
@@ -70,6 +71,7 @@ impl<A: Allocator> Start<A> {
     }
 
     /// How many triples the matrix permits.
+    #[tactic(auto, unfolding(crate::specs::Rows::opening))]
     pub fn cell_count(&self) -> usize
         ensures { result ≡ set.len self.now.matrix }
     {
@@ -77,6 +79,7 @@ impl<A: Allocator> Start<A> {
     }
 
     /// The bounds of the security labels.
+    #[tactic(auto, unfolding(crate::specs::Rows::opening))]
     pub fn security(&self) -> Bounds
         ensures { result ≡ self.now.security }
     {
@@ -84,6 +87,7 @@ impl<A: Allocator> Start<A> {
     }
 
     /// The bounds of the integrity labels.
+    #[tactic(auto, unfolding(crate::specs::Rows::opening))]
     pub fn integrity(&self) -> Bounds
         ensures { result ≡ self.now.integrity }
     {
