@@ -86,12 +86,23 @@ fn fault_of(alloc: Global, subjects: u16, objects: u16) -> Result<Option<StartFa
     }
 }
 
+/// Asserts that an object is there, and what its parent is.
+fn is_below<A: Allocator>(
+    rt: &impl Abort,
+    state: &State<A>,
+    o: ObjectId,
+    parent: Option<ObjectId>,
+) {
+    assert!(rt; state.is_active(o));
+    assert!(rt; state.parent(o) == parent);
+}
+
 /// Asserts that a state has a chain of all object numbers.
 fn is_chain<A: Allocator>(rt: &impl Abort, state: &State<A>) {
     assert!(rt; is_secure(state) && state.next() == 4096);
-    assert!(rt; state.parent(ObjectId(4095)) == Some(ObjectId(4094)));
-    assert!(rt; state.parent(ObjectId(1)) == Some(ObjectId(0)));
-    assert!(rt; state.parent(ObjectId(0)) == None);
+    is_below(rt, state, ObjectId(4095), Some(ObjectId(4094)));
+    is_below(rt, state, ObjectId(1), Some(ObjectId(0)));
+    is_below(rt, state, ObjectId(0), None);
 }
 
 /// Asserts that a state permits the last subject and the last object all modes.

@@ -1,7 +1,7 @@
 //! Each allocation of a builder's calls and of an opening refused in turn: the same call made again does what it always does, and
 //! nothing is there twice.
 use crate::rules::alike::are_alike;
-use crate::standard::{Call, begun, built, cell_calls, opened, row_calls, started};
+use crate::standard::{Call, begun, built, cell_calls, row_calls, started};
 use mls_state::{Start, StartBuilder, State};
 use refusing::Refusing;
 use std::alloc::{AllocError, Allocator, Global};
@@ -69,25 +69,36 @@ fn run<'a>(
 }
 
 /// The same beside an opening that is made here.
-fn run_beside<'a>(
+fn run_beside_start<'a>(
     rt: &impl Abort,
     heap: &'a Refusing<Global>,
     ample: &'a Refusing<Global>,
     plenty: &Start<&'a Refusing<Global>>,
 ) -> Result<(), AllocError> {
-    let state = opened(ample)?;
+    let state = plenty.opening(ample)?;
     let ran = run(rt, heap, plenty, &state);
     drop(state);
+    ran
+}
+
+/// The same beside a start that is made here too.
+fn run_beside<'a>(
+    rt: &impl Abort,
+    heap: &'a Refusing<Global>,
+    ample: &'a Refusing<Global>,
+) -> Result<(), AllocError> {
+    let plenty = started(ample)?;
+    let ran = run_beside_start(rt, heap, ample, &plenty);
+    drop(plenty);
     ran
 }
 
 #[test]
 fn each_allocation_is_refused_once(rt: HostRuntime) -> Result<(), Fail> {
     let ample = Refusing::new(rt.alloc(), 0);
-    let plenty = started(&ample)?;
     for number in 1..200 {
         let heap = Refusing::new(rt.alloc(), number);
-        run_beside(&rt, &heap, &ample, &plenty)?;
+        run_beside(&rt, &heap, &ample)?;
         if !heap.has_refused() {
             // the rows of the builder, and the tables of the opening
             assert!(rt; number > 10, "only {number}");
