@@ -1,5 +1,5 @@
 -- The tables of a state still agree after a change of one of them.
-use Rattle.std.proofs.Common.{◌≡◌, ℕ, true}
+use Rattle.std.proofs.Common.{◌≡◌, ℕ, true, refl}
 use Rattle.std.specs.FinSet as set
 use Rattle.mls_tables.specs.Triples.{TripleSet}
 use Rattle.mls_tables.specs.declared.mode.Mode.{Mode}
@@ -37,26 +37,31 @@ module _ {A : Type 0} (a : Inside A) (h : Agrees a) where
     matrix_known = known;
   }
 
-  pub agrees-access_insert : (s o : ℕ) (x : Mode) → is_subject (state_of a) s ≡ true → is_active (state_of a) o ≡ true
-      → Agrees (record a { accesses = record a.accesses { triples = set.insert a.accesses.triples (s, o, x) } })
-  agrees-access_insert s o x subject object = agrees-accesses _ (Each-insert a.accesses.triples (s, o, x) (is_known (state_of a)) h.accesses_known (and_from _ _ subject object))
+-- a change of the triples of one table, or of both; what comes first is the set that has changed, by which `grind` finds the rest
+module _ {A : Type 0} (a : Inside A) (s o : ℕ) (x : Mode) (h : Agrees a) where
+  pub agrees_put : is_subject (state_of a) s ≡ true → is_active (state_of a) o ≡ true
+      → (set.insert a.accesses.triples (s, o, x) ≡ set.insert a.accesses.triples (s, o, x)) × Agrees (record a { accesses = record a.accesses { triples = set.insert a.accesses.triples (s, o, x) } })
+  agrees_put subject object = (refl, agrees-accesses a h _ (Each-insert a.accesses.triples (s, o, x) (is_known (state_of a)) h.accesses_known (and_from _ _ subject object)))
 
-  pub agrees-access_remove : (s o : ℕ) (x : Mode) → Agrees (record a { accesses = record a.accesses { triples = set.remove a.accesses.triples (s, o, x) } })
-  agrees-access_remove s o x = agrees-accesses _ (Each-remove a.accesses.triples (s, o, x) (is_known (state_of a)) h.accesses_known)
+  pub agrees_removed : (set.remove a.accesses.triples (s, o, x) ≡ set.remove a.accesses.triples (s, o, x)) × Agrees (record a { accesses = record a.accesses { triples = set.remove a.accesses.triples (s, o, x) } })
+  agrees_removed = (refl, agrees-accesses a h _ (Each-remove a.accesses.triples (s, o, x) (is_known (state_of a)) h.accesses_known))
 
-  pub agrees-permit : (s o : ℕ) (x : Mode) → is_subject (state_of a) s ≡ true → is_active (state_of a) o ≡ true
-      → Agrees (record a { matrix = record a.matrix { triples = set.insert a.matrix.triples (s, o, x) } })
-  agrees-permit s o x subject object = agrees-matrix _ (Each-insert a.matrix.triples (s, o, x) (is_known (state_of a)) h.matrix_known (and_from _ _ subject object))
+  pub agrees_permitted : is_subject (state_of a) s ≡ true → is_active (state_of a) o ≡ true
+      → (set.insert a.matrix.triples (s, o, x) ≡ set.insert a.matrix.triples (s, o, x)) × Agrees (record a { matrix = record a.matrix { triples = set.insert a.matrix.triples (s, o, x) } })
+  agrees_permitted subject object = (refl, agrees-matrix a h _ (Each-insert a.matrix.triples (s, o, x) (is_known (state_of a)) h.matrix_known (and_from _ _ subject object)))
 
-  pub agrees-forbid : (s o : ℕ) (x : Mode)
-      → Agrees (record a { matrix = record a.matrix { triples = set.remove a.matrix.triples (s, o, x) }; accesses = record a.accesses { triples = set.remove a.accesses.triples (s, o, x) } })
-  agrees-forbid s o x = record {
-    matrix_rows = h.matrix_rows;
-    access_rows = h.access_rows;
-    labels = h.labels;
-    matrix_columns = h.matrix_columns;
-    access_columns = h.access_columns;
-    tree = h.tree;
-    accesses_known = Each-remove a.accesses.triples (s, o, x) (is_known (state_of a)) h.accesses_known;
-    matrix_known = Each-remove a.matrix.triples (s, o, x) (is_known (state_of a)) h.matrix_known;
-  }
+  pub agrees_forbidden : (set.remove a.matrix.triples (s, o, x) ≡ set.remove a.matrix.triples (s, o, x))
+      × Agrees (record a { matrix = record a.matrix { triples = set.remove a.matrix.triples (s, o, x) }; accesses = record a.accesses { triples = set.remove a.accesses.triples (s, o, x) } })
+  agrees_forbidden = (
+    refl,
+    record {
+      matrix_rows = h.matrix_rows;
+      access_rows = h.access_rows;
+      labels = h.labels;
+      matrix_columns = h.matrix_columns;
+      access_columns = h.access_columns;
+      tree = h.tree;
+      accesses_known = Each-remove a.accesses.triples (s, o, x) (is_known (state_of a)) h.accesses_known;
+      matrix_known = Each-remove a.matrix.triples (s, o, x) (is_known (state_of a)) h.matrix_known;
+    },
+  )

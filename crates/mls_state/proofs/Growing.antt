@@ -1,15 +1,16 @@
 -- Maps of what is kept of a list, as the list and the tree grow by one.
-use Rattle.std.proofs.Common.{◌≡◌, ℕ, Bool, true, false, cond, List, [], ◌∷◌, ◌++◌, length, Option, Some, None, is_some, refl, sym, ap, ◌∙◌, nat_eq, ◌||◌}
+use Rattle.std.proofs.Common.{◌≡◌, ℕ, ◌<◌, Bool, true, false, cond, List, [], ◌∷◌, ◌++◌, length, length-append, arith, Option, Some, None, is_some, refl, sym, ap, ◌∙◌, nat_eq, ◌||◌}
 use Rattle.std.specs.Prelude.{◌==◌}
 use Rattle.std.specs.Ordering.{nat_cmp}
 use Rattle.std.specs.Cmp.{nat_cmp_total}
 use Rattle.std.specs.FinMap as map
 use Rattle.std.specs.FinMap.{FinMap, nat_cmp-IsAntisymmetric}
 use Rattle.std.proofs.lemmas.Bool.{or_right}
-use Rattle.mls_tree.specs.Tree.{is_active}
+use Rattle.mls_tree.specs.Tree.{IsTree, is_active}
+use Rattle.mls_state.specs.declared.subject.ObjectLabels.{ObjectLabels}
 use Rattle.mls_facts.specs.Numbered.{numbered}
 use Rattle.mls_facts.proofs.Numbered.{numbered-push, numbered-one}
-use Rattle.mls_facts.proofs.Entries.{by_number, at_new, elsewhere, get-kept}
+use Rattle.mls_facts.proofs.Entries.{has-inserted, by_number, at_new, elsewhere, get-kept}
 
 -- the new object is active, and any other as before
 pub active_new : (parent : FinMap nat_cmp ℕ) (n p : ℕ) → is_active (map.insert parent n p) n ≡ true
@@ -17,10 +18,6 @@ active_new parent n p = ap (λ e. n == 0 || is_some e) (at_new parent n p) ∙ o
 
 pub active_other : (parent : FinMap nat_cmp ℕ) (n p q : ℕ) → nat_eq q n ≡ false → is_active (map.insert parent n p) q ≡ is_active parent q
 active_other parent n p q other = ap (λ e. q == 0 || is_some e) (elsewhere parent n p q other)
-
--- what was active is
-pub active_still : (parent : FinMap nat_cmp ℕ) (n p q : ℕ) → is_active parent q ≡ true → is_active (map.insert parent n p) q ≡ true
-active_still parent n p q active = by_number n q (λ k. is_active (map.insert parent n p) k ≡ true) (active_new parent n p) (λ other. active_other parent n p q other ∙ active)
 
 module _ {A X : Type 0} (f : A → X) (items : List A) (a : A) (parent : FinMap nat_cmp ℕ) (p : ℕ) where
   whole : FinMap nat_cmp X
@@ -49,3 +46,19 @@ kept-one f a = map.same_map nat_cmp_total nat_cmp-IsAntisymmetric _ _ (λ q.
       same_none : {X : Type 0} (b : Bool) → cond {A = Option X} b None None ≡ None
       same_none true = refl
       same_none false = refl
+
+-- the labels of the objects with one more below another
+module _ (items : List ObjectLabels) (l : ObjectLabels) (parent : FinMap nat_cmp ℕ) (n p : ℕ) (is_tree : IsTree parent (is_active parent) n) (at : n ≡ length items) where
+  not_yet : is_active parent n ≡ true → ⊥
+  not_yet active = let below : n < n = is_tree.below_next n active in omega arith
+
+  pub security_grown : map.retain_keys (numbered (λ (x : ObjectLabels). Some x.security) (items ++ l ∷ [])) (is_active (map.insert parent n p))
+      ≡ map.insert (map.retain_keys (numbered (λ (x : ObjectLabels). Some x.security) items) (is_active parent)) n l.security
+  security_grown = kept-push (λ (x : ObjectLabels). x.security) items l parent p n at not_yet
+
+  pub integrity_grown : map.retain_keys (numbered (λ (x : ObjectLabels). Some x.integrity) (items ++ l ∷ [])) (is_active (map.insert parent n p))
+      ≡ map.insert (map.retain_keys (numbered (λ (x : ObjectLabels). Some x.integrity) items) (is_active parent)) n l.integrity
+  integrity_grown = kept-push (λ (x : ObjectLabels). x.integrity) items l parent p n at not_yet
+
+-- what the function that adds an object needs
+pub ruleset add_object_steps = (length-append, has-inserted, security_grown, integrity_grown)

@@ -1,5 +1,5 @@
 -- What the agreement of a state's tables says of a known subject and an active object.
-use Rattle.std.proofs.Common.{◌≡◌, ℕ, ◌<◌, ◌≤◌, Bool, true, false, length, Some, refl, sym, ◌∙◌, subst, arith, get_or}
+use Rattle.std.proofs.Common.{◌≡◌, ℕ, ◌<◌, ◌≤◌, Bool, true, false, length, Some, refl, sym, ap, ◌∙◌, subst, arith, get_or}
 use Rattle.std.specs.FinMap as map
 use Rattle.std.specs.FinSet as set
 use Rattle.mls_tables.specs.Triples.{Triple}
@@ -36,6 +36,12 @@ module _ {A : Type 0} (a : Inside A) where
     -- the active objects are those of the tree
     pub active-tree : (o : ℕ) → is_active (state_of a) o ≡ tree.is_active a.tree.parent o
     active-tree o = contains-kept (λ (x : ObjectLabels). x.security) a.objects.items (tree.is_active a.tree.parent) o (has_labels o)
+
+    pub ruleset in_the_tree = (active-tree)
+
+    -- the known subjects are those below the number of rows
+    pub known_below : (s : ℕ) → is_subject (state_of a) s ≡ nat_lt s a.matrix.subjects
+    known_below s = is_some-numbered (λ (x : Subject). Some x.maximum) (λ _. refl) a.subjects.items s ∙ ap (nat_lt s) (sym h.matrix_rows)
 
     pub in_tree : (o : ℕ) → is_active (state_of a) o ≡ true → tree.is_active a.tree.parent o ≡ true
     in_tree o active = sym (active-tree o) ∙ active

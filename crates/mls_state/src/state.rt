@@ -69,6 +69,7 @@ impl<A: Allocator> State<A> {
     }
 
     /// How many subjects there are. Their numbers are those below it.
+    #[tactic(auto, using(crate::proofs::Tables::known_below))]
     pub fn subject_count(&self) -> u16
         ensures { (s : ℕ) → is_subject self.now s ≡ nat_lt s result }
     {
@@ -83,6 +84,7 @@ impl<A: Allocator> State<A> {
     }
 
     /// Whether the object is active.
+    #[tactic(auto, using(crate::proofs::Tables::in_the_tree))]
     pub fn is_active(&self, o: ObjectId) -> bool
         ensures { result ≡ is_active self.now o }
     {
@@ -157,6 +159,7 @@ impl<A: Allocator> State<A> {
     }
 
     /// The modes that the matrix permits a known subject on an active object.
+    #[tactic(auto, using(crate::proofs::Tables::matrix_row, crate::proofs::Tables::matrix_column))]
     pub fn allowed(&self, s: SubjectId, o: ObjectId) -> Modes
         requires subject { IsTrue (is_subject self.now s) }
         requires object { IsTrue (is_active self.now o) }
@@ -166,6 +169,7 @@ impl<A: Allocator> State<A> {
     }
 
     /// The modes in which a known subject accesses an active object.
+    #[tactic(auto, using(crate::proofs::Tables::access_row, crate::proofs::Tables::access_column))]
     pub fn accesses(&self, s: SubjectId, o: ObjectId) -> Modes
         requires subject { IsTrue (is_subject self.now s) }
         requires object { IsTrue (is_active self.now o) }

@@ -16,6 +16,7 @@ impl<A: Allocator> State<A> {
     ///
     /// # Errors
     /// `AllocError` where an allocation failed; the state is then as before.
+    #[tactic(auto, using(crate::proofs::Tables::access_row, crate::proofs::Tables::access_column, crate::proofs::Changes::agrees_put))]
     pub fn put_access(&mut self, s: SubjectId, o: ObjectId, x: Mode) -> Result<bool, AllocError>
         requires subject { IsTrue (is_subject self.old s) }
         requires object { IsTrue (is_active self.old o) }
@@ -28,6 +29,7 @@ impl<A: Allocator> State<A> {
     }
 
     /// Takes out a current access, and returns whether it was there: what a release changes.
+    #[tactic(auto, using(crate::proofs::Tables::access_row, crate::proofs::Tables::access_column, crate::proofs::Changes::agrees_removed))]
     pub fn remove_access(&mut self, s: SubjectId, o: ObjectId, x: Mode) -> bool
         requires subject { IsTrue (is_subject self.old s) }
         requires object { IsTrue (is_active self.old o) }
@@ -39,6 +41,7 @@ impl<A: Allocator> State<A> {
 
     /// Takes a triple out of the matrix and out of the current accesses: what a rescind changes. It doesn't ask who
     /// controls the object.
+    #[tactic(auto, using(crate::proofs::Tables::access_row, crate::proofs::Tables::access_column, crate::proofs::Tables::matrix_row, crate::proofs::Tables::matrix_column, crate::proofs::Changes::agrees_forbidden))]
     pub fn forbid(&mut self, s: SubjectId, o: ObjectId, x: Mode)
         requires subject { IsTrue (is_subject self.old s) }
         requires object { IsTrue (is_active self.old o) }
@@ -53,6 +56,7 @@ impl<A: Allocator> State<A> {
 
     /// Gives a subject another current label: what a change of a subject's level changes. It doesn't ask whether the
     /// label is below the subject's maximum, nor what the subject accesses.
+    #[tactic(auto, using(crate::proofs::Tables::subject_row, crate::proofs::Replacing::with_current_steps))]
     pub fn set_current(&mut self, s: SubjectId, l: SecLabel)
         requires { IsTrue (is_subject self.old s) }
         ensures { self.new ≡ with_current self.old s l }
@@ -63,6 +67,7 @@ impl<A: Allocator> State<A> {
 
     /// Gives an object another security label: what a relabelling changes. It doesn't ask who may relabel it, nor what
     /// accesses it.
+    #[tactic(auto, using(crate::proofs::Tables::label_place, crate::proofs::Replacing::with_object_label_steps))]
     pub fn set_object_label(&mut self, o: ObjectId, l: SecLabel)
         requires { IsTrue (is_active self.old o) }
         ensures { self.new ≡ with_object_label self.old o l }

@@ -20,6 +20,7 @@ impl<A: Allocator> State<A> {
     }
 
     /// The current accesses, each at least once, in no promised order: for a rule or an audit that looks at all.
+    #[tactic(auto, using(crate::proofs::AllTriples::listed_are_known))]
     pub fn triples(&self) -> &[(SubjectId, ObjectId, Mode)]
         ensures list { set.from_list {R = triple_cmp} result.now ≡ self.now.accesses }
         ensures subjects { All (λ t. IsTrue (is_subject self.now t.0)) result.now }

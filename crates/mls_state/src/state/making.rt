@@ -44,6 +44,7 @@ impl<A: Allocator> State<A> {
     ///
     /// # Errors
     /// `AllocError` where an allocation failed; no read then tells the state from what it was.
+    #[tactic(auto, using(crate::proofs::Tables::in_the_tree, crate::proofs::Growing::add_object_steps))]
     pub fn add_object(&mut self, parent: ObjectId, labels: ObjectLabels) -> Result<(), AllocError>
         requires room { self.old.next < MAX_OBJECTS }
         requires parent { IsTrue (is_active self.old parent) }
@@ -69,6 +70,7 @@ impl<A: Allocator> State<A> {
     }
 
     /// Permits a triple: what a give changes. It doesn't ask who controls the object.
+    #[tactic(auto, using(crate::proofs::Tables::matrix_row, crate::proofs::Tables::matrix_column, crate::proofs::Changes::agrees_permitted))]
     pub fn permit(&mut self, s: SubjectId, o: ObjectId, x: Mode)
         requires subject { IsTrue (is_subject self.old s) }
         requires object { IsTrue (is_active self.old o) }

@@ -14,6 +14,7 @@ use std::alloc::{AllocError, Allocator};
 
 /// Takes an object that isn't the root and all below it out of the tree, and the triples that name them out of both
 /// tables; the list is room for their numbers.
+#[tactic(auto, using(mls_tree::proofs::Laws::inferiors_below, crate::proofs::Removing::ascending_inferiors))]
 fn take_out<A: Allocator>(
     o: ObjectId,
     group: &mut Vec<ObjectId, A>,
