@@ -1,0 +1,5 @@
+pub mod Each
+pub mod Loading
+pub mod Looking
+pub mod Texts
+pub mod Views
