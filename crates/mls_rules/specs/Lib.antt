@@ -4,7 +4,7 @@ pub mod Rules
 pub use Rattle.mls_state.specs.Audit
 pub use Rattle.mls_state.specs.Changes
 pub use Rattle.mls_state.specs.Properties
-pub use Rattle.mls_state.specs.Standard
-pub use Rattle.mls_state.specs.Start
+pub use Rattle.mls_state.specs.Rows
+pub use Rattle.mls_state.specs.StartFaults
 pub use Rattle.mls_state.specs.State
 pub use Rattle.mls_state.specs.StateView

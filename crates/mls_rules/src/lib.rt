@@ -11,4 +11,4 @@ pub use applying::apply;
 pub use deciding::decide;
 pub use laws::tests_are_of_all;
 pub use mls_requests::{Action, Reason, Reply, Request};
-pub use mls_state::{Start, State, is_secure};
+pub use mls_state::{BuildRefused, Start, StartBuilder, StartFault, State, is_secure};

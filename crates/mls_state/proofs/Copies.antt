@@ -17,7 +17,7 @@ use Rattle.mls_facts.specs.Numbered.{numbered, places_of}
 use Rattle.std.proofs.lemmas.Bool.{and_from, and_parts}
 use Rattle.mls_facts.proofs.Entries.{by_number, at_new, elsewhere}
 use Rattle.mls_state.proofs.Growing.{kept-push, kept-one}
-use Rattle.mls_state.proofs.StandardSecure.{Each-empty}
+use Rattle.mls_state.proofs.EachTriple.{Each-empty}
 
 module _ {A B : Type 0} (a : Inside A) (b : Inside B) (h : Agrees a)
     (subjects : b.subjects.items ≡ a.subjects.items) (objects : b.objects.items ≡ a.objects.items) (trees : b.tree ≡ a.tree)

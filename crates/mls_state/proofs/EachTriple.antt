@@ -1,11 +1,15 @@
 -- Tests that each triple of a set passes, as the set changes.
-use Rattle.std.proofs.Common.{◌≡◌, Bool, true, not, ◌&&◌, sym, ap, ◌∙◌, ◌⊎◌, inl, inr}
+use Rattle.std.proofs.Common.{◌≡◌, Bool, true, false, not, ◌&&◌, sym, ap, ◌∙◌, ◌⊎◌, inl, inr}
 use Rattle.std.proofs.Math.Bool.{and_assoc}
 use Rattle.std.proofs.lemmas.Bool.{and_from, and_parts, or_cases, or_right}
 use Rattle.std.specs.FinSet as set
-use Rattle.mls_tables.specs.Triples.{Triple, TripleSet, is_triple}
+use Rattle.mls_tables.specs.Triples.{Triple, TripleSet, triple_cmp, is_triple}
 use Rattle.mls_tables.proofs.Laws.{is_triple-true, same_triple, same_triples, contains-insert-triple, contains-remove-triple}
 use Rattle.mls_state.specs.Properties.{Each}
+
+-- no triple is in the empty set
+pub Each-empty : (p : Triple → Bool) → Each set.empty p
+Each-empty p t there = let none : set.contains {R = triple_cmp} set.empty t ≡ false = set.contains-empty triple_cmp t in cc
 
 -- one triple more
 pub Each-insert : (b : TripleSet) (t : Triple) (p : Triple → Bool) → Each b p → p t ≡ true → Each (set.insert b t) p

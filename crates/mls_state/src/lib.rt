@@ -1,11 +1,12 @@
-//! What a state of the monitor is, what makes one secure, the start that it opens with, and the audit that looks at
+//! What a state of the monitor is, what makes one secure, the starts that it opens with, and the audit that looks at
 //! all of it anew.
 #![tactic(auto)]
 
 mod audit;
 mod conditions;
-mod standard;
 mod start;
+mod start_builder;
+mod start_fault;
 mod state;
 mod subject;
 
@@ -14,5 +15,7 @@ pub use conditions::{
     discretionary_holds, integrity_holds, simple_holds, star_between, star_holds,
 };
 pub use start::Start;
+pub use start_builder::{BuildRefused, StartBuilder};
+pub use start_fault::StartFault;
 pub use state::State;
 pub use subject::ObjectLabels;

@@ -1,77 +1,110 @@
 //! A secure start.
-ghost use Rattle.std.specs.Prelude.{◌≡◌, IfOk, OnOk};
+ghost use Rattle.std.specs.Prelude.{◌≡◌, ℕ, ◌≤◌, None, nat_lt, IfOk};
+ghost use Rattle.std.specs.FinSet as set;
+ghost use Rattle.mls_tables.specs.declared.limits.TheConstants.{MAX_SUBJECTS, MAX_OBJECTS};
+ghost use Rattle.mls_state.specs.State.{is_subject};
 ghost use Rattle.mls_state.specs.Properties.{IsSecure};
-ghost use Rattle.mls_state.specs.Start.{opening};
-ghost use Rattle.mls_state.specs.Standard.{standard_first, standard_start};
+ghost use Rattle.mls_state.specs.Rows.{opening};
+ghost use Rattle.mls_state.specs.StartFaults.{start_fault};
 
-use crate::standard::{standard_cells, standard_objects, standard_subjects};
+use crate::start_builder::StartBuilder;
 use crate::state::State;
 use mls_labels::Bounds;
-use mls_tables::ObjectId;
 use std::alloc::{AllocError, Allocator, Global};
 use std::marker::Model;
 
-/// Adds the objects below the root and the cells of the standard start.
-fn fill_standard<A: Allocator>(state: &mut State<A>) -> Result<(), AllocError>
-    requires { state.old ≡ standard_first }
-    ensures { OnOk result (state.new ≡ opening standard_start) }
-{
-    let [_, plans, memo, tool] = standard_objects();
-    let parent = ObjectId::new(0);
-    state.add_object(parent, plans)?;
-    state.add_object(parent, memo)?;
-    state.add_object(parent, tool)?;
-    state.permit_all(&standard_cells());
-    Ok(())
-}
-
-/// The tables that a monitor starts from: subjects with their labels, a tree of objects with theirs, and the matrix.
-/// Its opening is secure, always.
+/// What a monitor starts from: subjects with their labels, a tree of objects with theirs, and the matrix. It is seen as
+/// the state that it opens with, which is secure, always.
 #[derive(Drop)]
 pub struct Start<A: Allocator = Global> {
-    state: State<A>,
+    rows: StartBuilder<A>,
+    /// How many triples the matrix has.
+    cells: usize,
 }
 
 impl<A: Allocator> Model for Start<A> {
-    ghost use Rattle.std.specs.Prelude.{◌≡◌};
+    ghost use Rattle.std.specs.Prelude.{◌≡◌, None};
     ghost use Rattle.std.specs.FinSet as set;
-    ghost use Rattle.mls_state.specs.Start.{Start, start_code, tables_of};
-    ghost use Rattle.mls_state.specs.Properties.{IsSecure};
+    ghost use Rattle.mls_state.specs.State.{State, state_code};
+    ghost use Rattle.mls_state.specs.Rows.{opening};
+    ghost use Rattle.mls_state.specs.StartFaults.{start_fault};
 
-    ghost Value = { Start };
+    ghost Value = { State };
 
-    ghost coded = { start_code };
+    ghost coded = { state_code };
 
-    ghost view = { λ a. tables_of a.state };
+    ghost view = { λ a. opening a.rows };
 
-    ghost invariant = { λ a. IsSecure a.state × (a.state.accesses ≡ set.empty) };
+    ghost invariant = { λ a. (start_fault a.rows ≡ None) × (a.cells ≡ set.len a.rows.cells) };
+}
+
+impl<A: Allocator> Start<A> {
+    /// The start of rows with which nothing is wrong.
+    pub(crate) fn of(rows: StartBuilder<A>) -> Start<A>
+        requires { start_fault rows ≡ None }
+        ensures { result ≡ opening rows }
+    {
+        let mut rows = rows;
+        let cells = rows.count_cells();
+        Start { rows, cells }
+    }
+
+    /// How many subjects there are: 1 to `MAX_SUBJECTS`. Their numbers are those below it. The start opens secure, always,
+    /// and with no access.
+    pub fn subject_count(&self) -> u16
+        ensures count { (s : ℕ) → is_subject self.now s ≡ nat_lt s result }
+        ensures least { 1 ≤ result }
+        ensures most { result ≤ MAX_SUBJECTS }
+        ensures secure { IsSecure self.now }
+        ensures accesses { self.now.accesses ≡ set.empty }
+    {
+        self.rows.subject_count()
+    }
+
+    /// How many objects there are, with the root: at most `MAX_OBJECTS`.
+    #[tactic(auto, unfolding(crate::specs::Rows::opening))]
+    pub fn object_count(&self) -> u16
+        ensures count { result ≡ self.now.next }
+        ensures most { result ≤ MAX_OBJECTS }
+    {
+        self.rows.object_count()
+    }
+
+    /// How many triples the matrix permits.
+    #[tactic(auto, unfolding(crate::specs::Rows::opening))]
+    pub fn cell_count(&self) -> usize
+        ensures { result ≡ set.len self.now.matrix }
+    {
+        self.cells
+    }
+
+    /// The bounds of the security labels.
+    #[tactic(auto, unfolding(crate::specs::Rows::opening))]
+    pub fn security(&self) -> Bounds
+        ensures { result ≡ self.now.security }
+    {
+        self.rows.security()
+    }
+
+    /// The bounds of the integrity labels.
+    #[tactic(auto, unfolding(crate::specs::Rows::opening))]
+    pub fn integrity(&self) -> Bounds
+        ensures { result ≡ self.now.integrity }
+    {
+        self.rows.integrity()
+    }
 }
 
 impl<A: Allocator + Clone> Start<A> {
-    /// The standard start: the subjects ann, bob, sec and aud, the objects root, plans, memo and tool.
-    ///
-    /// # Errors
-    /// `AllocError` where an allocation failed.
-    pub fn standard(alloc: A) -> Result<Start<A>, AllocError>
-        ensures { IfOk result (λ start. start ≡ standard_start) }
-    {
-        let [root, _, _, _] = standard_objects();
-        let (security, integrity) = (Bounds::new(4, 2), Bounds::new(2, 0));
-        let mut state = State::first(alloc, &standard_subjects(), root, security, integrity)?;
-        fill_standard(&mut state)?;
-        // that the objects are a tree
-        let _ = state.next();
-        Ok(Start { state })
-    }
-
-    /// The state that a monitor opens with: the start's tables, and no accesses. It is secure.
+    /// The state that a monitor opens with. It is secure, and has no access.
     ///
     /// # Errors
     /// `AllocError` where an allocation failed.
     pub fn opening(&self, alloc: A) -> Result<State<A>, AllocError>
-        ensures opening { IfOk result (λ state. state ≡ opening self.now) }
-        ensures secure { IsSecure (opening self.now) }
+        ensures opening { IfOk result (λ state. state ≡ self.now) }
+        ensures secure { IsSecure self.now }
+        ensures accesses { self.now.accesses ≡ set.empty }
     {
-        self.state.duplicate(alloc)
+        self.rows.opening(alloc)
     }
 }

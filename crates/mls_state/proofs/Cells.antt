@@ -1,0 +1,68 @@
+-- Lists of triples as sets: with the same members, and with each member once.
+use Rattle.std.proofs.Common.{◌≡◌, ◌+◌, Bool, true, false, cond, ◌||◌, List, [], ◌∷◌, length, Contains, refl, sym, ap, subst, ◌∙◌, arith}
+use Rattle.std.specs.List.{list_any, list_all, dedup, AllByRecursion}
+use Rattle.std.specs.List.Sorted.{IsSorted, IsStrictlySortedBy, IsPermutation}
+use Rattle.std.specs.Ordering.{eq_by_cmp, is_eq}
+use Rattle.std.specs.Cmp.{IsEquivalence, Equal-is, eq_by_cmp_equiv}
+use Rattle.std.specs.declared.cmp.Ordering.TheVariants.{Less}
+use Rattle.std.specs.FinSet as set
+use Rattle.std.proofs.lemmas.List.Kept.{Contains-dedup, Contains-from_dedup, IsStrictlySortedBy-dedup}
+use Rattle.std.proofs.lemmas.List.Sorted.{Contains-permutation, IsPermutation-sym}
+use Rattle.std.proofs.lemmas.Map.Views.{list_any-from_Contains, Contains-from_any}
+use Rattle.mls_tables.specs.Triples.{Triple, triple_cmp, is_triple}
+use Rattle.mls_tables.proofs.Laws.{triples_total, same_triple, same_triples, is_triple-true, eq_by_cmp-triple}
+use Rattle.mls_facts.specs.Each.{each}
+use Rattle.mls_facts.proofs.Each.{each-contains, contains-each}
+use Rattle.mls_state.proofs.AllTriples.{Each-from_all, all-from_Each}
+use Rattle.mls_facts.proofs.Passing.{same_tests}
+
+-- a triple is in a list where it is in the list's set
+in_set : (ts : List Triple) (t : Triple) → Contains ts t → set.contains (set.from_list {R = triple_cmp} ts) t ≡ true
+in_set ts t there = set.contains-from_list triples_total ts t ∙ list_any-from_Contains (eq_by_cmp_equiv triples_total) t ts there
+
+in_list : (ts : List Triple) (t : Triple) → set.contains (set.from_list {R = triple_cmp} ts) t ≡ true → Contains ts t
+in_list ts t there =
+    Contains-from_any (λ (x y : Triple) tie. same_triple x y ((Equal-is (triple_cmp x y)).0 tie)) t ts (sym (set.contains-from_list triples_total ts t) ∙ there)
+
+-- to test each triple of a list's set is to test all of the list
+pub each_listed : (p : Triple → Bool) (ts : List Triple) → each (set.from_list {R = triple_cmp} ts) p ≡ list_all p ts
+each_listed p ts = same_tests _ _
+    (λ h. all-from_Each ts (set.from_list ts) p refl (λ t there. each-contains triples_total same_triple (set.from_list ts) p t h there))
+    (λ h. contains-each triples_total same_triple (set.from_list ts) p (Each-from_all ts (set.from_list ts) p refl h))
+
+-- lists with the same members are of one set
+pub same_members : (us ts : List Triple) → ((t : Triple) → Contains us t → Contains ts t) → ((t : Triple) → Contains ts t → Contains us t)
+    → set.from_list {R = triple_cmp} us ≡ set.from_list ts
+same_members us ts there back = same_triples _ _ (λ t. same_tests _ _ (λ h. in_set ts t (there t (in_list us t h))) (λ h. in_set us t (back t (in_list ts t h))))
+
+-- a triple that is below all of a list is not in it
+not_among : (t : Triple) (ts : List Triple) → AllByRecursion (λ u. triple_cmp t u ≡ Less) ts → list_any (eq_by_cmp triple_cmp t) ts ≡ false
+not_among t [] h = refl
+not_among t (u ∷ ts) h = λ i. is_eq (h.0 i) || not_among t ts h.1 i
+
+-- a list in which each triple is below all later ones is as long as its set has triples
+pub length-ascending : (ts : List Triple) → IsStrictlySortedBy triple_cmp ts → length ts ≡ set.len (set.from_list {R = triple_cmp} ts)
+unfolding IsStrictlySortedBy
+length-ascending [] h = sym (set.len-empty triple_cmp)
+length-ascending (t ∷ ts) h =
+    let new : set.contains (set.from_list {R = triple_cmp} ts) t ≡ false = set.contains-from_list triples_total ts t ∙ not_among t ts h.0 in
+    let more : set.len (set.insert (set.from_list {R = triple_cmp} ts) t) ≡ set.len (set.from_list {R = triple_cmp} ts) + 1 =
+    set.len-insert triples_total (set.from_list ts) t ∙ ap (λ b. cond b (set.len (set.from_list {R = triple_cmp} ts)) (set.len (set.from_list {R = triple_cmp} ts) + 1)) new in
+    let rest : length ts ≡ set.len (set.from_list {R = triple_cmp} ts) = length-ascending ts h.1 in
+    omega arith
+
+is_equivalence : IsEquivalence is_triple
+is_equivalence = subst (λ (e : Triple → Triple → Bool). IsEquivalence e) (λ i t u. eq_by_cmp-triple t u i) (eq_by_cmp_equiv triples_total)
+
+module _ (ts sorted kept : List Triple) (moved : IsPermutation ts sorted) (once : kept ≡ dedup is_triple sorted) where
+  -- a list of which each triple is left once is of the same set
+  pub once-same : set.from_list {R = triple_cmp} kept ≡ set.from_list ts
+  once-same = rw once (same_members (dedup is_triple sorted) ts
+      (λ t h. Contains-permutation sorted ts t (IsPermutation-sym ts sorted moved) (Contains-from_dedup is_triple sorted t h))
+      (λ t h. Contains-dedup is_equivalence is_triple-true sorted t (Contains-permutation ts sorted t moved h)))
+
+  -- and as long as that has triples
+  pub once-length : IsSorted triple_cmp sorted → length kept ≡ set.len (set.from_list {R = triple_cmp} ts)
+  once-length ascending =
+      let strict = IsStrictlySortedBy-dedup triples_total {E = is_triple} (λ t u. sym (eq_by_cmp-triple t u)) sorted ascending in
+      ap length once ∙ length-ascending (dedup is_triple sorted) strict ∙ ap (λ us. set.len (set.from_list {R = triple_cmp} us)) (sym once) ∙ ap set.len once-same
