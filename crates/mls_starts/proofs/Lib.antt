@@ -1,2 +1,7 @@
+pub mod Below
+pub mod Counts
+pub mod Placed
 pub mod Rows
+pub mod Said
+pub mod Tied
 pub mod Trees

@@ -1,5 +1,5 @@
 -- What can fail for one item, over a whole list.
-use Rattle.std.specs.Prelude.{List, [], ◌∷◌, Option, Some, None, option_and_then}
+use Rattle.std.specs.Prelude.{List, [], ◌∷◌, Option, Some, option_and_then}
 
 -- What next gives of a value, where there is one. (own)
 abbrev pub having : {A B : Type 0} → Option A → (A → Option B) → Option B

@@ -2,13 +2,9 @@
 use Rattle.std.specs.Prelude.{ℕ, Bool, List, [], ◌∷◌, codes, map, ◌==◌, if◌then◌else◌, Option, Some, None}
 use Rattle.serde_json.specs.Data.{Data}
 use Rattle.serde_json.specs.Find.{get}
+use Rattle.mls_labels.specs.Scheme.{Scheme}
 use Rattle.mls_starts.specs.Each.{having, each_of}
 use Rattle.mls_starts.specs.Looking.{member_count, text_at, bool_at, is_null_at, list_at, texts_at}
-
--- The names of a scheme's levels, the lowest first, and of its categories. (own)
-pub record SaidScheme : Type 0 where
-  pub levels : List (List ℕ)
-  pub categories : List (List ℕ)
 
 -- A subject: its name, its labels, and whether it is trusted. (own)
 pub record SaidSubject : Type 0 where
@@ -37,8 +33,8 @@ pub record SaidCell : Type 0 where
 
 -- A start file: the schemes, the subjects, the root, the objects below it, and the cells, each list in the file's order. (own)
 pub record SaidFile : Type 0 where
-  pub security : SaidScheme
-  pub integrity : SaidScheme
+  pub security : Scheme
+  pub integrity : Scheme
   pub subjects : List SaidSubject
   pub root : SaidObject
   pub children : List SaidChild
@@ -49,8 +45,8 @@ pub record SaidFile : Type 0 where
 abbrev pub with_members : {X : Type 0} → ℕ → Data → Option X → Option X
 with_members n d found = if member_count d == n then found else None
 
--- A scheme: `levels` and `categories`, lists of texts. (own)
-abbrev pub scheme_of : Data → Option SaidScheme
+-- The names of a scheme: `levels`, the lowest first, and `categories`, lists of texts. (own)
+abbrev pub scheme_of : Data → Option Scheme
 scheme_of d =
     with_members 2 d (
     having (texts_at (codes "levels") d) (λ levels.
@@ -106,7 +102,7 @@ objects_of (first ∷ others) =
     Some (root, children)))
 
 -- The scheme in a member of a start file. (own)
-abbrev pub scheme_in : List ℕ → Data → Option SaidScheme
+abbrev pub scheme_in : List ℕ → Data → Option Scheme
 scheme_in key d = having (get key d) scheme_of
 
 -- The subjects: `subjects`, a list. (own)

@@ -3,7 +3,8 @@ use Rattle.std.specs.Prelude.{ℕ, List, [], map, unwrap_or}
 use Rattle.serde_json.specs.Find.{as_str}
 use Rattle.serde_json.specs.View.{view}
 use Rattle.serde_json.specs.declared.value.Value.{Value}
-use Rattle.mls_starts.specs.Texts.{SaidScheme, SaidSubject, SaidObject, SaidChild, SaidCell, SaidFile}
+use Rattle.mls_labels.specs.Scheme.{Scheme}
+use Rattle.mls_starts.specs.Texts.{SaidSubject, SaidObject, SaidChild, SaidCell, SaidFile}
 use Rattle.mls_starts.specs.declared.cell_text.CellText.{CellText}
 use Rattle.mls_starts.specs.declared.file_text.FileText.{FileText}
 use Rattle.mls_starts.specs.declared.object_text.ObjectText.{ObjectText}
@@ -12,7 +13,7 @@ use Rattle.mls_starts.specs.declared.scheme_text.SchemeText.{SchemeText}
 use Rattle.mls_starts.specs.declared.subject_text.SubjectText.{SubjectText}
 
 -- A scheme's names. (own)
-abbrev pub scheme_view : SchemeText → SaidScheme
+abbrev pub scheme_view : SchemeText → Scheme
 scheme_view s = record { levels = map (λ t. t.now) s.levels.items; categories = map (λ t. t.now) s.categories.items }
 
 -- A subject. (own)

@@ -1,6 +1,7 @@
 //! Why a start file is refused.
 
 use mls_labels::SchemeFault;
+use mls_state::StartFault;
 use std::alloc::{AllocError, AllocFailed};
 use thiserror::Error;
 
@@ -29,6 +30,9 @@ pub enum LoadFault {
     /// isn't a mode's.
     #[error("an unknown subject, object or mode")]
     Unknown,
+    /// The builder refuses the start.
+    #[error("the start is refused: {0}")]
+    Start(StartFault),
     /// An allocation failed.
     #[error("out of memory")]
     Memory,
@@ -36,7 +40,7 @@ pub enum LoadFault {
 
 impl From<SchemeFault> for LoadFault {
     ghost use Rattle.std.specs.Prelude.{◌≡◌};
-    ghost use Rattle.mls_starts.specs.Loading.{load_fault};
+    ghost use Rattle.mls_starts.specs.Refusing.{load_fault};
 
     ghost from_gives = { λ refused fault. fault ≡ load_fault refused };
 

@@ -6,3 +6,5 @@ pub use Rattle.mls_state.proofs.EachTriple.{Each-insert, Each-remove, within-ins
 pub use Rattle.mls_state.proofs.AllTriples.{Each-from_all, all-from_Each}
 -- the objects stay a tree
 pub use Rattle.mls_state.proofs.TreeKept.{grown_tree, delete_tree, relabel_tree}
+-- which subjects and objects the opening of rows has
+pub use Rattle.mls_state.proofs.Opening.{subject-opening, active-opening}
