@@ -4,7 +4,7 @@
 use mls_cli::{LoadFault, Loaded, Names, ServeFault, serve, standard_start};
 use mls_labels::SchemeFault;
 use mls_monitor::Monitor;
-use mls_rules::Start;
+use mls_rules::{Start, StartFault};
 use std::alloc::Global;
 use std::env::FillError;
 use std::io::BufWriter;
@@ -18,6 +18,21 @@ fn has_words(env: &impl Env) -> bool {
 
 /// The line on standard error where memory was refused.
 const NO_MEMORY: &str = "mls: memory";
+
+/// The line on standard error where the rows of the standard start were refused.
+fn rows_line(fault: StartFault) -> &'static str {
+    match fault {
+        StartFault::NoSubjects => "mls: standard: start 7 Start 1 NoSubjects",
+        StartFault::TooManySubjects => "mls: standard: start 7 Start 2 TooManySubjects",
+        StartFault::TooManyObjects => "mls: standard: start 7 Start 3 TooManyObjects",
+        StartFault::BadLabel => "mls: standard: start 7 Start 4 BadLabel",
+        StartFault::BadParent => "mls: standard: start 7 Start 5 BadParent",
+        StartFault::CurrentAboveMaximum => "mls: standard: start 7 Start 6 CurrentAboveMaximum",
+        StartFault::NotCompatible => "mls: standard: start 7 Start 7 NotCompatible",
+        StartFault::IntegrityAboveParent => "mls: standard: start 7 Start 8 IntegrityAboveParent",
+        StartFault::NoSuchCell => "mls: standard: start 7 Start 9 NoSuchCell",
+    }
+}
 
 /// The line on standard error where the standard start was refused.
 fn start_line(fault: LoadFault) -> &'static str {
@@ -33,6 +48,7 @@ fn start_line(fault: LoadFault) -> &'static str {
         LoadFault::Scheme(SchemeFault::RepeatedName) => {
             "mls: standard: start 3 Scheme 5 RepeatedName"
         }
+        LoadFault::Start(fault) => rows_line(fault),
         LoadFault::Scheme(SchemeFault::Memory) | LoadFault::Memory => NO_MEMORY,
     }
 }

@@ -3,4 +3,5 @@ pub mod LineLemmas
 pub mod Pieces
 pub mod Progress
 pub mod Runs
+pub mod StandardRows
 pub mod Texts

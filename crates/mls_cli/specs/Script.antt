@@ -2,7 +2,6 @@
 use Rattle.std.specs.Prelude.{ℕ, List, [], ◌∷◌, ◌++◌, length, codes, Bool, true, false, Option, Some, None, Result, Ok, Err}
 use Rattle.std.specs.FinSet as set
 use Rattle.mls_state.specs.State.{State}
-use Rattle.mls_state.specs.Start.{Start, opening}
 use Rattle.mls_rules.specs.Rules.{reply}
 use Rattle.mls_requests.specs.declared.request.Request.{Request}
 use Rattle.mls_requests.specs.declared.reply.Reply.{Reply}
@@ -35,7 +34,7 @@ answer_bytes (Replied r) = reply_text r ++ 10 ∷ []
 -- Where a script stands: the variables bound so far, and the start and the journal of the monitor that it asks. (own)
 pub record Standing : Type 0 where
   pub vars : List (List ℕ × ℕ)
-  pub start : Start
+  pub start : State
   pub entries : List Entry
 
 -- Where a script stands that has bound these variables and asks this monitor. (own)
@@ -44,7 +43,7 @@ standing_of vars m = record { vars = vars; start = m.start; entries = m.entries 
 
 -- The state that the journal has led to. (own)
 abbrev pub state_at : Standing → State
-state_at s = fold (opening s.start) s.entries
+state_at s = fold s.start s.entries
 
 -- The entry that a request adds. (own)
 abbrev pub entry_for : ℕ → Standing → Request → Entry

@@ -8,6 +8,7 @@ mod loaded;
 mod output;
 mod served;
 mod serving;
+mod standard;
 
 pub use loaded::{LoadFault, Loaded, standard_start};
 pub use mls_lines::{

@@ -1,11 +1,12 @@
 //! A start with the names that its lines may use.
 ghost use Rattle.std.specs.Prelude.{◌≡◌, IfOk, IfErr};
-ghost use Rattle.mls_state.specs.Standard as rules;
-ghost use Rattle.mls_cli.specs.Standard.{standard_names};
+ghost use Rattle.mls_state.specs.Rows.{opening};
+ghost use Rattle.mls_cli.specs.Standard.{standard_names, standard_rows};
 
+use crate::standard::standard_builder;
 use mls_labels::{Scheme, SchemeFault};
 use mls_lines::Names;
-use mls_state::Start;
+use mls_state::{Start, StartFault};
 use std::alloc::{AllocError, Allocator, Global};
 use thiserror::Error;
 
@@ -22,6 +23,9 @@ pub enum LoadFault {
     /// The names of levels and categories are refused as a scheme, for another cause than memory.
     #[error("the scheme is refused: {0}")]
     Scheme(SchemeFault),
+    /// The rows of the start are refused.
+    #[error("the start is refused: {0}")]
+    Start(StartFault),
     /// An allocation failed.
     #[error("out of memory")]
     Memory,
@@ -72,16 +76,31 @@ fn standard_names<A: Allocator + Copy>(alloc: A) -> Result<Names<A>, LoadFault>
     Ok(names)
 }
 
+/// The standard start without its names.
+///
+/// # Errors
+/// `Memory` where an allocation failed, and nothing else: with its rows nothing is wrong.
+#[tactic(auto, using(crate::proofs::StandardRows::nothing_wrong))]
+pub(crate) fn unnamed_start<A: Allocator + Copy>(alloc: A) -> Result<Start<A>, LoadFault>
+    ensures start { IfOk result (λ start. start ≡ opening standard_rows) }
+    ensures err { IfErr result (λ fault. fault ≡ LoadFault.Memory) }
+{
+    match standard_builder(alloc)?.build() {
+        Ok(start) => Ok(start),
+        Err(refused) => Err(LoadFault::Start(refused.fault)),
+    }
+}
+
 /// The standard start: ann, bob, sec and aud, and root, plans, memo and tool.
 ///
 /// # Errors
 /// `Memory` where an allocation failed, and nothing else.
 pub fn standard_start<A: Allocator + Copy>(alloc: A) -> Result<Loaded<A>, LoadFault>
     ensures names { IfOk result (λ l. l.names ≡ standard_names) }
-    ensures start { IfOk result (λ l. l.start ≡ rules.standard_start) }
+    ensures start { IfOk result (λ l. l.start ≡ opening standard_rows) }
     ensures err { IfErr result (λ fault. fault ≡ LoadFault.Memory) }
 {
-    let start = Start::standard(alloc)?;
+    let start = unnamed_start(alloc)?;
     let names = standard_names(alloc)?;
     Ok(Loaded { names, start })
 }

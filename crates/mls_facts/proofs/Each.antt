@@ -9,6 +9,7 @@ use Rattle.std.specs.FinSet.{FinSet, IsAntisymmetric}
 use Rattle.std.proofs.Common.{sym, ap, ◌∙◌}
 use Rattle.std.proofs.Math.Bool.{or-true}
 use Rattle.mls_facts.specs.Each.{each}
+use Rattle.mls_facts.proofs.Passing.{same_tests}
 
 module _ {K : Type 0} (p : K → Bool) where
   one_of_all : (q : K) (e : K → Bool) → ((x : K) → e x ≡ true → q ≡ x) → (xs : List K) → list_all p xs ≡ true → list_any e xs ≡ true → p q ≡ true
@@ -37,3 +38,9 @@ module _ {K : Type 0} {R : K → K → Ordering} (o : IsTotalOrder R) (exact : I
   -- what passes for each one passes for all
   pub contains-each : (s : FinSet R) (p : K → Bool) → ((q : K) → set.contains s q ≡ true → p q ≡ true) → each s p ≡ true
   contains-each s p known = all_of_each p (set.items s) (eq_by_cmp R) (λ x. ap is_eq (tied_itself o x)) (λ q one. known q (set.contains-items s q ∙ one))
+
+  -- what passes for each member of a list's set is what passes for all of the list
+  pub each-from_list : (p : K → Bool) (ks : List K) → each (set.from_list {R = R} ks) p ≡ list_all p ks
+  each-from_list p ks = same_tests _ _
+      (λ all. all_of_each p ks (eq_by_cmp R) (λ x. ap is_eq (tied_itself o x)) (λ q one. each-contains (set.from_list ks) p q all (set.contains-from_list o ks q ∙ one)))
+      (λ all. contains-each (set.from_list ks) p (λ q there. one_of_all p q (eq_by_cmp R q) (λ x tie. exact q x ((Equal-is (R q x)).0 tie)) ks all (sym (set.contains-from_list o ks q) ∙ there)))

@@ -1,5 +1,5 @@
 -- Lists of triples as sets: with the same members, and with each member once.
-use Rattle.std.proofs.Common.{◌≡◌, ◌+◌, Bool, true, false, cond, ◌||◌, List, [], ◌∷◌, length, Contains, refl, sym, ap, subst, ◌∙◌, arith}
+use Rattle.std.proofs.Common.{◌≡◌, ◌+◌, Bool, true, false, cond, ◌||◌, List, [], ◌∷◌, ◌++◌, length, Contains, refl, sym, ap, subst, ◌∙◌, arith}
 use Rattle.std.specs.List.{list_any, list_all, dedup, AllByRecursion}
 use Rattle.std.specs.List.Sorted.{IsSorted, IsStrictlySortedBy, IsPermutation}
 use Rattle.std.specs.Ordering.{eq_by_cmp, is_eq}
@@ -12,8 +12,7 @@ use Rattle.std.proofs.lemmas.Map.Views.{list_any-from_Contains, Contains-from_an
 use Rattle.mls_tables.specs.Triples.{Triple, triple_cmp, is_triple}
 use Rattle.mls_tables.proofs.Laws.{triples_total, same_triple, same_triples, is_triple-true, eq_by_cmp-triple}
 use Rattle.mls_facts.specs.Each.{each}
-use Rattle.mls_facts.proofs.Each.{each-contains, contains-each}
-use Rattle.mls_state.proofs.AllTriples.{Each-from_all, all-from_Each}
+use Rattle.mls_facts.proofs.Each.{each-from_list}
 use Rattle.mls_facts.proofs.Passing.{same_tests}
 
 -- a triple is in a list where it is in the list's set
@@ -26,9 +25,11 @@ in_list ts t there =
 
 -- to test each triple of a list's set is to test all of the list
 pub each_listed : (p : Triple → Bool) (ts : List Triple) → each (set.from_list {R = triple_cmp} ts) p ≡ list_all p ts
-each_listed p ts = same_tests _ _
-    (λ h. all-from_Each ts (set.from_list ts) p refl (λ t there. each-contains triples_total same_triple (set.from_list ts) p t h there))
-    (λ h. contains-each triples_total same_triple (set.from_list ts) p (Each-from_all ts (set.from_list ts) p refl h))
+each_listed p ts = each-from_list triples_total same_triple p ts
+
+-- to push a triple is to insert it
+pub from_list_pushed : (ts : List Triple) (t : Triple) → set.from_list {R = triple_cmp} (ts ++ t ∷ []) ≡ set.insert (set.from_list ts) t
+from_list_pushed ts t = set.from_list_push triples_total same_triple ts t
 
 -- lists with the same members are of one set
 pub same_members : (us ts : List Triple) → ((t : Triple) → Contains us t → Contains ts t) → ((t : Triple) → Contains ts t → Contains us t)

@@ -29,7 +29,7 @@ use Rattle.mls_state.specs.StartFaults.{start_fault, labels_fit, parents_before,
 use Rattle.mls_state.specs.First.{first_state, with_rows}
 use Rattle.mls_state.proofs.AllTriples.{at-from_Each}
 use Rattle.mls_state.proofs.EachTriple.{Each-empty}
-use Rattle.mls_state.proofs.Opening.{active-opening, subject-opening, opened}
+use Rattle.mls_state.proofs.Opening.{active_opening, subject_opening, opened}
 
 -- what is so of rows with which nothing is wrong
 pub record Faultless (rows : Rows) : Type 0 where
@@ -133,10 +133,10 @@ module _ (rows : Rows) (h : Faultless rows) where
   label_at k o at = slice_get-map (λ (x : ObjectRow). x.labels) rows.objects k ∙ ap (option_map (λ (x : ObjectRow). x.labels)) at
 
   active : (o : ℕ) → o < object_count rows → is_active (opening rows) o ≡ true
-  active o below = active-opening rows o ∙ grind (arith, nat_tests, below)
+  active o below = active_opening rows o ∙ grind (arith, nat_tests, below)
 
   below_count : (o : ℕ) → is_active (opening rows) o ≡ true → o < object_count rows
-  below_count o is = let there : nat_lt o (object_count rows) ≡ true = sym (active-opening rows o) ∙ is in grind (arith, nat_tests, there)
+  below_count o is = let there : nat_lt o (object_count rows) ≡ true = sym (active_opening rows o) ∙ is in grind (arith, nat_tests, there)
 
   -- from each object by parent steps to the root
   climbs : (n o : ℕ) → o < n → o < object_count rows → Reaches (opening rows).parent o 0
@@ -183,7 +183,7 @@ module _ (rows : Rows) (h : Faultless rows) where
   ceiling : (s : ℕ) → is_subject (opening rows) s ≡ true → is_above (map.get (opening rows).maximum s) (map.get (opening rows).current s) ≡ true
   unfolding opening
   ceiling s known =
-      let there : nat_lt s (length rows.subjects) ≡ true = sym (subject-opening rows s) ∙ known in
+      let there : nat_lt s (length rows.subjects) ≡ true = sym (subject_opening rows s) ∙ known in
       let within : s < length rows.subjects = grind (arith, nat_tests, there) in
       let row = item_at rows.subjects s within in
       (λ i. is_above (get-numbered (λ (x : Subject). Some x.maximum) rows.subjects s i) (get-numbered (λ (x : Subject). Some x.current) rows.subjects s i))
@@ -192,7 +192,7 @@ module _ (rows : Rows) (h : Faultless rows) where
 
   known : Each rows.cells (is_known (opening rows))
   known t there =
-      (λ i. subject-opening rows t.0 i && active-opening rows t.1 i)
+      (λ i. subject_opening rows t.0 i && active_opening rows t.1 i)
       ∙ each-contains triples_total same_triple rows.cells (is_cell (length rows.subjects) (object_count rows)) t h.cells there
 
   -- each cell is known in the state with all objects

@@ -84,13 +84,13 @@ opened rows cells v is all =
     })
 
 -- the objects are those below their count, and the subjects too
-pub active-opening : (rows : Rows) (o : ℕ) → is_active (opening rows) o ≡ nat_lt o (object_count rows)
+pub active_opening : (rows : Rows) (o : ℕ) → is_active (opening rows) o ≡ nat_lt o (object_count rows)
 unfolding opening
-active-opening rows o = is_some-numbered (λ (x : ObjectLabels). Some x.security) (λ _. refl) (labels_of rows) o ∙ ap (nat_lt o) (length-labels rows)
+active_opening rows o = is_some-numbered (λ (x : ObjectLabels). Some x.security) (λ _. refl) (labels_of rows) o ∙ ap (nat_lt o) (length-labels rows)
 
-pub subject-opening : (rows : Rows) (s : ℕ) → is_subject (opening rows) s ≡ nat_lt s (length rows.subjects)
+pub subject_opening : (rows : Rows) (s : ℕ) → is_subject (opening rows) s ≡ nat_lt s (length rows.subjects)
 unfolding opening
-subject-opening rows s = is_some-numbered (λ (x : Subject). Some x.maximum) (λ _. refl) rows.subjects s
+subject_opening rows s = is_some-numbered (λ (x : Subject). Some x.maximum) (λ _. refl) rows.subjects s
 
 -- and nothing is accessed
 pub accesses-opening : (rows : Rows) → (opening rows).accesses ≡ set.empty
@@ -103,13 +103,13 @@ active-first subjects root security integrity zero below = ap is_some (at_new ma
 active-first subjects root security integrity (suc o) below = absurd (omega arith)
 
 -- what is active or known there stays so with objects more
-pub active-rows : (v : State) (objects : List ObjectRow) (o : ℕ) → is_active v o ≡ true → is_active (with_rows v objects) o ≡ true
-active-rows v [] o active = active
-active-rows v (x ∷ objects) o active = active-rows (with_row v x) objects o (has-inserted v.object_label v.next x.labels.security o ∙ or_right (nat_eq o v.next) (is_active v o) active)
+pub active_rows : (v : State) (objects : List ObjectRow) (o : ℕ) → is_active v o ≡ true → is_active (with_rows v objects) o ≡ true
+active_rows v [] o active = active
+active_rows v (x ∷ objects) o active = active_rows (with_row v x) objects o (has-inserted v.object_label v.next x.labels.security o ∙ or_right (nat_eq o v.next) (is_active v o) active)
 
 -- each number below the next is active, also with one object more
-pub active-row : (v : State) (o : ObjectRow) → ((q : ℕ) → q < v.next → is_active v q ≡ true) → (q : ℕ) → q < v.next + 1 → is_active (with_row v o) q ≡ true
-active-row v o active q below =
+pub active_row : (v : State) (o : ObjectRow) → ((q : ℕ) → q < v.next → is_active v q ≡ true) → (q : ℕ) → q < v.next + 1 → is_active (with_row v o) q ≡ true
+active_row v o active q below =
     has-inserted v.object_label v.next o.labels.security q ∙ from (nat_eq q v.next) refl where
       from : (b : Bool) → nat_eq q v.next ≡ b → (b || is_active v q) ≡ true
       from true same = refl
@@ -120,12 +120,12 @@ module _ (objects : List ObjectRow) (i : ℕ) (o : ObjectRow) (within : i < leng
   next_row = drop_more objects i o within ∙ ap (λ x. x ∷ drop (i + 1) objects) (sym at)
 
   -- with the next object more, the objects after it are left
-  pub rows-left : (v : State) → with_rows (with_row v o) (drop (i + 1) objects) ≡ with_rows v (drop i objects)
-  rows-left v = ap (with_rows v) (sym next_row)
+  pub rows_left : (v : State) → with_rows (with_row v o) (drop (i + 1) objects) ≡ with_rows v (drop i objects)
+  rows_left v = ap (with_rows v) (sym next_row)
 
   -- the next object's parent is before it, and those of the objects after it before these
-  pub parents-left : (n : ℕ) → parents_before n (drop i objects) ≡ true → (o.parent < n) × (parents_before (n + 1) (drop (i + 1) objects) ≡ true)
-  parents-left n all =
+  pub parents_left : (n : ℕ) → parents_before n (drop i objects) ≡ true → (o.parent < n) × (parents_before (n + 1) (drop (i + 1) objects) ≡ true)
+  parents_left n all =
       let both = and_parts (nat_lt o.parent n) (parents_before (suc n) (drop (i + 1) objects)) (ap (parents_before n) (sym next_row) ∙ all) in
       let less : o.parent < n = grind (arith, nat_tests, both.0) in
       let more : suc n ≡ n + 1 = omega arith in

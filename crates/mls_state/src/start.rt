@@ -51,6 +51,7 @@ impl<A: Allocator> Start<A> {
 
     /// How many subjects there are: 1 to `MAX_SUBJECTS`. Their numbers are those below it. The start opens secure, always,
     /// and with no access.
+    #[tactic(auto, using(crate::proofs::Opening::subject_opening))]
     pub fn subject_count(&self) -> u16
         ensures count { (s : ℕ) → is_subject self.now s ≡ nat_lt s result }
         ensures least { 1 ≤ result }

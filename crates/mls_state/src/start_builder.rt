@@ -142,6 +142,7 @@ impl<A: Allocator> StartBuilder<A> {
     ///
     /// # Errors
     /// `AllocError` where an allocation failed; the builder is then as it was.
+    #[tactic(auto, using(crate::proofs::Cells::from_list_pushed))]
     pub fn allow(&mut self, s: SubjectId, o: ObjectId, x: Mode) -> Result<(), AllocError>
         ensures ok { OnOk result (self.new ≡ record self.old { cells = set.insert self.old.cells (s, o, x) }) }
         ensures err { OnErr result (self.new ≡ self.old) }

@@ -13,3 +13,5 @@ mod scripts;
 mod serving;
 #[cfg(test)]
 mod standard;
+#[cfg(test)]
+mod starts;

@@ -9,7 +9,7 @@ use crate::standard::{self, over_names};
 use bounds::{lines_are_bounded, script_is_limited};
 use failures::{reader_fails_in_turn, writer_fails_in_turn};
 use flushes::{all_is_flushed, failed_flush_leaves_what_was_read};
-use mls_cli::{Names, ServeFault, serve};
+use mls_cli::{Loaded, Names, ServeFault, serve, standard_start};
 use mls_monitor::{Entry, Monitor};
 use mls_rules::Start;
 use refusals::allocations_are_refused;
@@ -60,8 +60,18 @@ fn over_standard(rt: &impl Abort, alloc: Global, test: Test) -> Result<(), Fail>
     over_names(rt, alloc, standard::Test::Serving(test))
 }
 
+/// The start alone.
+fn without_names<A: Allocator>(loaded: Loaded<A>) -> Start<A> {
+    let Loaded { names, start } = loaded;
+    drop(names);
+    start
+}
+
 fn standard_monitor<A: Allocator + Copy>(alloc: A) -> Result<Monitor<A>, AllocError> {
-    Monitor::open(alloc, Start::standard(alloc)?).map_err(|_| AllocError)
+    let Ok(loaded) = standard_start(alloc) else {
+        return Err(AllocError);
+    };
+    Monitor::open(alloc, without_names(loaded)).map_err(|_| AllocError)
 }
 
 /// What serving as session 7 left: its result, and how many entries of the session.

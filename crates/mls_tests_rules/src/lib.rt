@@ -6,4 +6,8 @@ mod monitor;
 #[cfg(test)]
 mod rules;
 #[cfg(test)]
+mod standard;
+#[cfg(test)]
+mod starts;
+#[cfg(test)]
 mod state;

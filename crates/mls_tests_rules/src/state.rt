@@ -1,11 +1,12 @@
 //! Each change of a state made alone, a copy of it, and the tests of one triple.
+use crate::standard::opened;
 use mls_labels::{CatSet, IntLabel, Label, SecLabel};
 use mls_state::{
-    ObjectLabels, Start, State, discretionary_holds, integrity_holds, is_secure, simple_holds,
+    ObjectLabels, State, discretionary_holds, integrity_holds, is_secure, simple_holds,
     star_between, star_holds,
 };
 use mls_tables::{Mode, ObjectId, SubjectId};
-use std::alloc::{AllocError, Allocator};
+use std::alloc::Allocator;
 use std::process::Abort;
 use std::test::Fail;
 
@@ -22,11 +23,6 @@ const MEMO: ObjectId = ObjectId(2);
 /// A security label of a level, without categories.
 fn security(level: u8) -> SecLabel {
     SecLabel::of(Label::new(level % 4, CatSet::empty()))
-}
-
-/// The opening of the standard start.
-fn opened<A: Allocator + Clone>(alloc: A) -> Result<State<A>, AllocError> {
-    Start::standard(alloc.clone()?)?.opening(alloc)
 }
 
 /// Asserts what becomes of one current access.

@@ -1,8 +1,9 @@
 //! A variable is bound to the object that its line made, and to nothing else, whatever allocation is refused.
 use crate::answer::{Answer, Script};
+use crate::loaded::unnamed_start;
 use crate::{Vars, standard_start};
 use mls_monitor::Monitor;
-use mls_rules::{Reason, Reply, Start};
+use mls_rules::{Reason, Reply};
 use mls_tables::ObjectId;
 use refusing::Refusing;
 use std::alloc::{AllocError, Allocator, Global};
@@ -50,7 +51,10 @@ const LINES: [(&[u8], Reply, Option<ObjectId>); 8] = [
 ];
 
 fn standard_monitor<A: Allocator + Copy>(alloc: A) -> Result<Monitor<A>, AllocError> {
-    Monitor::open(alloc, Start::standard(alloc)?).map_err(|_| AllocError)
+    let Ok(start) = unnamed_start(alloc) else {
+        return Err(AllocError);
+    };
+    Monitor::open(alloc, start).map_err(|_| AllocError)
 }
 
 /// Answers a line, again where memory was refused, and says whether it was.

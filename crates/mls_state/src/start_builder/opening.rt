@@ -13,6 +13,7 @@ use mls_labels::Bounds;
 use std::alloc::{AllocError, Allocator};
 
 /// Adds some objects, each below one that is there when its turn comes.
+#[tactic(auto, using(crate::proofs::Opening::rows_left, crate::proofs::Opening::parents_left, crate::proofs::Opening::active_row))]
 fn add_objects<A: Allocator>(state: &mut State<A>, objects: &[ObjectRow]) -> Result<(), AllocError>
     requires room { state.old.next + length objects.now ≤ MAX_OBJECTS }
     requires active { (o : ℕ) → o < state.old.next → IsTrue (is_active state.old o) }

@@ -1,7 +1,8 @@
 //! Each allocation refused in turn: no read then tells a change, and the same call made again returns what it always does.
 use super::alike::are_alike;
 use super::{BOB, PLANS, ROOT, SEC, create, get, give_sec_write, opened};
-use mls_rules::{Action, Reply, Request, Start, State, apply, is_secure};
+use crate::standard::started;
+use mls_rules::{Action, Reply, Request, State, apply, is_secure};
 use mls_tables::{Mode, ObjectId};
 use refusing::Refusing;
 use std::alloc::{AllocError, Allocator, Global};
@@ -56,9 +57,9 @@ fn requests() -> [Request; 7] {
 
 /// The opening of the standard start; a call in which an allocation failed is made again.
 fn opened_again(heap: &Refusing<Global>) -> Result<State<&Refusing<Global>>, AllocError> {
-    let start = match Start::standard(heap) {
+    let start = match started(heap) {
         Ok(start) => start,
-        Err(_) => Start::standard(heap)?,
+        Err(_) => started(heap)?,
     };
     match start.opening(heap) {
         Ok(state) => Ok(state),

@@ -1,10 +1,7 @@
 use Rattle.std.proofs.Common.{◌∙◌, ap, nat_lt, sym}
-use Rattle.mls_state.proofs.Opening.{subject-opening, accesses-opening}
+use Rattle.mls_state.proofs.Opening.{subject_opening, accesses-opening}
 use Rattle.mls_state.proofs.Faultless.{faultless, secure_opening}
 use Rattle.mls_state.proofs.start.Start.subject_count.Goals as goal
-
-pub returns-clause-count : goal.returns-clause-count
-returns-clause-count g c s = rw (← c.self.view_is) (subject-opening c.self.inside.rows s ∙ ap (nat_lt s) (sym c.subject_count.ensures))
 
 pub returns-clause-secure : goal.returns-clause-secure
 returns-clause-secure g c = rw (← c.self.view_is) (secure_opening c.self.inside.rows (faultless c.self.inside.rows c.self.invariant.0))
