@@ -1,7 +1,7 @@
 //! The program `mls`: without words it answers the script on standard input over the standard start.
 #![tactic(auto)]
 
-use mls_cli::{LoadFault, Loaded, Names, ServeFault, serve, standard_start};
+use mls_cli::{LoadFault, Names, ServeFault, serve, standard_start};
 use mls_labels::SchemeFault;
 use mls_monitor::Monitor;
 use mls_rules::{Start, StartFault};
@@ -34,22 +34,29 @@ fn rows_line(fault: StartFault) -> &'static str {
     }
 }
 
+/// The line on standard error where a scheme of the standard start was refused.
+fn scheme_line(fault: SchemeFault) -> &'static str {
+    match fault {
+        SchemeFault::NoLevels => "mls: standard: start 3 Scheme 1 NoLevels",
+        SchemeFault::TooManyLevels => "mls: standard: start 3 Scheme 2 TooManyLevels",
+        SchemeFault::TooManyCategories => "mls: standard: start 3 Scheme 3 TooManyCategories",
+        SchemeFault::BadName => "mls: standard: start 3 Scheme 4 BadName",
+        SchemeFault::RepeatedName => "mls: standard: start 3 Scheme 5 RepeatedName",
+        SchemeFault::Memory => NO_MEMORY,
+    }
+}
+
 /// The line on standard error where the standard start was refused.
 fn start_line(fault: LoadFault) -> &'static str {
     match fault {
-        LoadFault::Scheme(SchemeFault::NoLevels) => "mls: standard: start 3 Scheme 1 NoLevels",
-        LoadFault::Scheme(SchemeFault::TooManyLevels) => {
-            "mls: standard: start 3 Scheme 2 TooManyLevels"
-        }
-        LoadFault::Scheme(SchemeFault::TooManyCategories) => {
-            "mls: standard: start 3 Scheme 3 TooManyCategories"
-        }
-        LoadFault::Scheme(SchemeFault::BadName) => "mls: standard: start 3 Scheme 4 BadName",
-        LoadFault::Scheme(SchemeFault::RepeatedName) => {
-            "mls: standard: start 3 Scheme 5 RepeatedName"
-        }
+        LoadFault::Json => "mls: standard: start 1 Json",
+        LoadFault::Members => "mls: standard: start 2 Members",
+        LoadFault::Scheme(fault) => scheme_line(fault),
+        LoadFault::Name => "mls: standard: start 4 Name",
+        LoadFault::Label => "mls: standard: start 5 Label",
+        LoadFault::Unknown => "mls: standard: start 6 Unknown",
         LoadFault::Start(fault) => rows_line(fault),
-        LoadFault::Scheme(SchemeFault::Memory) | LoadFault::Memory => NO_MEMORY,
+        LoadFault::Memory => NO_MEMORY,
     }
 }
 
@@ -112,7 +119,10 @@ fn serve_over(
 /// Answers the script over the standard start.
 fn serve_standard(rt: &HostRuntime) -> Result<u64, &'static str> {
     match standard_start(rt.alloc()) {
-        Ok(Loaded { names, start }) => serve_over(rt, names, start),
+        Ok(loaded) => {
+            let (names, start) = loaded.into_parts();
+            serve_over(rt, names, start)
+        }
         Err(fault) => Err(start_line(fault)),
     }
 }

@@ -3,7 +3,7 @@ use Rattle.std.proofs.Common.{◌≡◌, ◌+◌, List, length, refl, Option, So
 use Rattle.std.proofs.lemmas.Option.{none-some, same_Some}
 use Rattle.mls_labels.specs.Scheme.{bounds_of}
 use Rattle.mls_lines.specs.Names.{Names}
-use Rattle.mls_state.proofs.Laws.{subject-opening, active-opening}
+use Rattle.mls_state.proofs.Laws.{subject_opening, active_opening}
 use Rattle.mls_state.specs.Rows.{Rows, opening, object_count}
 use Rattle.mls_state.specs.declared.subject.ObjectRow.{ObjectRow}
 use Rattle.mls_tables.specs.Triples.{Triple}
@@ -26,8 +26,8 @@ unfolding opening
 integrity_is rows = refl
 
 -- the opening of rows has just as many subjects and objects
-counted : (rows : Rows) → HasCounts (length rows.subjects) (object_count rows) rows.security rows.integrity (opening rows)
-counted rows = record { known = subject-opening rows; active = active-opening rows; next = next_is rows; security = security_is rows; integrity = integrity_is rows }
+pub counted : (rows : Rows) → HasCounts (length rows.subjects) (object_count rows) rows.security rows.integrity (opening rows)
+counted rows = record { known = subject_opening rows; active = active_opening rows; next = next_is rows; security = security_is rows; integrity = integrity_is rows }
 
 by_objects : (names : Names) (labelled : Labelled) (triples : List Triple) (rows : Rows) (o : Option (List ObjectRow)) → each_of placed_child labelled.children ≡ o → option_map (rows_made names labelled triples) o ≡ Some rows
     → HasCounts (length labelled.subjects) (1 + length labelled.children) (bounds_of names.security) (bounds_of names.integrity) (opening rows)

@@ -15,9 +15,12 @@ mod object_text;
 mod places;
 mod scheme_text;
 mod schemes;
+mod standard;
+mod standard_rows;
 mod subject_text;
 mod tree;
 
 pub use load_fault::LoadFault;
 pub use loaded::Loaded;
 pub use loading::read_start;
+pub use standard::standard_start;

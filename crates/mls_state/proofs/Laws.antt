@@ -7,4 +7,4 @@ pub use Rattle.mls_state.proofs.AllTriples.{Each-from_all, all-from_Each}
 -- the objects stay a tree
 pub use Rattle.mls_state.proofs.TreeKept.{grown_tree, delete_tree, relabel_tree}
 -- which subjects and objects the opening of rows has; to insert triples one after the other is to take the set of their list
-pub use Rattle.mls_state.proofs.Opening.{subject-opening, active-opening, with_triples-from_list}
+pub use Rattle.mls_state.proofs.Opening.{subject_opening, active_opening, with_triples-from_list}

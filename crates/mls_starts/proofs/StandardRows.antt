@@ -17,9 +17,11 @@ use Rattle.mls_state.proofs.Laws.{with_triples-from_list}
 use Rattle.mls_state.specs.declared.start_fault.StartFault.{StartFault}
 use Rattle.mls_state.specs.declared.start_fault.StartFault.TheVariants.{BadLabel, BadParent, CurrentAboveMaximum, NotCompatible, IntegrityAboveParent, NoSuchCell}
 use Rattle.mls_state.specs.First.{with_triples}
-use Rattle.mls_state.specs.Rows.{labels_of}
+use Rattle.mls_state.specs.Rows.{labels_of, opening}
 use Rattle.mls_state.specs.StartFaults.{start_fault, labels_fit, parents_before, current_fits, security_fits, integrity_fits, is_cell}
-use Rattle.mls_cli.specs.Standard.{standard_rows, standard_subjects, standard_objects, standard_cells, plain, secret, top}
+use Rattle.mls_starts.proofs.Tied.{counted}
+use Rattle.mls_starts.specs.Ties.{AreTied}
+use Rattle.mls_starts.specs.Standard.{standard_names, standard_rows, standard_subjects, standard_objects, standard_cells, plain, secret, top}
 
 -- a label with the categories of a list is within bounds that have these
 within : (b : Bounds) (l : Label) → nat_lt l.level b.levels ≡ true → each l.categories (λ n. nat_lt n b.categories) ≡ true → has_label b l ≡ true
@@ -93,3 +95,7 @@ nothing_wrong =
     (unless (list_all (security_fits (labels_of standard_rows)) standard_objects) NotCompatible _ compatible
     (unless (list_all (integrity_fits (labels_of standard_rows)) standard_objects) IntegrityAboveParent _ integrities
     (unless (each standard_rows.cells (is_cell 4 4)) NoSuchCell _ cells refl)))))
+
+-- the names of the standard start go with what its rows open with
+pub names_tied : AreTied standard_names (opening standard_rows)
+names_tied = counted standard_rows

@@ -1,6 +1,6 @@
 use Rattle.std.proofs.Common.{◌≡◌, drop}
 use Rattle.mls_state.specs.First.{with_triples}
-use Rattle.mls_cli.proofs.standard.allow_all.Given as goal
+use Rattle.mls_starts.proofs.standard_rows.allow_all.Given as goal
 
 -- all but the cells is as it was, and the cells with those that are left are the cells with all
 abbrev pub invariant-loop-cell : goal.invariant-loop-cell
