@@ -3,5 +3,4 @@ pub mod LineLemmas
 pub mod Pieces
 pub mod Progress
 pub mod Runs
-pub mod StandardRows
 pub mod Texts

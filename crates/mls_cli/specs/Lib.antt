@@ -1,5 +1,3 @@
 pub mod Lines
-pub mod Loading
 pub mod Script
 pub mod Serve
-pub mod Standard

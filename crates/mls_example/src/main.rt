@@ -1,7 +1,7 @@
 //! An example of the library in use: opens a monitor over the standard start, asks twice, and goes over the journal.
 #![tactic(auto)]
 
-use mls_cli::{Loaded, Names, standard_start};
+use mls_cli::{Names, standard_start};
 use mls_monitor::{Entry, Monitor};
 use mls_rules::{Action, Request, Start};
 use mls_tables::{Mode, ObjectId, SubjectId};
@@ -65,7 +65,10 @@ fn run(rt: &HostRuntime, names: Names, start: Start) -> io::Result<()> {
 
 fn main(rt: HostRuntime) -> io::Result<()> {
     match standard_start(rt.alloc()) {
-        Ok(Loaded { names, start }) => run(&rt, names, start),
+        Ok(loaded) => {
+            let (names, start) = loaded.into_parts();
+            run(&rt, names, start)
+        }
         Err(_) => Err(AllocError.into()),
     }
 }

@@ -115,6 +115,25 @@ impl<A: Allocator + Copy> Names<A> {
 }
 
 impl<A: Allocator> Names<A> {
+    /// The names of these sets, whose places are their numbers, and these schemes. It doesn't allocate.
+    pub fn of_sets(
+        subjects: NameSet<A>,
+        objects: NameSet<A>,
+        security: Scheme<A>,
+        integrity: Scheme<A>,
+    ) -> Names<A>
+        requires subjects { length subjects ≤ MAX_SUBJECTS }
+        requires objects { length objects ≤ MAX_OBJECTS }
+        ensures { result ≡ record { subjects = subjects; objects = objects; security = security; integrity = integrity } }
+    {
+        Names {
+            subjects,
+            objects,
+            security,
+            integrity,
+        }
+    }
+
     /// The subject of this name.
     pub fn subject(&self, name: &str) -> Option<SubjectId>
         ensures { result ≡ place_of self.now.subjects name.now }

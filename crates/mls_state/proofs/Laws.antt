@@ -6,5 +6,5 @@ pub use Rattle.mls_state.proofs.EachTriple.{Each-insert, Each-remove, within-ins
 pub use Rattle.mls_state.proofs.AllTriples.{Each-from_all, all-from_Each}
 -- the objects stay a tree
 pub use Rattle.mls_state.proofs.TreeKept.{grown_tree, delete_tree, relabel_tree}
--- to insert triples one after the other is to take the set of their list
-pub use Rattle.mls_state.proofs.Opening.{with_triples-from_list}
+-- which subjects and objects the opening of rows has; to insert triples one after the other is to take the set of their list
+pub use Rattle.mls_state.proofs.Opening.{subject_opening, active_opening, with_triples-from_list}

@@ -18,4 +18,4 @@ pub use start::Start;
 pub use start_builder::{BuildRefused, StartBuilder};
 pub use start_fault::StartFault;
 pub use state::State;
-pub use subject::ObjectLabels;
+pub use subject::{ObjectLabels, Subject};

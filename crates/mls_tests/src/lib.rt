@@ -4,6 +4,8 @@
 #[cfg(test)]
 mod all_numbers;
 #[cfg(test)]
+mod commands;
+#[cfg(test)]
 mod lines;
 #[cfg(test)]
 mod rows;

@@ -73,7 +73,7 @@ fn served_by(
     script: &[u8],
     written: &mut Vec<u8>,
 ) -> Option<Left> {
-    let Loaded { names, start } = loaded;
+    let (names, start) = loaded.into_parts();
     let left = served_over(alloc, &names, start, script, written);
     drop(names);
     left

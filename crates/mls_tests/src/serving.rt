@@ -62,7 +62,7 @@ fn over_standard(rt: &impl Abort, alloc: Global, test: Test) -> Result<(), Fail>
 
 /// The start alone.
 fn without_names<A: Allocator>(loaded: Loaded<A>) -> Start<A> {
-    let Loaded { names, start } = loaded;
+    let (names, start) = loaded.into_parts();
     drop(names);
     start
 }

@@ -208,7 +208,7 @@ fn opens_with_tables(rt: &impl Abort, alloc: Global, names: &Names<Global>, star
 
 /// Asserts that of a start with its names.
 fn has_names_and_tables(rt: &impl Abort, alloc: Global, loaded: Loaded<Global>) {
-    let Loaded { names, start } = loaded;
+    let (names, start) = loaded.into_parts();
     opens_with_tables(rt, alloc, &names, &start);
     drop(start);
     drop(names);

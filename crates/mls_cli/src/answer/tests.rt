@@ -1,9 +1,8 @@
 //! A variable is bound to the object that its line made, and to nothing else, whatever allocation is refused.
 use crate::answer::{Answer, Script};
-use crate::loaded::unnamed_start;
-use crate::{Vars, standard_start};
+use crate::{Loaded, Vars, standard_start};
 use mls_monitor::Monitor;
-use mls_rules::{Reason, Reply};
+use mls_rules::{Reason, Reply, Start};
 use mls_tables::ObjectId;
 use refusing::Refusing;
 use std::alloc::{AllocError, Allocator, Global};
@@ -50,11 +49,18 @@ const LINES: [(&[u8], Reply, Option<ObjectId>); 8] = [
     ),
 ];
 
+/// The start alone.
+fn without_names<A: Allocator>(loaded: Loaded<A>) -> Start<A> {
+    let (names, start) = loaded.into_parts();
+    drop(names);
+    start
+}
+
 fn standard_monitor<A: Allocator + Copy>(alloc: A) -> Result<Monitor<A>, AllocError> {
-    let Ok(start) = unnamed_start(alloc) else {
+    let Ok(loaded) = standard_start(alloc) else {
         return Err(AllocError);
     };
-    Monitor::open(alloc, start).map_err(|_| AllocError)
+    Monitor::open(alloc, without_names(loaded)).map_err(|_| AllocError)
 }
 
 /// Answers a line, again where an allocation failed, and says whether one did.
@@ -120,7 +126,7 @@ fn refusals_in_turn(rt: &impl Abort, alloc: Global, script: &Script<'_, Global>)
 fn binds_what_was_made_whatever_allocation_is_refused(rt: HostRuntime) -> Result<(), Fail> {
     let loaded = standard_start(rt.alloc()).map_err(|_| AllocError)?;
     let script = Script {
-        names: &loaded.names,
+        names: loaded.names(),
         session: 7,
     };
     assert!(rt; refusals_in_turn(&rt, rt.alloc(), &script) >= Some(12));

@@ -1,0 +1,15 @@
+pub mod Building
+pub mod Each
+pub mod LabelViews
+pub mod Labelling
+pub mod Loading
+pub mod Looking
+pub mod NameViews
+pub mod Naming
+pub mod PlaceViews
+pub mod Placing
+pub mod Refusing
+pub mod Standard
+pub mod Texts
+pub mod Ties
+pub mod Views
