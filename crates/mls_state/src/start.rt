@@ -106,6 +106,8 @@ impl<A: Allocator + Clone> Start<A> {
         ensures secure { IsSecure self.now }
         ensures accesses { self.now.accesses ≡ set.empty }
     {
+        // that it opens secure, with no access
+        let _ = self.subject_count();
         self.rows.opening(alloc)
     }
 }

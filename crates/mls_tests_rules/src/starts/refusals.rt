@@ -51,7 +51,6 @@ fn count_alike<A: Allocator>(rt: &impl Abort, one: &Start<A>, other: &Start<A>) 
     assert!(rt; one.subject_count() == other.subject_count());
     assert!(rt; one.object_count() == other.object_count());
     assert!(rt; one.cell_count() == other.cell_count());
-    assert!(rt; one.security() == other.security() && one.integrity() == other.integrity());
 }
 
 /// Builds and opens the standard start beside a start and an opening that have ample memory.
