@@ -1,5 +1,5 @@
 //! The lines that tell why a command was refused.
-ghost use Rattle.std.specs.Prelude.{◌≡◌, OnErr};
+ghost use Rattle.std.specs.Prelude.{◌≡◌, OnErr, string_bytes};
 
 use crate::command::CommandFault;
 use mls_labels::SchemeFault;
@@ -69,7 +69,7 @@ pub fn write_fault(
     file: &str,
     text: &mut String,
 ) -> Result<(), AllocError>
-    ensures err { OnErr result (text.new ≡ text.old) }
+    ensures err { OnErr result (string_bytes text.new ≡ string_bytes text.old) }
 {
     let line = fault_line(alloc, fault, file)?;
     text.push_str(&line)
