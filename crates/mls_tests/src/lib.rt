@@ -13,5 +13,3 @@ mod scripts;
 mod serving;
 #[cfg(test)]
 mod standard;
-#[cfg(test)]
-mod starts;
