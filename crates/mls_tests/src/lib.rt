@@ -15,5 +15,3 @@ mod scripts;
 mod serving;
 #[cfg(test)]
 mod standard;
-#[cfg(test)]
-mod starts;

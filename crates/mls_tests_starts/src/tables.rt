@@ -1,6 +1,8 @@
-//! The standard start: each read of what it opens with, beside the tables of its format.
-use mls_cli::{Loaded, Names, standard_start};
-use mls_rules::{Start, State, is_secure};
+//! The standard start and the standard file: each read of what they open with, beside the tables of the format.
+use crate::files::STANDARD;
+use mls_lines::Names;
+use mls_starts::{Loaded, read_start, standard_start};
+use mls_state::{Start, State, is_secure};
 use mls_tables::{Mode, Modes, ObjectId, SubjectId};
 use std::alloc::{Allocator, Global};
 use std::process::Abort;
@@ -219,5 +221,13 @@ fn the_standard_start_has_its_tables(rt: HostRuntime) {
     match standard_start(rt.alloc()) {
         Ok(loaded) => has_names_and_tables(&rt, rt.alloc(), loaded),
         Err(_) => assert!(rt; false, "memory"),
+    }
+}
+
+#[test]
+fn the_standard_file_has_its_tables(rt: HostRuntime) {
+    match read_start(rt.alloc(), STANDARD.as_bytes()) {
+        Ok(loaded) => has_names_and_tables(&rt, rt.alloc(), loaded),
+        Err(_) => assert!(rt; false, "refused"),
     }
 }
