@@ -1,5 +1,5 @@
 -- What a state has, and what each granted change keeps, the state after any request has.
-use Rattle.std.proofs.Common.{◌≡◌, Bool, true, false, List, [], ◌∷◌, refl, sym, ap, ◌∙◌, if◌then◌else◌}
+use Rattle.std.proofs.Common.{◌≡◌, Bool, true, false, List, [], ◌∷◌, refl, if◌then◌else◌}
 use Rattle.mls_requests.specs.declared.request.Request.{Request}
 use Rattle.mls_requests.specs.declared.reason.Reason.{Reason}
 use Rattle.mls_requests.specs.declared.reply.Reply.{Reply}
@@ -51,5 +51,5 @@ in_domain true cs grant is = unless_holds cs grant is
 in_domain false cs grant is = cc
 
 -- every condition of a request that is granted holds
-pub grant_holds : (v : State) (r : Request) (x : Reply) → x ≡ reply v r → is_grant x ≡ true → AllHold (conditions v r.subject r.action)
-grant_holds v r x is grant = in_domain (is_defined v r) (conditions v r.subject r.action) (granted v r.action) (ap is_grant (sym is) ∙ grant)
+pub grant_holds : (v : State) (r : Request) → is_grant (reply v r) ≡ true → AllHold (conditions v r.subject r.action)
+grant_holds v r grant = in_domain (is_defined v r) (conditions v r.subject r.action) (granted v r.action) grant

@@ -59,6 +59,22 @@ fn make_change<A: Allocator>(
     Ok(())
 }
 
+/// Replies to a request, and changes the state where it is granted.
+#[tactic(auto, using(crate::proofs::AfterKeeps::grant_holds))]
+fn carry_out<A: Allocator>(state: &mut State<A>, request: &Request) -> Result<Reply, AllocError>
+    ensures reply { IfOk result (λ r. r ≡ reply state.old request.now) }
+    ensures ok { OnOk result (state.new ≡ after state.old request.now) }
+    ensures err { OnErr result (state.new ≡ state.old) }
+    ensures memory { IsTrue (needs_no_room (reply state.old request.now) request.now.action) → IsOk result }
+{
+    let reply = decide(state, request);
+    match reply {
+        Reply::Yes | Reply::Created(_) => make_change(state, request.subject, request.action)?,
+        Reply::No(_) | Reply::Undefined => {}
+    }
+    Ok(reply)
+}
+
 /// Replies to a request, and changes the state where it is granted. From a secure state it leaves a secure state.
 ///
 /// # Errors
@@ -71,10 +87,6 @@ pub fn apply<A: Allocator>(state: &mut State<A>, request: &Request) -> Result<Re
     ensures memory { IsTrue (needs_no_room (reply state.old request.now) request.now.action) → IsOk result }
     ensures secure { IsSecure state.old → IsSecure state.new }
 {
-    let reply = decide(state, request);
-    match reply {
-        Reply::Yes | Reply::Created(_) => make_change(state, request.subject, request.action)?,
-        Reply::No(_) | Reply::Undefined => {}
-    }
+    let reply = carry_out(state, request)?;
     Ok(reply)
 }

@@ -1,6 +1,6 @@
 -- What stands for the subjects of whom one has another current label, and for the objects of which one has another security label.
 use Rattle.std.proofs.Common.{◌≡◌, ℕ, ◌<◌, Bool, true, List, length, Some, refl, sym, ap, ◌∙◌, set, get_or}
-use Rattle.std.specs.Prelude.{slice_get}
+use Rattle.std.specs.Prelude.{slice_get, nat_lt, ◌&&◌}
 use Rattle.std.proofs.lemmas.Bool.{and_parts}
 use Rattle.std.proofs.lemmas.List.{length-set}
 use Rattle.std.proofs.lemmas.Option.{slice_get_read}
@@ -9,8 +9,8 @@ use Rattle.mls_labels.specs.Label.{Label}
 use Rattle.mls_state.specs.declared.subject.Subject.{Subject}
 use Rattle.mls_state.specs.declared.subject.ObjectLabels.{ObjectLabels}
 use Rattle.mls_facts.specs.Numbered.{numbered, places_of}
-use Rattle.mls_facts.proofs.Entries.{has-kept, has-replaced, retain_keys-insert}
-use Rattle.mls_facts.proofs.Numbered.{within-numbered}
+use Rattle.mls_facts.proofs.Entries.{has-kept, retain_keys-insert}
+use Rattle.mls_facts.proofs.Numbered.{within-numbered, is_some-numbered}
 use Rattle.mls_state.proofs.NumberedSet.{numbered-set, numbered-kept, places-kept}
 
 -- one subject with another current label
@@ -57,7 +57,25 @@ module _ (items : List ObjectLabels) (p : ℕ → Bool) (n : ℕ) (old : ObjectL
       ≡ map.retain_keys (numbered (λ (x : ObjectLabels). Some x.integrity) items) p
   integrity_kept = ap (λ m. map.retain_keys m p) (numbered-kept (λ (x : ObjectLabels). x.integrity) items n (record old { security = l }) old place at_place refl)
 
--- what the function that gives a subject another current label needs, and the one that gives an object another security label
-pub ruleset with_current_steps = (length-set, maximum_kept, current_replaced, subject_integrity_kept, trusted_kept)
+-- a list has the places that it had where one item is another
+pub subjects_as_many : (items : List Subject) (n : ℕ) (new : Subject) (q : ℕ)
+    → map.contains_key (numbered (λ (x : Subject). Some x.maximum) (set items n new)) q ≡ map.contains_key (numbered (λ (x : Subject). Some x.maximum) items) q
+subjects_as_many items n new q =
+    is_some-numbered (λ (x : Subject). Some x.maximum) (λ _. refl) (set items n new) q
+    ∙ ap (nat_lt q) (length-set items n new)
+    ∙ sym (is_some-numbered (λ (x : Subject). Some x.maximum) (λ _. refl) items q)
 
-pub ruleset with_object_label_steps = (length-set, has-replaced, security_replaced, integrity_kept)
+pub objects_as_many : (items : List ObjectLabels) (p : ℕ → Bool) (n : ℕ) (new : ObjectLabels) (q : ℕ)
+    → map.contains_key (map.retain_keys (numbered (λ (x : ObjectLabels). Some x.security) (set items n new)) p) q
+    ≡ map.contains_key (map.retain_keys (numbered (λ (x : ObjectLabels). Some x.security) items) p) q
+objects_as_many items p n new q =
+    has-kept (numbered (λ (x : ObjectLabels). Some x.security) (set items n new)) p q
+    ∙ ap (λ b. b && p q) (is_some-numbered (λ (x : ObjectLabels). Some x.security) (λ _. refl) (set items n new) q
+    ∙ ap (nat_lt q) (length-set items n new)
+    ∙ sym (is_some-numbered (λ (x : ObjectLabels). Some x.security) (λ _. refl) items q))
+    ∙ sym (has-kept (numbered (λ (x : ObjectLabels). Some x.security) items) p q)
+
+-- what the function that gives a subject another current label needs, and the one that gives an object another security label
+pub ruleset with_current_steps = (length-set, subjects_as_many, maximum_kept, current_replaced, subject_integrity_kept, trusted_kept)
+
+pub ruleset with_object_label_steps = (length-set, objects_as_many, security_replaced, integrity_kept)
