@@ -1,5 +1,5 @@
 -- What names are bound to, once one more was bound.
-use Rattle.std.proofs.Common.{◌≡◌, ℕ, Bool, true, false, cond, if◌then◌else◌, List, [], ◌∷◌, map, Some, String, string_bytes, refl, ap, ◌∙◌, inl, inr, Result, Ok, Err, IsOk, OnOk}
+use Rattle.std.proofs.Common.{◌≡◌, ℕ, Bool, true, false, cond, if◌then◌else◌, List, [], ◌∷◌, map, Some, String, string_bytes, refl, ap, ◌∙◌, inl, inr}
 use Rattle.std.proofs.lemmas.Bool.{cases_Bool}
 use Rattle.std.proofs.lemmas.Slice.Eq.{bytes_eq-Decides}
 use Rattle.std.specs.Map.{lookup}
@@ -56,7 +56,9 @@ bound_to-with_binding (b ∷ bindings) name object other =
           ∙ apart (bytes_eq other b.0) (bytes_eq other name) (Some b.1) (Some object) (bound_to other bindings) not_both)
     ]
 
--- what holds where a call was Ok, of one that was
-pub at_ok : {T E P : Type 0} (r : Result T E) → IsOk r → OnOk r P → P
-at_ok (Ok x) is p = p
-at_ok (Err e) is p = cc
+-- what a variable is bound to, by the map that keeps the pairs
+pub bound_to-pairs : {Y : Type 0} (name : List ℕ) (es : List (String Y × ℕ)) → bound_to name (map (λ p. (string_bytes p.0, p.1)) es) ≡ lookup (λ k. bytes_eq name (string_bytes k)) es
+bound_to-pairs name es = lookup-map string_bytes (bytes_eq name) es
+
+-- what the functions on variables need
+pub ruleset bindings = (bound_to-with_binding, bound_to-pairs, pairs-insert_entry)

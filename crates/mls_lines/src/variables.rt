@@ -45,6 +45,7 @@ impl<A: Allocator + Copy> Vars<A> {
     ///
     /// # Errors
     /// `AllocError` where an allocation failed; every variable then stays as it was.
+    #[tactic(auto, using(crate::proofs::VarLemmas::bindings))]
     pub fn bind(&mut self, name: &str, object: ObjectId) -> Result<(), AllocError>
         ensures ok { OnOk result (self.new.bound ≡ with_binding self.old.bound name.now object) }
         ensures bound { OnOk result (Binds self.old.bound name.now object self.new.bound) }
@@ -72,6 +73,7 @@ impl<A: Allocator + Copy> Vars<A> {
 
 impl<A: Allocator> Vars<A> {
     /// Binds a variable to an object, in place of what it was bound to. It doesn't allocate.
+    #[tactic(auto, using(crate::proofs::VarLemmas::bindings))]
     pub fn bind_reserved(&mut self, name: String<A>, object: ObjectId)
         requires { 0 < self.old.room }
         ensures { self.new.bound ≡ with_binding self.old.bound (string_bytes name) object }
@@ -81,6 +83,7 @@ impl<A: Allocator> Vars<A> {
     }
 
     /// The object that a variable is bound to.
+    #[tactic(auto, using(crate::proofs::VarLemmas::bindings))]
     pub fn get(&self, name: &str) -> Option<ObjectId>
         ensures { result ≡ bound_to name.now self.now.bound }
     {
