@@ -11,29 +11,7 @@ folder=$(mktemp -d) || exit 1
 trap 'rm -r "$folder"' EXIT
 start=$folder/start.json
 
-# Objects have the one of half their number as their parent. Cells are drawn by a small generator of numbers; some are drawn twice.
-awk -v limit=8388608 'function put(text) { size += length(text) + 1; print text }
-function drawn(below) { seed = seed * 16807 % 2147483647; return seed % below }
-BEGIN {
-  split("execute,read,append,write", mode, ",")
-  put("{\"security\": {\"levels\": [\"U\", \"C\", \"S\", \"T\"], \"categories\": [\"A\", \"B\"]},")
-  put("\"integrity\": {\"levels\": [\"lo\", \"hi\"], \"categories\": []},")
-  put("\"subjects\": [")
-  for (n = 0; n < 256; n++)
-    put("{\"name\": \"s" n "\", \"maximum\": \"S:A\", \"current\": \"C\", \"integrity\": \"hi\", \"trusted\": false}" (n < 255 ? "," : ""))
-  put("], \"objects\": [")
-  put("{\"name\": \"o0\", \"parent\": null, \"security\": \"U\", \"integrity\": \"hi\"},")
-  for (n = 1; n < 4096; n++)
-    put("{\"name\": \"o" n "\", \"parent\": \"o" int(n / 2) "\", \"security\": \"C:A\", \"integrity\": \"lo\"}" (n < 4095 ? "," : ""))
-  put("], \"matrix\": [")
-  seed = 1
-  for (;;) {
-    cell = "{\"subject\": \"s" drawn(256) "\", \"object\": \"o" drawn(4096) "\", \"modes\": [\"" mode[1 + drawn(4)] "\"]}"
-    if (size + length(cell) + 10 > limit) break
-    put((cells++ ? "," : "") cell)
-  }
-  put("]}")
-}' >"$start"
+bench/large-start 8388608 >"$start"
 bytes=$(wc -c <"$start")
 echo "start: $bytes bytes"
 "$program" check "$start" || exit 1

@@ -1,15 +1,18 @@
 //! The program `mls`: it runs the command that its words name; without words it answers the script on standard input over the standard start.
 #![tactic(auto)]
 
+mod commands;
 mod files;
 mod output;
+mod progress;
+mod scripts;
 mod serving;
 mod words;
 
 use clap::Error;
-use files::read_file;
-use mls_cli::{START_LIMIT, check_start};
-use output::{NO_MEMORY, NOT_WRITTEN, command_refused, file_refused, print, refused};
+use commands::{check, replay};
+use output::{NO_MEMORY, NOT_WRITTEN, refused};
+use scripts::run;
 use serving::serve_standard;
 use std::env;
 use std::env::FillError;
@@ -20,20 +23,6 @@ use words::{Job, read_words};
 /// Whether the program was given a word. No word is copied, so it needs no memory and takes any bytes.
 fn has_words(env: &impl Env) -> bool {
     !matches!(env.arg(1, &mut [0u8; 1]), Err(FillError::NotPresent))
-}
-
-/// Checks a start file.
-fn check(rt: &HostRuntime, start: &str) -> ExitCode {
-    let bytes = match read_file(rt, start, START_LIMIT) {
-        Ok(bytes) => bytes,
-        Err(fault) => return file_refused(rt, start, fault),
-    };
-    let checked = check_start(rt.alloc(), &bytes);
-    drop(bytes);
-    match checked {
-        Ok(text) => print(rt, &text),
-        Err(fault) => command_refused(rt, start, fault),
-    }
 }
 
 /// Prints help, the version, or why the words aren't understood.
@@ -52,13 +41,15 @@ fn explained(rt: &HostRuntime, error: Error) -> ExitCode {
 fn run_words(rt: &HostRuntime, words: &[String]) -> ExitCode {
     match read_words(rt.alloc(), words) {
         Ok(Job::Check { start }) => check(rt, start),
+        Ok(Job::Run(words)) => run(rt, &words),
+        Ok(Job::Replay { start, journal }) => replay(rt, start, journal),
         Ok(Job::Serve) => serve_standard(rt),
         Err(error) => explained(rt, error),
     }
 }
 
 /// Reads the words and does what they ask for.
-fn run(rt: &HostRuntime) -> ExitCode {
+fn run_args(rt: &HostRuntime) -> ExitCode {
     let Ok(args) = env::args(rt) else {
         return refused(rt, "mls: a word isn't UTF-8", 2);
     };
@@ -72,7 +63,7 @@ fn run(rt: &HostRuntime) -> ExitCode {
 
 fn main(rt: HostRuntime) -> ExitCode {
     if has_words(&rt) {
-        run(&rt)
+        run_args(&rt)
     } else {
         serve_standard(&rt)
     }

@@ -1,5 +1,6 @@
 //! What the program writes: the output of a command, and the line that tells of a fault.
 use crate::files::FileFault;
+use crate::progress::Progress;
 use mls_cli::{CommandFault, status, write_fault};
 use std::io::Write;
 use std::process::ExitCode;
@@ -11,7 +12,7 @@ pub const NOT_WRITTEN: &str = "mls: output: write";
 pub const NO_MEMORY: &str = "mls: memory";
 
 /// Hands bytes to a writer until all are taken, and says whether it took them. An interrupted write counts as failed.
-fn is_taken<W: Write>(writer: &mut W, text: &[u8]) -> bool {
+pub fn is_taken<W: Write>(writer: &mut W, text: &[u8]) -> bool {
     let mut rest = text;
     while !rest.is_empty() {
         match writer.write(rest) {
@@ -28,8 +29,10 @@ pub fn refused(rt: &HostRuntime, line: &str, status: u8) -> ExitCode {
     ExitCode::from(status)
 }
 
-/// Tells why a file wasn't read.
-pub fn file_refused(rt: &HostRuntime, file: &str, fault: FileFault) -> ExitCode {
+/// Tells why a file wasn't read or written.
+pub fn file_refused(progress: &mut Progress<'_>, file: &str, fault: FileFault) -> ExitCode {
+    progress.end();
+    let rt = progress.rt();
     let _ = match fault {
         FileFault::File => eprintln!(rt; "mls: {file}: file"),
         FileFault::TooLong => eprintln!(rt; "mls: {file}: too long"),
@@ -39,13 +42,13 @@ pub fn file_refused(rt: &HostRuntime, file: &str, fault: FileFault) -> ExitCode 
 }
 
 /// Tells why a command over a file was refused.
-pub fn command_refused(rt: &HostRuntime, file: &str, fault: CommandFault) -> ExitCode {
+pub fn command_refused(rt: &HostRuntime, file: &str, fault: &CommandFault) -> ExitCode {
     let mut line = String::new(rt.alloc());
-    if write_fault(rt.alloc(), fault, file, &mut line).is_err() {
+    if write_fault(rt.alloc(), *fault, file, &mut line).is_err() {
         return refused(rt, NO_MEMORY, 1);
     }
     let _ = eprint!(rt; "{line}");
-    ExitCode::from(status(fault))
+    ExitCode::from(status(*fault))
 }
 
 /// Writes the output of a command to standard output.

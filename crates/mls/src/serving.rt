@@ -69,6 +69,6 @@ pub fn serve_standard(rt: &HostRuntime) -> ExitCode {
             let (names, start) = loaded.into_parts();
             serve_over(rt, names, start)
         }
-        Err(fault) => command_refused(rt, "standard", CommandFault::from(fault)),
+        Err(fault) => command_refused(rt, "standard", &CommandFault::from(fault)),
     }
 }

@@ -1,18 +1,31 @@
 //! The words of a command line.
-use clap::{Arg, ArgMatches, Command, Error};
+use clap::{Arg, ArgAction, ArgMatches, Command, Error};
 use std::alloc::{AllocError, Global};
 
+/// What a run of scripts is asked for.
+#[derive(Debug, Drop)]
+pub struct RunWords<'a> {
+    pub start: &'a str,
+    pub scripts: Vec<&'a str>,
+    /// The file that the journal is written to, where one is.
+    pub journal: Option<&'a str>,
+}
+
 /// What a command line asks for.
-#[derive(Clone, Copy, Debug)]
+#[derive(Debug, Drop)]
 pub enum Job<'a> {
     /// To answer the script on standard input.
     Serve,
     /// To check a start file.
     Check { start: &'a str },
+    /// To run scripts over a start file.
+    Run(RunWords<'a>),
+    /// To replay a journal over a start file.
+    Replay { start: &'a str, journal: &'a str },
 }
 
 /// The version, and the toolchain's line.
-const VERSION: &str = "0.13, proved with rattle-kit-13b logic dac8208d650f15bf";
+const VERSION: &str = "0.1.0, proved with rattle-kit-13b logic dac8208d650f15bf";
 
 const ABOUT: &str =
     "A reference monitor for multilevel security. Without a command it answers the script on \
@@ -25,34 +38,112 @@ const CHECK_ABOUT: &str =
 
 const CHECK_EXAMPLE: &str = "Example: mls check examples/office.json";
 
+const RUN_ABOUT: &str =
+    "Runs scripts over a start file and prints their answers, how many entries the journal has, and that the state is secure";
+
+const RUN_EXAMPLE: &str =
+    "Example: mls run --journal office.journal examples/office.json examples/office.script";
+
+const REPLAY_ABOUT: &str =
+    "Recomputes every reply of a journal over a start file, or tells the first entry that is wrong";
+
+const REPLAY_EXAMPLE: &str = "Example: mls replay examples/office.json office.journal";
+
+/// The operand `START`.
+fn start_operand<'a>(alloc: Global) -> Arg<'a> {
+    Arg::new(alloc, "START")
+        .help("The start file, JSON")
+        .required(true)
+}
+
 /// The command `check`.
 fn check_command<'a>(alloc: Global) -> Result<Command<'a>, AllocError> {
-    let start = Arg::new(alloc, "START")
-        .help("The start file, JSON")
-        .required(true);
     Command::new(alloc, "check")
         .about(CHECK_ABOUT)
         .after_help(CHECK_EXAMPLE)
-        .arg(start)
+        .arg(start_operand(alloc))
+}
+
+/// The command `run`.
+fn run_command<'a>(alloc: Global) -> Result<Command<'a>, AllocError> {
+    let serial = Arg::new(alloc, "serial")
+        .long("serial")
+        .help("Runs the scripts one after the other, which is so by now without it too")
+        .action(ArgAction::SetTrue);
+    let journal = Arg::new(alloc, "journal")
+        .long("journal")
+        .value_name("FILE")
+        .help("Writes the journal to FILE, which is made anew")
+        .action(ArgAction::Set);
+    let scripts = Arg::new(alloc, "SCRIPT")
+        .help("The scripts, at most 64; the first is session 0")
+        .required(true)
+        .num_args(1..)
+        .action(ArgAction::Append);
+    Command::new(alloc, "run")
+        .about(RUN_ABOUT)
+        .after_help(RUN_EXAMPLE)
+        .arg(serial)?
+        .arg(journal)?
+        .arg(start_operand(alloc))?
+        .arg(scripts)
+}
+
+/// The command `replay`.
+fn replay_command<'a>(alloc: Global) -> Result<Command<'a>, AllocError> {
+    let journal = Arg::new(alloc, "JOURNAL")
+        .help("The journal, as mls run writes it")
+        .required(true);
+    Command::new(alloc, "replay")
+        .about(REPLAY_ABOUT)
+        .after_help(REPLAY_EXAMPLE)
+        .arg(start_operand(alloc))?
+        .arg(journal)
 }
 
 /// The program's command line.
 fn command<'a>(alloc: Global) -> Result<Command<'a>, AllocError> {
-    let check = check_command(alloc)?;
     Command::new(alloc, "mls")
         .version(VERSION)
         .about(ABOUT)
         .after_help(EXAMPLE)
-        .subcommand(check)
+        .subcommand(check_command(alloc)?)?
+        .subcommand(run_command(alloc)?)?
+        .subcommand(replay_command(alloc)?)
+}
+
+/// The text of an operand.
+fn operand<'a>(matches: &ArgMatches<'a>, name: &str) -> &'a str {
+    matches.get_str(name).unwrap_or("")
+}
+
+/// What a run was asked for.
+fn run_words<'a>(alloc: Global, matches: &ArgMatches<'a>) -> Result<RunWords<'a>, AllocError> {
+    let mut scripts = Vec::new(alloc);
+    if let Some(named) = matches.get_strs("SCRIPT") {
+        for script in named {
+            scripts.push(*script)?;
+        }
+    }
+    Ok(RunWords {
+        start: operand(matches, "START"),
+        scripts,
+        journal: matches.get_str("journal"),
+    })
 }
 
 /// What was asked for.
-fn job_of<'a>(matches: &ArgMatches<'a>) -> Job<'a> {
+fn job_of<'a>(alloc: Global, matches: &ArgMatches<'a>) -> Result<Job<'a>, AllocError> {
     match matches.subcommand() {
-        Some(("check", check)) => Job::Check {
-            start: check.get_str("START").unwrap_or(""),
-        },
-        _ => Job::Serve,
+        Some(("check", words)) => Ok(Job::Check {
+            start: operand(words, "START"),
+        }),
+        Some(("run", words)) => Ok(Job::Run(run_words(alloc, words)?)),
+        Some(("replay", words)) => Ok(Job::Replay {
+            start: operand(words, "START"),
+            journal: operand(words, "JOURNAL"),
+        }),
+        _ => Ok(Job::Serve),
     }
 }
 
@@ -62,5 +153,5 @@ fn job_of<'a>(matches: &ArgMatches<'a>) -> Job<'a> {
 /// Words that aren't understood, or a request for help or the version: the error has the text to print.
 pub fn read_words<'a>(alloc: Global, words: &'a [String]) -> Result<Job<'a>, Error> {
     let matches = command(alloc)?.try_get_matches_from(words)?;
-    Ok(job_of(&matches))
+    Ok(job_of(alloc, &matches)?)
 }

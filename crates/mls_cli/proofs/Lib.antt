@@ -4,3 +4,4 @@ pub mod Pieces
 pub mod Progress
 pub mod Runs
 pub mod Texts
+pub mod JournalTexts

@@ -1,3 +1,5 @@
+pub mod Commands
 pub mod Lines
+pub mod Run
 pub mod Script
 pub mod Serve

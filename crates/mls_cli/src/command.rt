@@ -1,12 +1,12 @@
-//! The commands of the program: what each prints, and why one is refused.
-use mls_rules::is_secure;
-use mls_starts::{LoadFault, read_start};
-use mls_state::Start;
-use std::alloc::{AllocError, Global};
-use thiserror::Error;
+//! Why a command of the program is refused.
+ghost use Rattle.std.specs.Prelude.{◌≡◌};
+ghost use Rattle.mls_cli.specs.Commands.{status_of};
 
-/// The most bytes that a start file may have.
-pub const START_LIMIT: usize = 8_388_608;
+use mls_journal::EntryFault;
+use mls_monitor::ReplayFault;
+use mls_starts::LoadFault;
+use std::alloc::AllocError;
+use thiserror::Error;
 
 /// Why a command was refused.
 #[derive(Clone, Copy, Debug, PartialEq, Eq, Error)]
@@ -14,12 +14,23 @@ pub enum CommandFault {
     /// The start is refused, for another cause than memory.
     #[error("the start is refused: {0}")]
     Load(LoadFault),
+    /// A line of the journal is refused: the first that is, counted from 1.
+    #[error("line {line} of the journal is refused: {fault}")]
+    Entry { line: u64, fault: EntryFault },
+    /// The journal isn't one of this start, for another cause than memory.
+    #[error("the journal is refused: {0}")]
+    Replay(ReplayFault),
     /// An allocation failed.
     #[error("out of memory")]
     Memory,
 }
 
 impl From<LoadFault> for CommandFault {
+    ghost use Rattle.std.specs.Prelude.{◌≡◌};
+    ghost use Rattle.mls_cli.specs.Commands.{command_fault};
+
+    ghost from_gives = { λ refused fault. fault ≡ command_fault refused };
+
     /// Out of memory is `Memory`, whatever met it.
     fn from(fault: LoadFault) -> CommandFault {
         match fault {
@@ -30,49 +41,38 @@ impl From<LoadFault> for CommandFault {
 }
 
 impl From<AllocError> for CommandFault {
+    ghost use Rattle.std.specs.Prelude.{◌≡◌};
+    ghost use Rattle.mls_cli.specs.declared.command.CommandFault.TheVariants.{Memory};
+
+    ghost from_gives = { λ _ fault. fault ≡ Memory };
+
     fn from(_: AllocError) -> CommandFault {
         CommandFault::Memory
     }
 }
 
-/// The status that the program ends with where a command was refused.
-pub fn status(fault: CommandFault) -> u8 {
-    match fault {
-        CommandFault::Load(_) | CommandFault::Memory => 1,
+impl From<ReplayFault> for CommandFault {
+    ghost use Rattle.std.specs.Prelude.{◌≡◌};
+    ghost use Rattle.mls_cli.specs.Commands.{replay_fault};
+
+    ghost from_gives = { λ refused fault. fault ≡ replay_fault refused };
+
+    /// Out of memory is `Memory`, whatever met it.
+    fn from(fault: ReplayFault) -> CommandFault {
+        match fault {
+            ReplayFault::Memory => CommandFault::Memory,
+            fault => CommandFault::Replay(fault),
+        }
     }
 }
 
-/// Whether the state that a start opens with is secure, looked at from scratch.
-fn opens_secure(alloc: Global, start: &Start) -> Result<bool, AllocError> {
-    let state = start.opening(alloc)?;
-    let secure = is_secure(&state);
-    drop(state);
-    Ok(secure)
-}
-
-/// What `mls check` prints of a start.
-fn report(alloc: Global, start: &Start) -> Result<String, AllocError> {
-    let secure = if opens_secure(alloc, start)? {
-        "yes"
-    } else {
-        "no"
-    };
-    let (subjects, objects, cells) = (
-        start.subject_count(),
-        start.object_count(),
-        start.cell_count(),
-    );
-    format!(in alloc; "subjects {subjects}\nobjects {objects}\ncells {cells}\nsecure {secure}\n")
-}
-
-/// What `mls check` prints of a start file: how many subjects, objects and cells it has, and whether it opens secure.
-///
-/// # Errors
-/// `Load` where the file is refused, `Memory` where an allocation failed.
-pub fn check_start(alloc: Global, bytes: &[u8]) -> Result<String, CommandFault> {
-    let (names, start) = read_start(alloc, bytes)?.into_parts();
-    drop(names);
-    let text = report(alloc, &start);
-    drop(start);
-    Ok(text?)
+/// The status that the program ends with where a command was refused: 3 for a journal that differs from what the start replays,
+/// 1 for all else.
+pub fn status(fault: CommandFault) -> u8
+    ensures { result ≡ status_of fault }
+{
+    match fault {
+        CommandFault::Replay(_) => 3,
+        CommandFault::Load(_) | CommandFault::Entry { .. } | CommandFault::Memory => 1,
+    }
 }

@@ -2,10 +2,16 @@
 ghost use Rattle.std.specs.Prelude.{◌≡◌, OnErr, string_bytes};
 
 use crate::command::CommandFault;
+use mls_builder::StartFault;
+use mls_journal::EntryFault;
 use mls_labels::SchemeFault;
+use mls_monitor::ReplayFault;
+use mls_requests::{Reply, ReplyWord};
 use mls_starts::LoadFault;
-use mls_state::StartFault;
 use std::alloc::{AllocError, Global};
+
+/// The line that tells of an allocation that failed.
+const MEMORY_LINE: &str = "mls: memory\n";
 
 /// The number and the name of a scheme's fault.
 fn scheme_words(fault: SchemeFault) -> &'static str {
@@ -48,6 +54,50 @@ fn load_words(fault: LoadFault) -> (&'static str, &'static str) {
     }
 }
 
+/// The number and the name of a fault of a journal's line.
+fn entry_words(fault: EntryFault) -> &'static str {
+    match fault {
+        EntryFault::BadForm => "1 BadForm",
+        EntryFault::BadNumber => "2 BadNumber",
+        EntryFault::BadLabel => "3 BadLabel",
+        EntryFault::BadReply => "4 BadReply",
+    }
+}
+
+/// The line that tells which reply the rules give where a journal has another.
+fn differs_line(
+    alloc: Global,
+    file: &str,
+    at: u64,
+    expected: &Reply,
+) -> Result<String, AllocError> {
+    let word = ReplyWord::of(*expected).word();
+    match expected {
+        Reply::Yes | Reply::Undefined => {
+            format!(in alloc; "mls: {file}: replay 2 Differs at {at} expected {word}\n")
+        }
+        Reply::Created(object) => {
+            let number = object.number();
+            format!(in alloc; "mls: {file}: replay 2 Differs at {at} expected {word} {number}\n")
+        }
+        Reply::No(reason) => {
+            let reason = reason.word();
+            format!(in alloc; "mls: {file}: replay 2 Differs at {at} expected {word} {reason}\n")
+        }
+    }
+}
+
+/// The line that tells of the first entry of a journal that isn't as the rules have it.
+fn replay_line(alloc: Global, file: &str, fault: ReplayFault) -> Result<String, AllocError> {
+    match fault {
+        ReplayFault::Number { at } => {
+            format!(in alloc; "mls: {file}: replay 1 Number at {at}\n")
+        }
+        ReplayFault::Differs { at, expected } => differs_line(alloc, file, at, &expected),
+        ReplayFault::Memory => String::from_str(alloc, MEMORY_LINE),
+    }
+}
+
 /// The line that tells of a fault of the file.
 fn fault_line(alloc: Global, fault: CommandFault, file: &str) -> Result<String, AllocError> {
     match fault {
@@ -55,7 +105,12 @@ fn fault_line(alloc: Global, fault: CommandFault, file: &str) -> Result<String, 
             let (kind, cause) = load_words(fault);
             format!(in alloc; "mls: {file}: start {kind}{cause}\n")
         }
-        CommandFault::Memory => String::from_str(alloc, "mls: memory\n"),
+        CommandFault::Entry { line, fault } => {
+            let fault = entry_words(fault);
+            format!(in alloc; "mls: {file}: line {line}: entry {fault}\n")
+        }
+        CommandFault::Replay(fault) => replay_line(alloc, file, fault),
+        CommandFault::Memory => String::from_str(alloc, MEMORY_LINE),
     }
 }
 

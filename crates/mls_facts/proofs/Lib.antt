@@ -1,4 +1,5 @@
 pub mod Bits
+pub mod Decimals
 pub mod Distinct
 pub mod Each
 pub mod Entries

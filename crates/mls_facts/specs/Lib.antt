@@ -1,4 +1,5 @@
 pub mod Bits
+pub mod Decimals
 pub mod Each
 pub mod Keys
 pub mod Numbered

@@ -2,8 +2,6 @@ pub mod AsciiBytes
 pub mod FormsFound
 pub mod FormsRead
 pub mod LinesRead
-pub mod NumberLemmas
-pub mod NumbersLaw
 pub mod PartFaults
 pub mod TokenForms
 pub mod TokenLemmas

@@ -19,7 +19,7 @@ use Rattle.mls_lines.specs.Names.{Names, bound_to}
 use Rattle.mls_lines.specs.Numbers.{number_of}
 use Rattle.mls_lines.specs.ScriptLine.{known, numbered, subject_named, subject_of, object_named, variable_of, object_of}
 use Rattle.mls_lines.specs.Grammar.{IsNumber, IsSubject, IsObject, IsLabel, IsSubjectForm, IsObjectForm, IsInForm, IsKnown, IsSpelled}
-use Rattle.mls_lines.proofs.NumbersLaw.{number-text, number-limit, number-read}
+use Rattle.mls_facts.proofs.Decimals.{decimal-text, decimal-limit, decimal-read}
 use Rattle.mls_lines.proofs.TokenForms.{plain_name, is_byte, LabelLaw}
 
 -- the fault of what was read
@@ -51,11 +51,11 @@ unread_number : (token : List ℕ) → number_of token ≡ None → IsSubjectFor
 unread_number token none (inl named) = clash (35 == 35) refl (plain_name 35 token named).no_number
 unread_number token none (inr (n, (small, is))) =
     let text : token ≡ decimal n = cc in
-    let read : number_of token ≡ Some n = ap number_of text ∙ number-read n small in
+    let read : number_of token ≡ Some n = ap number_of text ∙ decimal-read 65535 (omega arith) n small in
     cc
 
 number_is : (token : List ℕ) (n : ℕ) → number_of token ≡ Some n → IsNumber (35 ∷ token) n
-number_is token n read = (number-limit token n read, ap (λ digits. 35 ∷ digits) (number-text token n read))
+number_is token n read = (decimal-limit 65535 (omega arith) token n read, ap (λ digits. 35 ∷ digits) (decimal-text 65535 (omega arith) token n read))
 
 -- a token that begins with `$` is neither a name nor a number
 no_subject : (name : List ℕ) → IsSubjectForm (36 ∷ name) → ⊥

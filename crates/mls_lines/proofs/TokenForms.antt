@@ -17,7 +17,7 @@ use Rattle.mls_lines.specs.Names.{Names, bound_to}
 use Rattle.mls_lines.specs.Numbers.{number_of}
 use Rattle.mls_lines.specs.ScriptLine.{known, numbered, subject_named, subject_of, object_named, variable_of, object_of}
 use Rattle.mls_lines.specs.Grammar.{IsNumber, IsNamed, IsVariable, IsSubject, IsObject, IsLabel}
-use Rattle.mls_lines.proofs.NumbersLaw.{number-text, number-limit, number-read}
+use Rattle.mls_facts.proofs.Decimals.{decimal-text, decimal-limit, decimal-read}
 
 -- a name begins neither with `#`, nor with `$`, nor with `;`
 pub record Plain (b : ℕ) : Type 0 where
@@ -36,12 +36,12 @@ plain_name b token h = plain_byte b (and_parts (is_name_byte b) (list_all is_nam
 pub subject_reads : (names : Names) (token : List ℕ) (s : ℕ) → IsSubject names token s → subject_of names token ≡ Ok s
 subject_reads names [] s (inl (named, place)) = cc
 subject_reads names (b ∷ token) s (inl (named, place)) = let plain = plain_name b token named in rw (plain.no_number, named, place) refl
-subject_reads names token s (inr (small, is)) = ap (subject_of names) is ∙ rw (number-read s small) refl
+subject_reads names token s (inr (small, is)) = ap (subject_of names) is ∙ rw (decimal-read 65535 (omega arith) s small) refl
 
 pub object_reads : (names : Names) (vars : List (List ℕ × ℕ)) (token : List ℕ) (o : ℕ) → IsObject names vars token o → object_of names vars token ≡ Ok o
 object_reads names vars [] o (inl (named, place)) = cc
 object_reads names vars (b ∷ token) o (inl (named, place)) = let plain = plain_name b token named in rw (plain.no_number, plain.no_variable, named, place) refl
-object_reads names vars token o (inr (inl (small, is))) = ap (object_of names vars) is ∙ rw (number-read o small) refl
+object_reads names vars token o (inr (inl (small, is))) = ap (object_of names vars) is ∙ rw (decimal-read 65535 (omega arith) o small) refl
 object_reads names vars token o (inr (inr (name, is, named, bound))) = ap (object_of names vars) is ∙ rw (named, bound) refl
 
 -- what is read is named
@@ -70,7 +70,7 @@ is_byte b c h = grind (arith, nat_tests, h)
 number_says : (b : ℕ) (token : List ℕ) (n : ℕ) → b ≡ 35 → numbered (number_of token) ≡ Ok n → IsNumber (b ∷ token) n
 number_says b token n is h =
     let read : number_of token ≡ Some n = numbered_ok (number_of token) n h in
-    (number-limit token n read, rw (is, number-text token n read) refl)
+    (decimal-limit 65535 (omega arith) token n read, rw (is, decimal-text 65535 (omega arith) token n read) refl)
 
 pub subject_says : (names : Names) (token : List ℕ) (s : ℕ) → subject_of names token ≡ Ok s → IsSubject names token s
 subject_says names [] s h = cc

@@ -1,23 +1,8 @@
 -- Numbers in a line.
-use Rattle.std.specs.Prelude.{ℕ, ◌-◌, Bool, ◌&&◌, ◌==◌, nat_le, List, [], ◌∷◌, map, Option, Some, None, if◌then◌else◌}
-use Rattle.std.specs.List.{list_all}
-use Rattle.std.specs.Int.Digits.{number_from_digits}
+use Rattle.std.specs.Prelude.{ℕ, List, Option}
+use Rattle.mls_facts.specs.Decimals.{decimal_within}
 use Rattle.mls_lines.specs.declared.number.TheConstants.{MAX_NUMBER}
 
--- A digit, `0` to `9`. (own)
-abbrev pub is_digit : ℕ → Bool
-is_digit b = nat_le 48 b && nat_le b 57
-
--- The number that digits write, the highest first. (own)
-abbrev pub value_of : List ℕ → ℕ
-value_of digits = number_from_digits 10 (map (λ b. b - 48) digits)
-
--- The number that digits write, where it is at most 65,535. (own)
-abbrev pub value_within : List ℕ → Option ℕ
-value_within token = if list_all is_digit token && nat_le (value_of token) MAX_NUMBER then Some (value_of token) else None
-
--- The number of a token: a digit, or digits of which the first isn't `0`, and at most 65,535. (own)
+-- The number of a token: decimal, without leading zeros, and at most 65,535. (own)
 abbrev pub number_of : List ℕ → Option ℕ
-number_of [] = None
-number_of (d ∷ []) = value_within (d ∷ [])
-number_of (d ∷ e ∷ more) = if d == 48 then None else value_within (d ∷ e ∷ more)
+number_of token = decimal_within MAX_NUMBER token

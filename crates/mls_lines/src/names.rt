@@ -105,12 +105,7 @@ impl<A: Allocator + Copy> Names<A> {
         ensures memory { IfErr result (λ fault. fault ≡ NamesFault.Memory → fault_of_counts (texts subjects.now) (texts objects.now) ≡ None) }
     {
         let (subjects, objects) = name_sets(alloc, subjects, objects)?;
-        Ok(Names {
-            subjects,
-            objects,
-            security,
-            integrity,
-        })
+        Ok(Names::of_sets(subjects, objects, security, integrity))
     }
 }
 

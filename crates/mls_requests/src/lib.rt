@@ -7,6 +7,7 @@ mod ask;
 mod entry;
 mod laws;
 mod mode_words;
+mod number;
 mod reason;
 mod reply;
 mod reply_word;
@@ -21,6 +22,7 @@ pub use laws::{
     replies_have_their_texts, replies_have_their_words,
 };
 pub use mode_words::{mode_word, read_mode};
+pub use number::{decimals_law, read_decimal};
 pub use reason::Reason;
 pub use reply::Reply;
 pub use reply_word::ReplyWord;

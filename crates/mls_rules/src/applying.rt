@@ -59,20 +59,44 @@ fn make_change<A: Allocator>(
     Ok(())
 }
 
-/// Replies to a request, and changes the state where it is granted.
+/// Changes the state by a request whose reply is known, where that is a grant.
 #[tactic(auto, using(crate::proofs::AfterKeeps::grant_holds))]
-fn carry_out<A: Allocator>(state: &mut State<A>, request: &Request) -> Result<Reply, AllocError>
-    ensures reply { IfOk result (λ r. r ≡ reply state.old request.now) }
+fn change_where_granted<A: Allocator>(
+    state: &mut State<A>,
+    request: &Request,
+    decided: Reply,
+) -> Result<(), AllocError>
+    requires { decided ≡ reply state.old request.now }
     ensures ok { OnOk result (state.new ≡ after state.old request.now) }
     ensures err { OnErr result (state.new ≡ state.old) }
-    ensures memory { IsTrue (needs_no_room (reply state.old request.now) request.now.action) → IsOk result }
+    ensures memory { IsTrue (needs_no_room decided request.now.action) → IsOk result }
 {
-    let reply = decide(state, request);
-    match reply {
+    match decided {
         Reply::Yes | Reply::Created(_) => make_change(state, request.subject, request.action)?,
         Reply::No(_) | Reply::Undefined => {}
     }
-    Ok(reply)
+    Ok(())
+}
+
+/// Changes the state by a request to which `decide` has replied so, in this state. From a secure state it leaves a secure
+/// state. It decides nothing anew: who compares the reply with another one first makes no change where they differ.
+///
+/// # Errors
+/// `AllocError` where an allocation failed; the state is then as before. Where nothing is granted it doesn't allocate,
+/// nor for a release, a give, a rescind or a change of a subject's or an object's level.
+pub fn carry_out<A: Allocator>(
+    state: &mut State<A>,
+    request: &Request,
+    decided: Reply,
+) -> Result<(), AllocError>
+    requires { decided ≡ reply state.old request.now }
+    ensures ok { OnOk result (state.new ≡ after state.old request.now) }
+    ensures err { OnErr result (state.new ≡ state.old) }
+    ensures memory { IsTrue (needs_no_room decided request.now.action) → IsOk result }
+    ensures secure { IsSecure state.old → IsSecure state.new }
+{
+    change_where_granted(state, request, decided)?;
+    Ok(())
 }
 
 /// Replies to a request, and changes the state where it is granted. From a secure state it leaves a secure state.
@@ -87,6 +111,8 @@ pub fn apply<A: Allocator>(state: &mut State<A>, request: &Request) -> Result<Re
     ensures memory { IsTrue (needs_no_room (reply state.old request.now) request.now.action) → IsOk result }
     ensures secure { IsSecure state.old → IsSecure state.new }
 {
-    let reply = carry_out(state, request)?;
+    let reply = decide(state, request);
+    let decided = reply;
+    carry_out(state, request, decided)?;
     Ok(reply)
 }

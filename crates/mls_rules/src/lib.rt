@@ -7,8 +7,9 @@ mod deciding;
 mod laws;
 mod levels;
 
-pub use applying::apply;
+pub use applying::{apply, carry_out};
 pub use deciding::decide;
 pub use laws::tests_are_of_all;
+pub use mls_builder::{BuildRefused, Start, StartBuilder, StartFault};
 pub use mls_requests::{Action, Reason, Reply, Request};
-pub use mls_state::{BuildRefused, Start, StartBuilder, StartFault, State, is_secure};
+pub use mls_state::{State, is_secure};

@@ -4,10 +4,10 @@ use Rattle.std.specs.Prelude.{◌==◌, nat_lt}
 use Rattle.std.proofs.lemmas.Bool.{false≢true}
 use Rattle.std.proofs.lemmas.Option.{none-some}
 use Rattle.mls_lines.specs.Names.{Names}
-use Rattle.mls_state.specs.Rows.{Rows, opening}
-use Rattle.mls_state.specs.declared.start_fault.StartFault.{StartFault}
-use Rattle.mls_state.specs.declared.start_fault.StartFault.TheVariants.{NoSubjects, TooManySubjects, TooManyObjects}
-use Rattle.mls_state.specs.declared.subject.ObjectRow.{ObjectRow}
+use Rattle.mls_builder.specs.Rows.{Rows, opening}
+use Rattle.mls_builder.specs.declared.start_fault.StartFault.{StartFault}
+use Rattle.mls_builder.specs.declared.start_fault.StartFault.TheVariants.{NoSubjects, TooManySubjects, TooManyObjects}
+use Rattle.mls_builder.specs.declared.object_row.ObjectRow.{ObjectRow}
 use Rattle.mls_tables.specs.Triples.{Triple}
 use Rattle.mls_tables.specs.declared.limits.TheConstants.{MAX_SUBJECTS, MAX_OBJECTS}
 use Rattle.mls_starts.specs.Building.{count_fault}

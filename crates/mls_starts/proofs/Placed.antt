@@ -4,8 +4,8 @@ use Rattle.std.specs.FinSet as set
 use Rattle.std.specs.List.{flat_map}
 use Rattle.std.proofs.lemmas.List.{map_more, map_push, append-nil, append_assoc}
 use Rattle.std.proofs.lemmas.List.Concat.{flat_map-append}
-use Rattle.mls_state.specs.Rows.{Rows}
-use Rattle.mls_state.specs.declared.subject.ObjectRow.{ObjectRow}
+use Rattle.mls_builder.specs.Rows.{Rows}
+use Rattle.mls_builder.specs.declared.object_row.ObjectRow.{ObjectRow}
 use Rattle.mls_tables.proofs.Laws.{triples_total, same_triple}
 use Rattle.mls_tables.specs.Triples.{Triple, triple_cmp}
 use Rattle.mls_tables.specs.declared.mode.Mode.{Mode}

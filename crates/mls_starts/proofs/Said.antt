@@ -5,10 +5,10 @@ use Rattle.std.proofs.lemmas.Option.{none-some, same_Some}
 use Rattle.serde_json.specs.Data.{Data}
 use Rattle.mls_labels.specs.declared.scheme_fault.SchemeFault.{SchemeFault}
 use Rattle.mls_lines.specs.Names.{Names}
-use Rattle.mls_state.specs.Rows.{Rows, opening}
-use Rattle.mls_state.specs.StartFaults.{start_fault}
+use Rattle.mls_builder.specs.Rows.{Rows, opening}
+use Rattle.mls_builder.specs.StartFaults.{start_fault}
 use Rattle.mls_state.specs.State.{State}
-use Rattle.mls_state.specs.declared.start_fault.StartFault.{StartFault}
+use Rattle.mls_builder.specs.declared.start_fault.StartFault.{StartFault}
 use Rattle.mls_starts.specs.Labelling.{Labelled, labels_of}
 use Rattle.mls_starts.specs.Loading.{refused_by, needing, start_of, start_labelled, start_named, with_names, load_of_file, load_of}
 use Rattle.mls_starts.specs.Looking.{IsReadAs}

@@ -13,12 +13,12 @@ use Rattle.mls_labels.specs.Label.{Label, Bounds, dominates, has_label}
 use Rattle.mls_labels.proofs.Laws.{reflexive}
 use Rattle.mls_tables.specs.Triples.{triple_cmp}
 use Rattle.mls_tables.proofs.Laws.{triples_total, same_triple}
-use Rattle.mls_state.proofs.Laws.{with_triples-from_list}
-use Rattle.mls_state.specs.declared.start_fault.StartFault.{StartFault}
-use Rattle.mls_state.specs.declared.start_fault.StartFault.TheVariants.{BadLabel, BadParent, CurrentAboveMaximum, NotCompatible, IntegrityAboveParent, NoSuchCell}
+use Rattle.mls_builder.proofs.Laws.{with_triples-from_list}
+use Rattle.mls_builder.specs.declared.start_fault.StartFault.{StartFault}
+use Rattle.mls_builder.specs.declared.start_fault.StartFault.TheVariants.{BadLabel, BadParent, CurrentAboveMaximum, NotCompatible, IntegrityAboveParent, NoSuchCell}
 use Rattle.mls_state.specs.First.{with_triples}
-use Rattle.mls_state.specs.Rows.{labels_of, opening}
-use Rattle.mls_state.specs.StartFaults.{start_fault, labels_fit, parents_before, current_fits, security_fits, integrity_fits, is_cell}
+use Rattle.mls_builder.specs.Rows.{labels_of, opening}
+use Rattle.mls_builder.specs.StartFaults.{start_fault, labels_fit, parents_before, current_fits, security_fits, integrity_fits, is_cell}
 use Rattle.mls_starts.proofs.Tied.{counted}
 use Rattle.mls_starts.specs.Ties.{AreTied}
 use Rattle.mls_starts.specs.Standard.{standard_names, standard_rows, standard_subjects, standard_objects, standard_cells, plain, secret, top}

@@ -3,9 +3,9 @@ use Rattle.std.proofs.Common.{◌≡◌, ◌+◌, List, length, refl, Option, So
 use Rattle.std.proofs.lemmas.Option.{none-some, same_Some}
 use Rattle.mls_labels.specs.Scheme.{bounds_of}
 use Rattle.mls_lines.specs.Names.{Names}
-use Rattle.mls_state.proofs.Laws.{subject_opening, active_opening}
-use Rattle.mls_state.specs.Rows.{Rows, opening, object_count}
-use Rattle.mls_state.specs.declared.subject.ObjectRow.{ObjectRow}
+use Rattle.mls_builder.proofs.Laws.{subject_opening, active_opening}
+use Rattle.mls_builder.specs.Rows.{Rows, opening, object_count}
+use Rattle.mls_builder.specs.declared.object_row.ObjectRow.{ObjectRow}
 use Rattle.mls_tables.specs.Triples.{Triple}
 use Rattle.mls_starts.specs.Each.{each_of}
 use Rattle.mls_starts.specs.Labelling.{Labelled}

@@ -1,8 +1,8 @@
 -- The start that rows make.
 use Rattle.std.specs.Prelude.{ℕ, ◌<◌, ◌+◌, ◌==◌, Option, Some, None, nat_lt, if◌then◌else◌, IfSome}
 use Rattle.mls_tables.specs.declared.limits.TheConstants.{MAX_SUBJECTS, MAX_OBJECTS}
-use Rattle.mls_state.specs.declared.start_fault.StartFault.{StartFault}
-use Rattle.mls_state.specs.declared.start_fault.StartFault.TheVariants.{NoSubjects, TooManySubjects, TooManyObjects}
+use Rattle.mls_builder.specs.declared.start_fault.StartFault.{StartFault}
+use Rattle.mls_builder.specs.declared.start_fault.StartFault.TheVariants.{NoSubjects, TooManySubjects, TooManyObjects}
 use Rattle.mls_starts.specs.declared.labels.LabelledChild.{LabelledChild}
 use Rattle.mls_starts.specs.declared.places.PlacedTriple.{PlacedTriple}
 

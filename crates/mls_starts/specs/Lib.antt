@@ -9,6 +9,7 @@ pub mod Naming
 pub mod PlaceViews
 pub mod Placing
 pub mod Refusing
+pub mod Says
 pub mod Standard
 pub mod Texts
 pub mod Ties

@@ -2,8 +2,8 @@
 use Rattle.std.specs.Prelude.{◌≡◌, ◌⊎◌, Option, Some, None, Result, Ok, Err, option_map}
 use Rattle.serde_json.specs.Data.{Data}
 use Rattle.mls_lines.specs.Names.{Names}
-use Rattle.mls_state.specs.Rows.{Rows, opening}
-use Rattle.mls_state.specs.StartFaults.{start_fault}
+use Rattle.mls_builder.specs.Rows.{Rows, opening}
+use Rattle.mls_builder.specs.StartFaults.{start_fault}
 use Rattle.mls_state.specs.State.{State}
 use Rattle.mls_starts.specs.Labelling.{Labelled, labels_of}
 use Rattle.mls_starts.specs.Naming.{names_fault, names_of}

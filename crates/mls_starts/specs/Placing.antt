@@ -7,8 +7,8 @@ use Rattle.mls_labels.specs.Scheme.{bounds_of}
 use Rattle.mls_lines.specs.Names.{Names}
 use Rattle.mls_requests.specs.ModeWords.{read_mode}
 use Rattle.mls_tables.specs.Triples.{Triple, triple_cmp}
-use Rattle.mls_state.specs.Rows.{Rows}
-use Rattle.mls_state.specs.declared.subject.ObjectRow.{ObjectRow}
+use Rattle.mls_builder.specs.Rows.{Rows}
+use Rattle.mls_builder.specs.declared.object_row.ObjectRow.{ObjectRow}
 use Rattle.mls_starts.specs.Each.{having, each_of}
 use Rattle.mls_starts.specs.Labelling.{Labelled}
 use Rattle.mls_starts.specs.Texts.{SaidCell}

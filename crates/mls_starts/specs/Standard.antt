@@ -6,8 +6,8 @@ use Rattle.mls_labels.specs.Scheme.{Scheme, bounds_of}
 use Rattle.mls_tables.specs.Triples.{Triple}
 use Rattle.mls_tables.specs.declared.mode.Mode.TheVariants.{Execute, Read, Append, Write}
 use Rattle.mls_state.specs.declared.subject.Subject.{Subject}
-use Rattle.mls_state.specs.declared.subject.ObjectRow.{ObjectRow}
-use Rattle.mls_state.specs.Rows.{Rows}
+use Rattle.mls_builder.specs.declared.object_row.ObjectRow.{ObjectRow}
+use Rattle.mls_builder.specs.Rows.{Rows}
 use Rattle.mls_lines.specs.Names.{Names}
 
 -- The standard start's levels and categories of security, from the lowest level up. (own)

@@ -17,7 +17,8 @@ use crate::file_names::FileNames;
 use crate::labels::{FileLabels, LabelledChild};
 use crate::load_fault::LoadFault;
 use crate::places::PlacedTriple;
-use mls_state::{BuildRefused, Start, StartBuilder, StartFault, Subject};
+use mls_builder::{BuildRefused, Start, StartBuilder, StartFault};
+use mls_state::Subject;
 use mls_tables::{MAX_OBJECTS, MAX_SUBJECTS, ObjectId, SubjectId};
 use std::alloc::Global;
 

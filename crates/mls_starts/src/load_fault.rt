@@ -1,7 +1,7 @@
 //! Why a start file is refused.
 
+use mls_builder::StartFault;
 use mls_labels::SchemeFault;
-use mls_state::StartFault;
 use std::alloc::{AllocError, AllocFailed};
 use thiserror::Error;
 

@@ -2,8 +2,8 @@
 ghost use Rattle.std.specs.Prelude.{◌≡◌};
 ghost use Rattle.mls_starts.specs.Ties.{AreTied};
 
+use mls_builder::Start;
 use mls_lines::Names;
-use mls_state::Start;
 use std::alloc::{Allocator, Global};
 use std::marker::Model;
 

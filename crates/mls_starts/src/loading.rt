@@ -19,7 +19,7 @@ use crate::load_fault::LoadFault;
 use crate::loaded::Loaded;
 use crate::places::place_cells;
 use crate::tree::read_tree;
-use mls_state::Start;
+use mls_builder::Start;
 use serde_json::Value;
 use std::alloc::Global;
 

@@ -1,14 +1,14 @@
 //! The standard start.
 ghost use Rattle.std.specs.Prelude.{◌≡◌, IfOk, IfErr};
-ghost use Rattle.mls_state.specs.Rows.{opening};
+ghost use Rattle.mls_builder.specs.Rows.{opening};
 ghost use Rattle.mls_starts.specs.Standard.{standard_names, standard_rows};
 
 use crate::load_fault::LoadFault;
 use crate::loaded::Loaded;
 use crate::standard_rows::standard_builder;
+use mls_builder::Start;
 use mls_labels::Scheme;
 use mls_lines::Names;
-use mls_state::Start;
 use std::alloc::Allocator;
 
 /// The names of the standard start.

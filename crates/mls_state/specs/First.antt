@@ -1,5 +1,5 @@
--- The first state of some subjects and a root, and a state with objects or triples more.
-use Rattle.std.specs.Prelude.{◌≡◌, ◌≤◌, ◌+◌, List, [], ◌∷◌, Some}
+-- The first state of some subjects and a root, and sets with triples more.
+use Rattle.std.specs.Prelude.{◌≡◌, ◌≤◌, List, [], ◌∷◌, Some}
 use Rattle.std.specs.FinSet as set
 use Rattle.std.specs.FinMap as map
 use Rattle.mls_labels.specs.Label.{Bounds}
@@ -7,7 +7,6 @@ use Rattle.mls_tables.specs.Triples.{Triple, TripleSet}
 use Rattle.mls_tables.specs.Table.{Table}
 use Rattle.mls_state.specs.declared.subject.Subject.{Subject}
 use Rattle.mls_state.specs.declared.subject.ObjectLabels.{ObjectLabels}
-use Rattle.mls_state.specs.declared.subject.ObjectRow.{ObjectRow}
 use Rattle.mls_state.specs.State.{State}
 use Rattle.mls_facts.specs.Numbered.{numbered, places_of}
 
@@ -27,20 +26,6 @@ first_state subjects root security integrity = record {
   security = security;
   integrity = integrity;
 }
-
--- A state with one object more, which has the next number. (own)
-abbrev pub with_row : State → ObjectRow → State
-with_row v o = record v {
-  object_label = map.insert v.object_label v.next o.labels.security;
-  object_integrity = map.insert v.object_integrity v.next o.labels.integrity;
-  parent = map.insert v.parent v.next o.parent;
-  next = v.next + 1;
-}
-
--- A state with some objects more, one after the other. (own)
-abbrev pub with_rows : State → List ObjectRow → State
-with_rows v [] = v
-with_rows v (o ∷ objects) = with_rows (with_row v o) objects
 
 -- A set with some triples more, one after the other. (own)
 abbrev pub with_triples : TripleSet → List Triple → TripleSet

@@ -2,7 +2,5 @@ pub mod Audit
 pub mod Changes
 pub mod First
 pub mod Properties
-pub mod Rows
-pub mod StartFaults
 pub mod State
 pub mod StateView

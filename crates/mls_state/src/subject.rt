@@ -1,7 +1,6 @@
 //! What the monitor knows of a subject and of an object.
 
 use mls_labels::{IntLabel, SecLabel};
-use mls_tables::ObjectId;
 
 /// What is known of a subject.
 #[derive(Clone, Copy, Debug)]
@@ -17,11 +16,4 @@ pub struct Subject {
 pub struct ObjectLabels {
     pub security: SecLabel,
     pub integrity: IntLabel,
-}
-
-/// An object below the root: its parent and its labels.
-#[derive(Clone, Copy, Debug)]
-pub struct ObjectRow {
-    pub parent: ObjectId,
-    pub labels: ObjectLabels,
 }

@@ -9,6 +9,7 @@ use Rattle.mls_tables.specs.declared.mode.Mode.{Mode}
 use Rattle.mls_tables.specs.declared.mode.Mode.TheVariants.{Execute, Read, Append, Write}
 use Rattle.mls_tables.specs.Mode.{mode_number, ModeSet}
 use Rattle.mls_tables.specs.Triples.{Triple, TripleSet, triple_cmp, is_triple}
+use Rattle.mls_tables.specs.declared.pair.Pair.{Pair}
 use Rattle.mls_tables.specs.Cells.{cell, add_if, with_cell, with_column, with_columns, triples_of}
 use Rattle.mls_tables.proofs.Laws.{contains-insert-triple}
 
@@ -68,6 +69,6 @@ contains-with_columns at n (suc o) u =
     ∙ or-false _
 
 -- a triple is in the set where its mode is in its cell
-pub contains-triples_of : (cells : List ModeSet) (n m : ℕ) (u : Triple) → set.contains (triples_of cells n m) u ≡ (nat_lt u.1 m && (nat_lt u.0 n && set.contains (cell cells n u.0 u.1) u.2))
+pub contains-triples_of : (cells : List Pair) (n m : ℕ) (u : Triple) → set.contains (triples_of cells n m) u ≡ (nat_lt u.1 m && (nat_lt u.0 n && set.contains (cell cells n u.0 u.1) u.2))
 unfolding triples_of
 contains-triples_of cells n m u = contains-with_columns (cell cells n) n m u

@@ -4,4 +4,5 @@ mod CellTriples
 pub mod Laws
 mod ModeBits
 mod TripleLists
+mod Pairs
 mod Within

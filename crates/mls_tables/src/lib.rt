@@ -7,6 +7,7 @@ mod limits;
 mod matrix;
 mod mode;
 mod modes;
+mod pair;
 mod triple_list;
 
 pub use access_set::AccessSet;

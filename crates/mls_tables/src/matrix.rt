@@ -1,13 +1,15 @@
 //! The access matrix.
-ghost use Rattle.std.specs.Prelude.{◌≡◌, ◌<◌, ◌≤◌, ◌+◌, ◌*◌, ℕ, IfOk, OnOk, OnErr, All, length, replicate};
+ghost use Rattle.std.specs.Prelude.{◌≡◌, ◌<◌, ◌≤◌, ◌+◌, ◌*◌, ◌/◌, ℕ, IfOk, OnOk, OnErr, All, length, replicate};
 ghost use Rattle.std.specs.FinSet as set;
 ghost use Rattle.mls_tables.specs.declared.limits.TheConstants.{MAX_SUBJECTS, MAX_OBJECTS};
 ghost use Rattle.mls_tables.specs.declared.mode.Mode.{Mode as ModeName};
 ghost use Rattle.mls_tables.specs.Table.{IsWithin, empty_table, without_object, without_objects};
+ghost use Rattle.mls_tables.specs.Cells.{width, is_odd, no_pair};
 
 use crate::ids::{ObjectId, SubjectId};
 use crate::mode::Mode;
 use crate::modes::Modes;
+use crate::pair::Pair;
 use std::alloc::{AllocError, Allocator, Global};
 use std::marker::Model;
 
@@ -17,15 +19,15 @@ use std::marker::Model;
 pub struct Matrix<A: Allocator = Global> {
     subjects: u16,
     columns: u16,
-    /// Column by column; in each column a cell for each subject.
-    cells: Vec<Modes, A>,
+    /// Column by column; in each column a byte for each two subjects, and one for the last where their number is odd.
+    cells: Vec<Pair, A>,
 }
 
 impl<A: Allocator> Model for Matrix<A> {
     ghost use Rattle.std.specs.Prelude.{◌≡◌, ◌≤◌, ◌*◌, length};
     ghost use Rattle.mls_tables.specs.declared.limits.TheConstants.{MAX_SUBJECTS, MAX_OBJECTS};
     ghost use Rattle.mls_tables.specs.Table.{Table, table_code};
-    ghost use Rattle.mls_tables.specs.Cells.{triples_of};
+    ghost use Rattle.mls_tables.specs.Cells.{width, triples_of};
 
     ghost Value = { Table };
 
@@ -41,22 +43,36 @@ impl<A: Allocator> Model for Matrix<A> {
       least : 1 ≤ m.subjects;
       most : m.subjects ≤ MAX_SUBJECTS;
       columns : m.columns ≤ MAX_OBJECTS;
-      cells : length m.cells.items ≡ m.columns * m.subjects;
+      cells : length m.cells.items ≡ m.columns * width m.subjects;
     } };
 }
 
-/// The index of the cell of a subject and an object.
-fn place(subjects: u16, s: SubjectId, o: ObjectId) -> usize
-    ensures { result ≡ o * subjects + s }
+/// How many bytes a column has.
+fn width(subjects: u16) -> usize
+    ensures { result ≡ width subjects }
 {
-    usize::from(o.0) * usize::from(subjects) + usize::from(s.0)
+    (usize::from(subjects) + 1) / 2
+}
+
+/// The index of the byte that the cell of a subject and an object is in.
+fn place(subjects: u16, s: SubjectId, o: ObjectId) -> usize
+    ensures { result ≡ o * width subjects + s / 2 }
+{
+    usize::from(o.0) * width(subjects) + usize::from(s.0) / 2
+}
+
+/// Whether the number of a subject is odd.
+fn is_odd(s: SubjectId) -> bool
+    ensures { result ≡ is_odd s }
+{
+    s.0 % 2 == 1
 }
 
 /// Empties each of the cells.
-fn clear(cells: &mut [Modes])
-    ensures { cells.new ≡ replicate (length cells.old) set.empty }
+fn clear(cells: &mut [Pair])
+    ensures { cells.new ≡ replicate (length cells.old) no_pair }
 {
-    cells.fill(Modes::empty());
+    cells.fill(Pair::empty());
 }
 
 impl<A: Allocator> Matrix<A> {
@@ -100,8 +116,8 @@ impl<A: Allocator> Matrix<A> {
         ensures ok { OnOk result (self.new ≡ record self.old { columns = self.old.columns + 1 }) }
         ensures err { OnErr result (self.new ≡ self.old) }
     {
-        let size = self.cells.len() + usize::from(self.subjects);
-        self.cells.resize(size, Modes::empty())?;
+        let size = self.cells.len() + width(self.subjects);
+        self.cells.resize(size, Pair::empty())?;
         self.columns += 1;
         Ok(())
     }
@@ -112,7 +128,7 @@ impl<A: Allocator> Matrix<A> {
         requires object { o < self.now.columns }
         ensures cell { (x : ModeName) → set.contains result x ≡ set.contains self.now.triples (s, o, x) }
     {
-        self.cells[place(self.subjects, s, o)]
+        self.cells[place(self.subjects, s, o)].half(is_odd(s))
     }
 
     /// Adds a mode to the cell of a subject and an object.
@@ -122,7 +138,7 @@ impl<A: Allocator> Matrix<A> {
         ensures { self.new ≡ record self.old { triples = set.insert self.old.triples (s, o, x) } }
     {
         let at = place(self.subjects, s, o);
-        self.cells[at] = self.cells[at].with(x);
+        self.cells[at] = self.cells[at].with(is_odd(s), x);
     }
 
     /// Removes a mode from the cell of a subject and an object.
@@ -132,7 +148,7 @@ impl<A: Allocator> Matrix<A> {
         ensures { self.new ≡ record self.old { triples = set.remove self.old.triples (s, o, x) } }
     {
         let at = place(self.subjects, s, o);
-        self.cells[at] = self.cells[at].without(x);
+        self.cells[at] = self.cells[at].without(is_odd(s), x);
     }
 
     /// Empties the column of an object.
@@ -141,7 +157,7 @@ impl<A: Allocator> Matrix<A> {
         ensures { self.new ≡ record self.old { triples = without_object self.old.triples o } }
     {
         let from = place(self.subjects, SubjectId(0), o);
-        let to = from + usize::from(self.subjects);
+        let to = from + width(self.subjects);
         clear(&mut self.cells[from..to]);
     }
 

@@ -1,6 +1,7 @@
 //! Sets of modes.
-ghost use Rattle.std.specs.Prelude.{◌≡◌, ◌↔◌, IsTrue};
+ghost use Rattle.std.specs.Prelude.{◌≡◌, ◌<◌, ◌↔◌, IsTrue};
 ghost use Rattle.std.specs.FinSet as set;
+ghost use Rattle.mls_tables.specs.ModeBits.{modes_of};
 
 use crate::mode::Mode;
 use std::marker::Model;
@@ -68,5 +69,21 @@ impl Modes {
         ensures { IsTrue result ↔ (self ≡ set.empty) }
     {
         self.bits == 0
+    }
+
+    /// The set of the modes whose bits are 1, where only the four low ones are.
+    pub(crate) fn from_bits(bits: u8) -> Modes
+        requires { bits < 16 }
+        ensures { result ≡ modes_of bits }
+    {
+        Modes { bits }
+    }
+
+    /// The four bits of the set.
+    pub(crate) fn bits(self) -> u8
+        ensures modes { modes_of result ≡ self }
+        ensures four { result < 16 }
+    {
+        self.bits
     }
 }

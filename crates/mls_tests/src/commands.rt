@@ -24,21 +24,21 @@ const CHECKED: [(&[u8], Result<&str, CommandFault>); 4] = [
 ];
 
 /// Whether a file is checked so.
-fn is_checked(alloc: Global, file: &[u8], wanted: Result<&str, CommandFault>) -> bool {
+fn is_checked(alloc: Global, file: &[u8], wanted: &Result<&str, CommandFault>) -> bool {
     match check_start(alloc, file) {
         Ok(text) => {
-            let is_right = Ok(text.as_str()) == wanted;
+            let is_right = Ok(text.as_str()) == *wanted;
             drop(text);
             is_right
         }
-        Err(fault) => Err(fault) == wanted,
+        Err(fault) => Err(fault) == *wanted,
     }
 }
 
 #[test]
 fn a_start_file_is_checked(rt: HostRuntime) {
     for (n, (file, wanted)) in CHECKED.iter().enumerate() {
-        assert!(rt; is_checked(rt.alloc(), file, *wanted), "at {n}");
+        assert!(rt; is_checked(rt.alloc(), file, wanted), "at {n}");
     }
 }
 

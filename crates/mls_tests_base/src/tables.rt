@@ -6,6 +6,7 @@ use std::test::Fail;
 
 mod filled;
 mod large;
+mod packed;
 
 const MODES: [Mode; 4] = [Mode::Execute, Mode::Read, Mode::Append, Mode::Write];
 

@@ -1,6 +1,7 @@
 //! Starts that are built by calls: what they count, what they open with, and why they are refused.
 use crate::standard::{begun, built, integrity, make_all, row_calls, security, started};
-use mls_state::{Start, StartBuilder, State, is_secure};
+use mls_builder::{Start, StartBuilder};
+use mls_state::{State, is_secure};
 use mls_tables::{Mode, Modes, ObjectId, SubjectId};
 use std::alloc::{AllocError, Allocator, Global};
 use std::process::Abort;

@@ -1,12 +1,12 @@
-//! Each change of a state made alone, a copy of it, and the tests of one triple.
+//! A first state, each change of a state made alone, and the tests of one triple.
 use crate::standard::opened;
-use mls_labels::{CatSet, IntLabel, Label, SecLabel};
+use mls_labels::{Bounds, CatSet, IntLabel, Label, SecLabel};
 use mls_state::{
-    ObjectLabels, State, discretionary_holds, integrity_holds, is_secure, simple_holds,
+    ObjectLabels, State, Subject, discretionary_holds, integrity_holds, is_secure, simple_holds,
     star_between, star_holds,
 };
 use mls_tables::{Mode, ObjectId, SubjectId};
-use std::alloc::Allocator;
+use std::alloc::{AllocError, Allocator, Global};
 use std::process::Abort;
 use std::test::Fail;
 
@@ -23,6 +23,42 @@ const MEMO: ObjectId = ObjectId(2);
 /// A security label of a level, without categories.
 fn security(level: u8) -> SecLabel {
     SecLabel::of(Label::new(level % 4, CatSet::empty()))
+}
+
+/// A state of one subject and the root.
+fn first(alloc: Global) -> Result<State<Global>, AllocError> {
+    let high = IntLabel::of(Label::new(1, CatSet::empty()));
+    let ann = Subject {
+        maximum: security(2),
+        current: security(1),
+        integrity: high,
+        trusted: false,
+    };
+    let root = ObjectLabels {
+        security: security(0),
+        integrity: high,
+    };
+    State::first(alloc, &[ann], root, Bounds::new(4, 2), Bounds::new(2, 0))
+}
+
+/// Asserts what a first state has, and that it permits what it is told to and no more.
+fn permits_what_it_is_told<A: Allocator>(rt: &impl Abort, state: &mut State<A>) {
+    assert!(rt; state.is_subject(ANN) && state.is_active(ROOT));
+    assert!(rt; !state.is_subject(BOB) && !state.is_active(PLANS));
+    assert!(rt; state.maximum(ANN) == security(2) && state.object_label(ROOT) == security(0));
+    assert!(rt; state.allowed(ANN, ROOT).is_empty() && state.triples().is_empty());
+    state.permit_all(&[(ANN, ROOT, Mode::Read), (ANN, ROOT, Mode::Append)]);
+    assert!(rt; state.is_subject(ANN) && state.is_active(ROOT));
+    let modes = state.allowed(ANN, ROOT);
+    assert!(rt; modes.has(Mode::Read) && modes.has(Mode::Append) && !modes.has(Mode::Write));
+}
+
+#[test]
+fn a_first_state_permits_what_it_is_told(rt: HostRuntime) -> Result<(), Fail> {
+    let mut state = first(rt.alloc())?;
+    permits_what_it_is_told(&rt, &mut state);
+    drop(state);
+    Ok(())
 }
 
 /// Asserts what becomes of one current access.

@@ -1,7 +1,7 @@
-//! Files of many subjects and objects: the limits, and counts that no number of an object reaches.
-use crate::files::fault_of;
+//! Files of many subjects, objects or members: the limits, and counts that no number of an object reaches.
+use crate::files::{SMALL, fault_of};
+use mls_builder::StartFault;
 use mls_starts::LoadFault;
-use mls_state::StartFault;
 use std::alloc::{AllocError, Global};
 use std::process::Abort;
 use std::test::Fail;
@@ -121,5 +121,26 @@ fn the_number_65540_is_no_other(rt: HostRuntime) -> Result<(), Fail> {
     let (last, _) = LAST[1];
     is_judged(&rt, rt.alloc(), 1, 65_540, last, Some(LoadFault::Unknown))?;
     is_judged(&rt, rt.alloc(), 1, 65_541, "", Some(TOO_MANY_OBJECTS))?;
+    Ok(())
+}
+
+/// The small file, with so many members of one unknown kind before its own.
+fn with_unknown(alloc: Global, count: usize) -> Result<String, AllocError> {
+    let mut text = String::from_str(alloc, "{")?;
+    for i in 0..count {
+        write!(text, r#""x{i}":null,"#)?;
+    }
+    text.push_str(SMALL.strip_prefix("{").unwrap_or(""))?;
+    Ok(text)
+}
+
+#[test]
+fn members_of_one_unknown_kind(rt: HostRuntime) -> Result<(), Fail> {
+    for (count, fault) in [(0, None), (100_000, Some(LoadFault::Members))] {
+        let text = with_unknown(rt.alloc(), count)?;
+        let found = fault_of(rt.alloc(), text.as_bytes());
+        drop(text);
+        assert!(rt; found == fault, "{count}");
+    }
     Ok(())
 }

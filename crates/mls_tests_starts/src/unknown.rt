@@ -1,7 +1,7 @@
 //! Names that stand for nothing, and starts that the builder refuses.
 use crate::files::{Change, Row, are_read, are_refused, each_is_refused};
+use mls_builder::StartFault;
 use mls_starts::LoadFault;
-use mls_state::StartFault;
 use std::test::Fail;
 
 /// An unknown parent, subject, object or mode; a subject's name in the place of an object's, and the other way round.

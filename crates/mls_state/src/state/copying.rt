@@ -80,8 +80,12 @@ fn first_tree<A: Allocator + Clone>(alloc: &A) -> Result<Tree<A>, AllocError>
 }
 
 impl<A: Allocator + Clone> State<A> {
-    /// A state of these subjects and the root, in which nothing is permitted and nothing accessed.
-    pub(crate) fn first(
+    /// A state of these subjects and the root, in which nothing is permitted and nothing accessed: the subjects have their
+    /// places as numbers, from 0. It doesn't ask whether the labels are within the bounds.
+    ///
+    /// # Errors
+    /// `AllocError` where an allocation failed.
+    pub fn first(
         alloc: A,
         subjects: &[Subject],
         root: ObjectLabels,

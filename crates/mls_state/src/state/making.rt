@@ -79,8 +79,8 @@ impl<A: Allocator> State<A> {
         self.matrix.give(s, o, x);
     }
 
-    /// Permits some triples.
-    pub(crate) fn permit_all(&mut self, cells: &[(SubjectId, ObjectId, Mode)])
+    /// Permits some triples. It doesn't ask who controls their objects.
+    pub fn permit_all(&mut self, cells: &[(SubjectId, ObjectId, Mode)])
         requires { All (λ t. IsTrue (is_known self.old t)) cells.now }
         ensures { self.new ≡ record self.old { matrix = with_triples self.old.matrix cells.now } }
     {

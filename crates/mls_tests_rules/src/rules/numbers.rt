@@ -1,8 +1,11 @@
-//! All object numbers given out: below the root, and in a chain.
-use super::{ROOT, SEC, asks, create, get, give_sec_write, opened};
+//! All object numbers given out: below the root, in a chain, and over a start of one's own.
+use super::{ROOT, SEC, asks, create, get, give_sec_write, integrity, opened, security};
+use crate::standard::built;
+use mls_builder::StartBuilder;
+use mls_labels::Bounds;
 use mls_rules::{Action, Reason, Reply, Request, State, apply, is_secure};
-use mls_tables::{Mode, ObjectId};
-use std::alloc::Allocator;
+use mls_tables::{Mode, ObjectId, SubjectId};
+use std::alloc::{AllocError, Allocator};
 use std::process::Abort;
 use std::test::Fail;
 
@@ -79,6 +82,47 @@ fn all_numbers_in_a_chain(rt: HostRuntime) -> Result<(), Fail> {
     let mut state = opened(rt.alloc())?;
     fill_a_chain(&rt, &mut state);
     delete_the_chain(&rt, &mut state);
+    drop(state);
+    Ok(())
+}
+
+/// The only subject of a start of one's own.
+const ONE: SubjectId = SubjectId(0);
+
+/// Gives one untrusted subject of the root's labels, which may write the root.
+fn give_one<A: Allocator>(builder: &mut StartBuilder<A>) -> Result<(), AllocError> {
+    let (level, trust) = (security(1, None), integrity(1));
+    builder.subject(level, level, trust, false)?;
+    builder.allow(ONE, ROOT, Mode::Write)
+}
+
+/// The opening of a start of one's own: two levels and no categories, in security and in integrity, and the root at the upper ones.
+fn opened_own<A: Allocator + Copy>(alloc: A) -> Result<State<A>, AllocError> {
+    let (bounds, level, trust) = (Bounds::new(2, 0), security(1, None), integrity(1));
+    let mut builder = StartBuilder::new(alloc, bounds, bounds, level, trust);
+    give_one(&mut builder)?;
+    built(builder)?.opening(alloc)
+}
+
+/// Gives out all numbers, and finds that what is asked when none is left is denied for its first reason.
+fn run_out<A: Allocator>(rt: &impl Abort, state: &mut State<A>) {
+    is_answered(rt, state, get(ONE, Mode::Write, ROOT), Reply::Yes);
+    for n in 1..4096u16 {
+        let made = Reply::Created(ObjectId(n));
+        is_answered(rt, state, create(ONE, ROOT, 1, 1), made);
+    }
+    let (full, apart) = (Reply::No(Reason::Full), Reply::No(Reason::Compatibility));
+    is_answered(rt, state, create(ONE, ROOT, 1, 1), full);
+    is_answered(rt, state, create(ONE, ROOT, 0, 1), apart);
+    let delete = asks(ONE, Action::Delete(ObjectId(1)));
+    is_answered(rt, state, delete, Reply::Yes);
+    is_answered(rt, state, create(ONE, ROOT, 1, 1), Reply::No(Reason::Full));
+}
+
+#[test]
+fn numbers_run_out_over_a_start_of_ones_own(rt: HostRuntime) -> Result<(), Fail> {
+    let mut state = opened_own(rt.alloc())?;
+    run_out(&rt, &mut state);
     drop(state);
     Ok(())
 }

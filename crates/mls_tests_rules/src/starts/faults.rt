@@ -1,7 +1,7 @@
 //! Each fault alone, and two at once: the first in the order of the faults is told, whatever the order of the calls.
 use crate::standard::{begun, integrity, security};
+use mls_builder::{StartBuilder, StartFault};
 use mls_labels::Bounds;
-use mls_state::{StartBuilder, StartFault};
 use mls_tables::{Mode, ObjectId, SubjectId};
 use std::alloc::{AllocError, Global};
 use std::process::Abort;

@@ -1,7 +1,8 @@
 //! Starts of the largest sizes, and one more.
 use super::counts;
 use crate::standard::{begun, built, integrity, security};
-use mls_state::{Start, StartBuilder, StartFault, State, is_secure};
+use mls_builder::{Start, StartBuilder, StartFault};
+use mls_state::{State, is_secure};
 use mls_tables::{Mode, ObjectId, SubjectId};
 use std::alloc::{AllocError, Allocator, Global};
 use std::process::Abort;
@@ -107,7 +108,7 @@ fn is_chain<A: Allocator>(rt: &impl Abort, state: &State<A>) {
 
 /// Asserts that a state permits the last subject and the last object all modes.
 fn permits_the_last<A: Allocator>(rt: &impl Abort, state: &State<A>) {
-    let (s, o) = (SubjectId(255), ObjectId(63));
+    let (s, o) = (SubjectId(255), ObjectId(4095));
     assert!(rt; state.is_subject(s) && state.is_active(o));
     let modes = state.allowed(s, o);
     assert!(rt; modes.has(Mode::Execute) && modes.has(Mode::Write));
@@ -135,8 +136,8 @@ fn one_more_is_refused(rt: HostRuntime) -> Result<(), Fail> {
 
 #[test]
 fn a_full_matrix(rt: HostRuntime) -> Result<(), Fail> {
-    let start = sized(rt.alloc(), 256, 64, true)?;
-    counts(&rt, &start, 256, 64, 65_536);
+    let start = sized(rt.alloc(), 256, 4096, true)?;
+    counts(&rt, &start, 256, 4096, 4_194_304);
     let state = start.opening(rt.alloc())?;
     permits_the_last(&rt, &state);
     drop(state);

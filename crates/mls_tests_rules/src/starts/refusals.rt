@@ -2,7 +2,8 @@
 //! nothing is there twice.
 use crate::rules::alike::are_alike;
 use crate::standard::{Call, begun, built, cell_calls, row_calls, started};
-use mls_state::{Start, StartBuilder, State};
+use mls_builder::{Start, StartBuilder};
+use mls_state::State;
 use refusing::Refusing;
 use std::alloc::{AllocError, Allocator, Global};
 use std::process::Abort;

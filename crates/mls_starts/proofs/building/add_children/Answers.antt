@@ -1,5 +1,5 @@
 use Rattle.std.proofs.Common.{List, refl, ◌++◌, ◌∷◌, []}
-use Rattle.mls_state.specs.declared.subject.ObjectRow.{ObjectRow}
+use Rattle.mls_builder.specs.declared.object_row.ObjectRow.{ObjectRow}
 use Rattle.mls_starts.specs.Placing.{placed_child}
 use Rattle.mls_starts.proofs.Placed.{unplaced, placed_more, rows_joined, same_but_objects}
 use Rattle.mls_starts.proofs.Rows.{own_lack, own_fold_more}

@@ -1,6 +1,7 @@
-use Rattle.std.proofs.Common.{◌≡◌, ◌+◌, ◌*◌, ◌<◌, refl, rules}
+use Rattle.std.proofs.Common.{◌≡◌, ◌+◌, ◌*◌, ◌/◌, ◌<◌, not, refl, ◌∙◌, ap, rules}
+use Rattle.std.proofs.Common.{get_or}
 use Rattle.std.specs.FinSet as set
-use Rattle.mls_tables.specs.Cells.{cell}
+use Rattle.mls_tables.specs.Cells.{cell, half, no_pair, width, is_odd}
 use Rattle.mls_tables.proofs.Cells.{read_cell, triples_of-insert}
 use Rattle.mls_tables.proofs.matrix.Matrix.give.Goals as goal
 
@@ -11,7 +12,9 @@ returns g c =
     let m = c.self.inside.columns in
     let subject : c.args.s < n = rw (← c.self.view_is) at c.requires.subject in
     let object : c.args.o < m = rw (← c.self.view_is) at c.requires.object in
-    let at_place : c.place-at.result ≡ c.args.o * n + c.args.s = search rules in
-    let read : c.index.result.now ≡ cell cells n c.args.s c.args.o = read_cell cells n m c.args.s c.args.o c.place-at.result c.index.result.now subject object c.self.invariant.cells at_place c.index.ensures in
-    let changed : c.with.result ≡ set.insert c.index.result.now c.args.x = search rules in
-    rw (changed, read, at_place, ← c.self.view_is, triples_of-insert cells n m c.args.s c.args.o c.args.x subject object c.self.invariant.cells) refl
+    let at_place : c.place-at.result ≡ c.args.o * width n + c.args.s / 2 = search rules in
+    let read = read_cell cells n m c.args.s c.args.o c.place-at.result c.index.result.now subject object c.self.invariant.cells at_place c.index.ensures in
+    let odd : c.is_odd.result ≡ is_odd c.args.s = c.is_odd.ensures in
+    let own : half c.with.result (is_odd c.args.s) ≡ set.insert (cell cells n c.args.s c.args.o) c.args.x = (rw odd at c.with.ensures.own) ∙ ap (λ modes. set.insert modes c.args.x) (read (is_odd c.args.s)) in
+    let other : half c.with.result (not (is_odd c.args.s)) ≡ half (get_or cells (c.args.o * width n + c.args.s / 2) no_pair) (not (is_odd c.args.s)) = (rw odd at c.with.ensures.other) ∙ read (not (is_odd c.args.s)) in
+    rw (at_place, ← c.self.view_is, triples_of-insert cells n m c.args.s c.args.o c.args.x c.with.result other subject object c.self.invariant.cells own) refl

@@ -1,7 +1,0 @@
-use Rattle.mls.proofs.files.read_on.Given as goal
-
-abbrev pub invariant-loop-count : goal.invariant-loop-count
-invariant-loop-count g l = Unit {0}
-
-abbrev pub decreases-loop-count : goal.decreases-loop-count
-decreases-loop-count g l = l.room

@@ -1,0 +1,88 @@
+//! What a person at a terminal is told while a command works for more than a second.
+ghost use Rattle.std.specs.Prelude.{◌≡◌};
+
+use std::io::IsTerminal;
+use std::time::Instant;
+
+/// Work on so many bytes takes more than a second.
+const MUCH: usize = 33_554_432;
+
+/// What was read is told anew after each so many bytes.
+const STEP: usize = 8_388_608;
+
+/// How many seconds a command works before it says what it does.
+const PATIENCE: u64 = 1;
+
+/// What a command tells of its work, where standard error is a terminal.
+#[derive(Drop)]
+pub struct Progress<'a> {
+    rt: &'a HostRuntime,
+    /// When the work began; `None` where nothing is told.
+    begun: Option<Instant>,
+    /// How many bytes were read.
+    read: usize,
+    /// Whether a line stands on the terminal.
+    is_shown: bool,
+}
+
+impl<'a> Progress<'a> {
+    /// The progress of work that begins now.
+    pub fn new(rt: &'a HostRuntime) -> Progress<'a> {
+        let begun = if rt.stderr().is_terminal() {
+            Instant::now(rt).ok()
+        } else {
+            None
+        };
+        Progress {
+            rt,
+            begun,
+            read: 0,
+            is_shown: false,
+        }
+    }
+
+    /// The runtime that the command works with.
+    pub fn rt(&self) -> &'a HostRuntime {
+        self.rt
+    }
+
+    /// Whether it is time to say something.
+    fn is_due(&self) -> bool {
+        match self.begun {
+            None => false,
+            Some(begun) => {
+                self.read >= MUCH
+                    || begun
+                        .elapsed(self.rt)
+                        .is_ok_and(|time| time.as_secs() >= PATIENCE)
+            }
+        }
+    }
+
+    /// Tells that so many bytes more were read of a file.
+    pub fn read(&mut self, file: &str, count: usize) {
+        let before = self.read / STEP;
+        self.read = self.read.saturating_add(count);
+        if self.read / STEP > before && self.is_due() {
+            let read = self.read;
+            let _ = eprint!(self.rt; "\r\x1b[Kmls: reading {file}, {read} bytes so far");
+            self.is_shown = true;
+        }
+    }
+
+    /// Tells what begins now.
+    pub fn begin(&mut self, phase: &str) {
+        if self.is_due() {
+            let _ = eprint!(self.rt; "\r\x1b[Kmls: {phase}");
+            self.is_shown = true;
+        }
+    }
+
+    /// Takes the line away, before anything else is written.
+    pub fn end(&mut self) {
+        if self.is_shown {
+            let _ = eprint!(self.rt; "\r\x1b[K");
+            self.is_shown = false;
+        }
+    }
+}

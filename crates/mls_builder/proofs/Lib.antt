@@ -1,0 +1,4 @@
+mod Cells
+mod Faultless
+pub mod Laws
+mod Opening

@@ -1,0 +1,52 @@
+use Rattle.std.proofs.Common.{◌≡◌, ◌∙◌, ap}
+use Rattle.std.specs.Prelude.{None}
+use Rattle.std.specs.FinSet as set
+use Rattle.mls_state.specs.First.{first_state}
+use Rattle.mls_builder.specs.Growing.{with_rows}
+use Rattle.mls_tables.specs.Triples.{triple_cmp}
+use Rattle.mls_builder.specs.Rows.{Rows, opening}
+use Rattle.mls_builder.specs.StartFaults.{start_fault}
+use Rattle.mls_builder.proofs.Faultless.{faultless, cells_known}
+use Rattle.mls_builder.proofs.Opening.{active-first, opened}
+use Rattle.mls_builder.proofs.start_builder.StartBuilder.opening.Goals as goal
+
+pub add_objects-requires-clause-active : goal.add_objects-requires-clause-active
+add_objects-requires-clause-active g c o below =
+    rw c.in_ok-state.ensures (active-first c.deref.result.now c.self.inside.root c.self.inside.security c.self.inside.integrity o (rw c.in_ok-state.ensures at below))
+
+pub permit_all-requires : goal.permit_all-requires
+permit_all-requires g c =
+    let a = c.self.inside in
+    let rows : Rows = record {
+      security = a.security;
+      integrity = a.integrity;
+      root = a.root;
+      subjects = a.subjects.items;
+      objects = a.objects.items;
+      cells = set.from_list a.cells.items;
+    } in
+    let none : start_fault rows ≡ None = rw (← c.self.view_is) at c.requires in
+    let built : c.add_objects.new.state ≡ with_rows (first_state a.subjects.items a.root a.security a.integrity) a.objects.items =
+    c.in_ok-add_objects.ensures
+    ∙ (λ i. with_rows (c.in_ok-state.ensures i) (c.deref-2.ensures.value i))
+    ∙ ap (λ subjects. with_rows (first_state subjects a.root a.security a.integrity) a.objects.items) c.deref.ensures.value in
+    let listed : set.from_list {R = triple_cmp} c.deref-3.result.now ≡ rows.cells = ap (λ ts. set.from_list {R = triple_cmp} ts) c.deref-3.ensures.value in
+    cells_known rows (faultless rows none) c.deref-3.result.now c.add_objects.new.state built listed
+
+pub returns : goal.returns
+returns g c =
+    let a = c.self.inside in
+    let rows : Rows = record {
+      security = a.security;
+      integrity = a.integrity;
+      root = a.root;
+      subjects = a.subjects.items;
+      objects = a.objects.items;
+      cells = set.from_list a.cells.items;
+    } in
+    let built : c.add_objects.new.state ≡ with_rows (first_state a.subjects.items a.root a.security a.integrity) a.objects.items =
+    c.in_ok-add_objects.ensures
+    ∙ (λ i. with_rows (c.in_ok-state.ensures i) (c.deref-2.ensures.value i))
+    ∙ ap (λ subjects. with_rows (first_state subjects a.root a.security a.integrity) a.objects.items) c.deref.ensures.value in
+    let listed : set.from_list {R = triple_cmp} c.deref-3.result.now ≡ rows.cells = ap (λ ts. set.from_list {R = triple_cmp} ts) c.deref-3.ensures.value in
+    c.permit_all.ensures ∙ opened rows c.deref-3.result.now c.add_objects.new.state built listed ∙ ap opening c.self.view_is

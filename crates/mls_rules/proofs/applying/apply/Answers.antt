@@ -1,5 +1,0 @@
-use Rattle.mls_rules.proofs.Security.{after_secure}
-use Rattle.mls_rules.proofs.applying.apply.Goals as goal
-
-pub returns-clause-secure : goal.returns-clause-secure
-returns-clause-secure g c secure = rw c.in_ok-reply.ensures.ok (after_secure c.args.state.now c.args.request.now secure)

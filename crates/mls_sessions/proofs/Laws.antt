@@ -1,0 +1,8 @@
+-- What other rooms may know of lists of sessions.
+
+-- a front of ascending sessions ascends, and the last is of the office; there are no more sessions than numbers
+pub use Rattle.mls_sessions.proofs.SeatsKeep.{ascending_last, at_most}
+-- a session at its place is of the office, and another with its number may stand there
+pub use Rattle.mls_sessions.proofs.Lists.{ascending_read, ascending_put}
+-- a list of feeds at a stage, with one more
+pub use Rattle.mls_sessions.proofs.Runs.{at_snoc}

@@ -1,0 +1,8 @@
+mod OwnEntries
+mod StepsKeep
+mod Turns
+mod SeatsKeep
+mod Meetings
+mod Lists
+pub mod Laws
+mod Runs

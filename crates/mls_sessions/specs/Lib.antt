@@ -1,0 +1,5 @@
+pub mod Journals
+pub mod Rule
+pub mod Steps
+pub mod Sessions
+pub mod Runs

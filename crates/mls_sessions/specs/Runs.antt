@@ -1,0 +1,28 @@
+-- What a run of feeds leaves.
+use Rattle.std.specs.Prelude.{◌≡◌, ℕ, List, [], ◌∷◌, length, drop}
+use mathlib.Core.List.{IsPrefix}
+use Rattle.mls_state.specs.State.{State}
+use Rattle.mls_requests.specs.declared.entry.Entry.{Entry}
+use Rattle.mls_monitor.specs.Journal.{Monitor}
+use Rattle.mls_sessions.specs.Journals.{AllBelow}
+use Rattle.mls_sessions.specs.Sessions.{Office, Session, IsOf, number_of}
+use Rattle.mls_sessions.specs.declared.feed.Stage.{Stage}
+
+-- Each feed stands at this stage. (own)
+abbrev pub AllAt : {F : Type 0} → (F → Stage) → Stage → List F → Type 0
+AllAt at stage [] = Unit {0}
+AllAt at stage (f ∷ feeds) = (at f ≡ stage) × AllAt at stage feeds
+
+-- The same sessions, number by number, each of the office. (own)
+abbrev pub Returned : Office → List Session → List Session → Type 0
+Returned o [] [] = Unit {0}
+Returned o [] (t ∷ ts) = ⊥
+Returned o (s ∷ ss) [] = ⊥
+Returned o (s ∷ ss) (t ∷ ts) = IsOf o t × (number_of t.view ≡ number_of s.view) × Returned o ss ts
+
+-- A monitor that was handed in with this start and journal: it has that start, and its journal begins with that one and goes on with entries
+-- of the first n sessions. (own)
+pub record Grew (begun : State) (journal : List Entry) (n : ℕ) (new : Monitor) : Type 0 where
+  pub start : new.start ≡ begun
+  pub begins : IsPrefix journal new.entries
+  pub below : AllBelow n (drop (length journal) new.entries)

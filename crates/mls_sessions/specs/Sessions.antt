@@ -1,0 +1,155 @@
+-- What a clause says of an office and of its sessions.
+use Rattle.std.specs.Prelude.{◌≡◌, ◌⊎◌, ℕ, zero, suc, ◌+◌, ◌<◌, ◌≤◌, Bool, ◌&&◌, nat_le, List, [], ◌∷◌, ◌++◌, length, None, refl}
+use mathlib.Core.List.{IsPrefix}
+use Rattle.std.specs.Coded.{Coded, code_by, coded×}
+use Rattle.atomic_table.specs.Seated.{TableId, table_id_coded}
+use Rattle.mls_requests.specs.declared.entry.Entry.{Entry}
+use Rattle.mls_requests.specs.declared.request.Request.{Request}
+use Rattle.mls_sessions.specs.Journals.{Journal, Charter, charter_code, Stands, of_session, AllBelow}
+use Rattle.mls_sessions.specs.Rule.{begun, base, present, news, member}
+use Rattle.mls_sessions.specs.Steps.{Seat}
+use Rattle.mls_sessions.specs.declared.gate_table.Member.{Member}
+use Rattle.mls_sessions.specs.declared.counts.Counts.{Counts}
+use Rattle.mls_sessions.specs.declared.gate_table.View.{View}
+use Rattle.mls_sessions.specs.declared.gate_table.View.TheVariants.{Sessions, Holding}
+use Rattle.mls_sessions.specs.contracts.gate_table.View as view
+use Rattle.mls_sessions.specs.declared.limits.TheConstants.{MAX_SESSIONS}
+
+-- An office: its table, and what it was opened with. (own)
+pub record Office : Type 0 where
+  pub table : TableId
+  pub charter : Charter
+
+-- The office with this table, opened with that. (own)
+abbrev pub office_at : TableId → Charter → Office
+office_at t c = record { table = t; charter = c }
+
+-- A session: its table, and what its seat knows. (own)
+pub record Session : Type 0 where
+  pub table : TableId
+  pub view : View
+
+-- The session in this table, whose seat knows that. (own)
+abbrev pub session_at : TableId → View → Session
+session_at t v = record { table = t; view = v }
+
+-- Whether an office can have so many sessions: 1 to 64. (own)
+abbrev pub is_count : ℕ → Bool
+is_count n = nat_le 1 n && nat_le n MAX_SESSIONS
+
+-- The session of a seat that has one. (own)
+abbrev pub member_of : View → Member
+member_of (Sessions c (m ∷ rest)) = m
+member_of (Holding c m taken) = m
+member_of v = member 0 []
+
+-- What was added to the journal that a holder took, since the office was opened. (own)
+abbrev pub taken_of : View → List Entry
+taken_of (Holding c m taken) = taken
+taken_of v = []
+
+-- The seat of one session that doesn't hold the gate. (own)
+abbrev pub seated : Charter → Member → Seat
+seated key m = (Sessions key (m ∷ []), [])
+
+-- The seat of a session that holds the gate, with the monitor in hand. (own)
+abbrev pub holding : Charter → Member → List Entry → Seat
+holding key m taken = (Holding key m taken, (0, None) ∷ [])
+
+-- The seat holds the gate, and this is the journal of the monitor that it took. (own)
+abbrev pub Holds : Charter → Journal → Seat → Type 0
+Holds key j me = (me ≡ holding key (member_of me.0) (taken_of me.0)) × (j ≡ present key (taken_of me.0))
+
+-- The session took out the monitor with this journal, which begins with its history and has just its own part. (own)
+abbrev pub TookOut : Charter → Member → Journal → Seat → Type 0
+TookOut key m j me = (later : List Entry) × (j ≡ present key later) × (me ≡ (Holding key m later, (0, None) ∷ [])) × IsPrefix m.later later × (of_session m.number m.later ≡ of_session m.number later)
+
+-- The session was given by the office. (own)
+abbrev pub IsOf : Office → Session → Type 0
+IsOf o s = (s.table ≡ o.table) × (s.view ≡ Sessions o.charter (member_of s.view ∷ [])) × ((member_of s.view).number < o.charter.count)
+
+-- A session's number. (own)
+abbrev pub number_of : View → ℕ
+number_of v = (member_of v).number
+
+-- A session's history: the journal as it has seen it. (own)
+abbrev pub history : View → List Entry
+history (Sessions c (m ∷ rest)) = base c ++ m.later
+history v = []
+
+-- The own part of a session's history: those of its entries that the session made since the office was opened. (own)
+abbrev pub own : View → List Entry
+own v = of_session (member_of v).number (member_of v).later
+
+-- A session made an entry: its history begins with the old one and ends with the entry, its own part has just that entry more, the entry has
+-- its number and the request, and the history is legal, so that the reply is that of the rules. (own)
+pub record Submits (c : Charter) (old : View) (request : Request) (e : Entry) (new : View) : Type 0 where
+  pub between : List Entry
+  pub ends : history new ≡ (history old ++ between) ++ e ∷ []
+  pub adds : own new ≡ own old ++ e ∷ []
+  pub by : e.session ≡ number_of old
+  pub asks : e.request ≡ request
+  pub stands : Stands (begun c) (history new)
+
+-- A session looked: its history begins with the old one, its own part is the same, and the history is legal. (own)
+pub record Sees (c : Charter) (old new : View) : Type 0 where
+  pub begins : IsPrefix (history old) (history new)
+  pub same : own new ≡ own old
+  pub stands : Stands (begun c) (history new)
+
+-- Two sessions met: both have the longer of the two histories, of which the other is a prefix, and their own parts and numbers stay. (own)
+pub record Meets (x y x' y' : View) : Type 0 where
+  pub same : history x' ≡ history y'
+  pub one : (history x' ≡ history x) ⊎ (history x' ≡ history y)
+  pub first : IsPrefix (history x) (history x')
+  pub second : IsPrefix (history y) (history x')
+  pub first_own : own x' ≡ own x
+  pub second_own : own y' ≡ own y
+  pub first_number : number_of x' ≡ number_of x
+  pub second_number : number_of y' ≡ number_of y
+
+-- The counts of a session: the lengths of its own part and of its history. (own)
+abbrev pub IsCounted : Counts → View → Type 0
+IsCounted c v = (c.made ≡ length (own v)) × (c.seen ≡ length (history v))
+
+-- The first k sessions of an office as it is opened: numbered from 0, each with the monitor's journal as its history. (own)
+abbrev pub newcomers : Office → ℕ → List Session
+newcomers o zero = []
+newcomers o (suc k) = newcomers o k ++ session_at o.table (Sessions o.charter (member k [] ∷ [])) ∷ []
+
+-- They are sessions of the office, and their numbers ascend from k on. (own)
+abbrev pub Ascending : Office → ℕ → List Session → Type 0
+Ascending o k [] = Unit {0}
+Ascending o k (s ∷ sessions) = IsOf o s × (k ≤ number_of s.view) × Ascending o (number_of s.view + 1) sessions
+
+-- What the seats of sessions know of them, in order. (own)
+abbrev pub members_of : List Session → List Member
+members_of [] = []
+members_of (s ∷ sessions) = member_of s.view ∷ members_of sessions
+
+-- The sessions of a seat. (own)
+abbrev pub members_in : View → List Member
+members_in (Sessions c members) = members
+members_in v = []
+
+-- The journal begins with every session's history, and has for each session just its own part. (own)
+abbrev pub HasAll : Office → Journal → List Session → Type 0
+HasAll o j [] = Unit {0}
+HasAll o j (s ∷ sessions) = IsPrefix (history s.view) j.entries × (of_session (number_of s.view) (news o.charter j) ≡ own s.view) × HasAll o j sessions
+
+-- What a closed office leaves: a legal journal from the office's start, which begins with the journal when it was opened and with every
+-- session's history, has for each session just its own part, and whose entries from the base on are of sessions of the office. (own)
+pub record Leaves (o : Office) (sessions : List Session) (j : Journal) : Type 0 where
+  pub start : j.start ≡ begun o.charter
+  pub begins : IsPrefix (base o.charter) j.entries
+  pub all : HasAll o j sessions
+  pub below : AllBelow o.charter.count (news o.charter j)
+  pub stands : Stands j.start j.entries
+
+-- An office as the pair of its parts, by which offices are compared. (own)
+abbrev pub office_code : Coded Office
+office_code = code_by (TableId × Charter) (coded× table_id_coded charter_code) (λ o. (o.table, o.charter)) (λ p. record { table = p.0; charter = p.1 }) (λ _. refl)
+
+-- A session as the pair of its parts, by which sessions are compared. (own)
+abbrev pub session_code : Coded Session
+session_code = code_by (TableId × View) (coded× table_id_coded view.the_row.coded) (λ s. (s.table, s.view)) (λ p. record { table = p.0; view = p.1 }) (λ _. refl)

@@ -1,0 +1,107 @@
+-- What each kind of atomic step tells the seat that makes it, and which views it may change. A seat is its view and what it holds of the
+-- slot. Parking and waking change no view.
+use Rattle.std.specs.Prelude.{◌≡◌, ◌≢◌, ℕ, ◌-◌, if◌then◌else◌, nat_lt, List, [], ◌∷◌, ◌++◌, length, Option, Some, None}
+use mathlib.Core.List.{IsPrefix}
+use Rattle.atomic_table.specs.Table.{Me, Step}
+use Rattle.mls_requests.specs.declared.entry.Entry.{Entry}
+use Rattle.mls_sessions.specs.Journals.{Journal, Charter, of_session}
+use Rattle.mls_sessions.specs.Rule.{member, present, news}
+use Rattle.mls_sessions.specs.declared.gate_table.Member.{Member}
+use Rattle.mls_sessions.specs.declared.gate_table.View.{View}
+use Rattle.mls_sessions.specs.declared.gate_table.View.TheVariants.{Spent, Starting, Filling, Giving, Sessions, Holding}
+
+-- A seat: its view, and what it holds of the slot. (own)
+abbrev pub Seat : Type 0
+Seat = Me (Option Journal) View
+
+-- A step on the word. (own)
+abbrev pub OnWord : Type 0
+OnWord = Step (Option Journal)
+
+-- Opening, the win of the first seat: it has taken the slot, which is empty. (own)
+abbrev pub filled : OnWord → Seat → ℕ → Seat → Type 0
+filled st me found me' = (c : Charter) → me.0 ≡ Starting c → (me' ≡ (Filling c, (0, None) ∷ []))
+
+-- Opening, the first put home: the seat has all n numbers to give. (own)
+abbrev pub settled : OnWord → Seat → ℕ → Seat → Type 0
+settled st me found me' = (c : Charter) → me.0 ≡ Filling c → me' ≡ (Giving c c.count, [])
+
+-- The monitor is out with the session, which learns that its history is a prefix of the journal, and that it knows its own part. (own)
+abbrev pub Taken : Charter → Member → Seat → Type 0
+Taken c m me = (later : List Entry) × (me ≡ (Holding c m later, (0, Some (present c later)) ∷ [])) × IsPrefix m.later later × (of_session m.number m.later ≡ of_session m.number later)
+
+-- Win or lose: the gate was free, and the session holds, with that journal; or it was held, by another session, and no view changes. (own)
+abbrev pub won : OnWord → Seat → ℕ → Seat → Type 0
+won st me found me' = (c : Charter) (m : Member) → me.0 ≡ Sessions c (m ∷ []) → (found ≡ 0 → Taken c m me') × (found ≢ 0 → (me' ≡ me) × (c.count ≢ 1))
+
+-- The mark is set, or another word was found: no view changes. It counts as a win that was lost. (own)
+abbrev pub marked : OnWord → Seat → ℕ → Seat → Type 0
+marked st me found me' = me' ≡ me
+
+-- The holder's view once the monitor is home, with the history that it had. (own)
+abbrev pub kept_view : View → View
+kept_view (Holding c m taken) = Sessions c (m ∷ [])
+kept_view v = v
+
+-- Put home and free, after a request that found no memory: the session holds no more, and its history is as before. (own)
+abbrev pub kept : OnWord → Seat → ℕ → Seat → Type 0
+kept st me found me' = me' ≡ (kept_view me.0, [])
+
+-- What stands in a slot, beyond the journal when the office was opened. (own)
+abbrev pub news_or : Charter → Option Journal → List Entry
+news_or c (Some j) = news c j
+news_or c None = []
+
+-- The same of what a seat holds of the slot. (own)
+abbrev pub news_in : Charter → List (ℕ × Option Journal) → List Entry
+news_in c [] = []
+news_in c (x ∷ out) = news_or c x.1
+
+-- The holder's view once the monitor is home, with the journal that was put home. (own)
+abbrev pub updated_view : View → List (ℕ × Option Journal) → View
+updated_view (Holding c m taken) out = Sessions c (member m.number (news_in c out) ∷ [])
+updated_view v out = v
+
+-- Put home and free, after an entry or a check: the session holds no more, and its history is the journal put home. (own)
+abbrev pub updated : OnWord → Seat → ℕ → Seat → Type 0
+updated st me found me' = me' ≡ (updated_view me.0 me.1, [])
+
+-- The longer of two lists. (own)
+abbrev pub longer : List Entry → List Entry → List Entry
+longer xs ys = if nat_lt (length xs) (length ys) then ys else xs
+
+-- Both histories are prefixes of the longer one, which has of each session just the own part that it knew. (own)
+pub record Agree (x y : Member) : Type 0 where
+  pub first : IsPrefix x.later (longer x.later y.later)
+  pub second : IsPrefix y.later (longer x.later y.later)
+  pub first_own : of_session x.number (longer x.later y.later) ≡ of_session x.number x.later
+  pub second_own : of_session y.number (longer x.later y.later) ≡ of_session y.number y.later
+
+-- A look in a meeting: no view changes, and the two sessions in one seat agree. (own)
+abbrev pub looked : OnWord → Seat → ℕ → Seat → Type 0
+looked st me found me' = (me' ≡ me) × ((c : Charter) (x y : Member) → me.0 ≡ Sessions c (x ∷ y ∷ []) → Agree x y)
+
+-- Split, at the opening: the giving seat has one number fewer to give. (own)
+abbrev pub left_of : View → View
+left_of (Giving c g) = Giving c (g - 1)
+left_of v = v
+
+-- The new seat has the session of that number, whose history is the journal when the office was opened. (own)
+abbrev pub right_of : View → View
+right_of (Giving c g) = Sessions c (member (c.count - g) [] ∷ [])
+right_of v = Spent
+
+-- Join: the seat that stays lists the sessions of both; the other's view is spent. (own)
+abbrev pub both_of : View → View → View
+both_of (Sessions c xs) (Sessions d ys) = Sessions c (xs ++ ys)
+both_of v w = v
+
+-- Split, in a meeting: one session each again, both with the longer history. This is the first. (own)
+abbrev pub first_of_two : View → View
+first_of_two (Sessions c (x ∷ y ∷ rest)) = Sessions c (member x.number (longer x.later y.later) ∷ [])
+first_of_two v = v
+
+-- And this the second. (own)
+abbrev pub second_of_two : View → View
+second_of_two (Sessions c (x ∷ y ∷ rest)) = Sessions c (member y.number (longer x.later y.later) ∷ [])
+second_of_two v = Spent

@@ -1,0 +1,76 @@
+//! The monitor on the heap, as the slot holds it.
+ghost use Rattle.std.specs.Prelude.{◌≡◌, IfOk, IfErr};
+ghost use Rattle.std.specs.FinSet as set;
+ghost use Rattle.mls_monitor.specs.Journal.{fold};
+ghost use Rattle.mls_sessions.specs.Journals.{journal_of, Appends, Stands};
+
+use mls_monitor::Monitor;
+use mls_requests::{Entry, Request};
+use mls_tables::{Mode, ObjectId, SubjectId};
+use std::alloc::{AllocError, AllocFailed, Global};
+use std::marker::Model;
+
+/// A monitor in a box, so that a turn at the gate moves a pointer. Contracts see its start and its journal, and not its
+/// room.
+#[derive(Drop)]
+pub struct BoxedMonitor {
+    monitor: Box<Monitor>,
+}
+
+impl Model for BoxedMonitor {
+    ghost use Rattle.mls_sessions.specs.Journals.{Journal, journal_of, journal_code};
+
+    ghost Value = { Journal };
+
+    ghost coded = { journal_code };
+
+    ghost view = { λ b. journal_of b.monitor.value };
+}
+
+impl BoxedMonitor {
+    /// The monitor in a box.
+    ///
+    /// # Errors
+    /// `AllocFailed` where the allocation failed, with the monitor as it was handed in.
+    pub fn new(alloc: Global, monitor: Monitor) -> Result<BoxedMonitor, AllocFailed<Monitor>>
+        ensures ok { IfOk result (λ b. b ≡ journal_of monitor) }
+        ensures err { IfErr result (λ fault. fault.value ≡ monitor) }
+    {
+        let monitor = Box::new(alloc, monitor)?;
+        Ok(BoxedMonitor { monitor })
+    }
+
+    /// The monitor out of its box.
+    pub fn into_inner(self) -> Monitor
+        ensures { journal_of result ≡ self }
+    {
+        let BoxedMonitor { monitor } = self;
+        Box::into_inner(monitor)
+    }
+
+    /// Adds an entry, as the rules say.
+    ///
+    /// # Errors
+    /// `AllocError` where an allocation failed; start and journal are then as before.
+    pub fn submit(&mut self, session: u32, request: Request) -> Result<Entry, AllocError>
+        ensures ok { IfOk result (λ e. Appends self.old session request e self.new) }
+        ensures err { IfErr result (λ _. self.new ≡ self.old) }
+    {
+        self.monitor.submit(session, request)
+    }
+
+    /// Whether the triple is a current access.
+    pub fn check(&self, s: SubjectId, o: ObjectId, x: Mode) -> bool
+        ensures { let b = (fold self.now.start self.now.entries).accesses in result ≡ set.contains b (s, o, x) }
+    {
+        self.monitor.check(s, o, x)
+    }
+
+    /// The journal, which is legal.
+    pub fn entries(&self) -> &[Entry]
+        ensures value { result.now ≡ self.now.entries }
+        ensures legal { Stands self.now.start self.now.entries }
+    {
+        self.monitor.entries()
+    }
+}

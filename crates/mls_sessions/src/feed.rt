@@ -1,0 +1,59 @@
+//! Feeds: what the thread of a session asks for, and is told.
+ghost use Rattle.std.specs.Prelude.{◌≡◌, ◌<◌, ◌≤◌, ℕ, IfSome, IfNone};
+
+use mls_requests::{Ask, Entry};
+
+/// The answer to an ask.
+#[derive(Clone, Copy, Debug, PartialEq, Eq)]
+pub enum Answer {
+    /// The entry that a request made.
+    Entry(Entry),
+    /// Whether the access is held.
+    Held(bool),
+}
+
+/// Where a feed stands.
+#[derive(Clone, Copy, Debug, PartialEq, Eq)]
+pub enum Stage {
+    /// It can be asked for what comes next.
+    Ready,
+    /// It waits for the answer to what it gave last.
+    Waiting,
+    /// Nothing comes any more.
+    Done,
+}
+
+/// What the thread of a session asks for, one after the other. The gate isn't held during any call of a feed.
+pub trait Feed {
+    ghost use Rattle.mls_sessions.specs.declared.feed.Stage.{Stage};
+
+    ghost asks_left: { Self → ℕ };
+
+    ghost stands_at: { Self → Stage };
+
+    /// A bound on the asks that still come.
+    fn left(&self) -> u64
+        ensures { result ≡ asks_left self.now };
+
+    /// Where the feed stands.
+    fn stage(&self) -> Stage
+        ensures { result ≡ stands_at self.now };
+
+    /// What comes next, or nothing any more. It is called where the feed is ready.
+    fn next(&mut self) -> Option<Ask>
+        requires { stands_at self.old ≡ Stage.Ready }
+        ensures some { IfSome result (λ _. (asks_left self.new < asks_left self.old) × (stands_at self.new ≡ Stage.Waiting)) }
+        ensures none { IfNone result ((asks_left self.new ≤ asks_left self.old) × (stands_at self.new ≡ Stage.Done)) };
+
+    /// The answer to what the feed gave last.
+    fn told(&mut self, answer: &Answer)
+        requires { stands_at self.old ≡ Stage.Waiting }
+        ensures left { asks_left self.new ≤ asks_left self.old }
+        ensures ready { stands_at self.new ≡ Stage.Ready };
+
+    /// What the feed gave last gets no answer, for want of memory, and nothing is asked any more.
+    fn stopped(&mut self)
+        requires { stands_at self.old ≡ Stage.Waiting }
+        ensures left { asks_left self.new ≤ asks_left self.old }
+        ensures waits { stands_at self.new ≡ Stage.Waiting };
+}

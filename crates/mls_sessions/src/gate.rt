@@ -1,0 +1,114 @@
+//! The gate's word, and the two functions that take the monitor out and put it home.
+ghost use Rattle.std.specs.Prelude.{◌≡◌, ◌≢◌, ◌%◌, ◌∷◌, [], ℕ, Some, None, MatchResult, IfOk};
+ghost use Rattle.std.specs.Bool.{Decides};
+ghost use mathlib.Core.Option as maybe;
+ghost use Rattle.atomic_table.specs.Table.{step, Allows};
+ghost use Rattle.mls_sessions.specs.Journals.{Stands};
+ghost use Rattle.mls_sessions.specs.Rule.{Gated, Names, word_of};
+ghost use Rattle.mls_sessions.specs.Sessions.{member_of, seated, TookOut};
+ghost use Rattle.mls_sessions.specs.Steps.{kept_view};
+
+use crate::boxed_monitor::BoxedMonitor;
+use crate::gate_table::{Gate, GateSeat, View};
+use crate::steps::{Mark, Win};
+use atomic_table::Play;
+use std::hint::spin_loop;
+
+/// The place of the gate's word in the table.
+pub const WORD: usize = 0;
+
+/// The place of the monitor's slot in the table.
+pub const SLOT: usize = 0;
+
+/// The word while the gate is free.
+pub const FREE: u64 = 0;
+
+/// The word while the office is opened.
+pub const OPENING: u64 = 2;
+
+/// The word that names a session, with no mark.
+pub fn named(number: u32) -> u64
+    ensures { result ≡ word_of number }
+{
+    2 * (u64::from(number) + 1)
+}
+
+/// Whether someone may sleep.
+fn is_marked(word: u64) -> bool
+    ensures { Decides result (word % 2 ≡ 1) }
+{
+    word % 2 == 1
+}
+
+/// Looks at the word so often and once more, as long as the gate is held and nobody may sleep. It returns what it saw last.
+/// It looks once at least, or a session would never see that the gate is free.
+pub fn look(gate: &Gate, looks: u32) -> u64
+    requires { gate.now.table_id.words ≡ 1 }
+{
+    for _ in 0..looks {
+        let seen = gate.peek(WORD);
+        if seen == FREE || is_marked(seen) {
+            return seen;
+        }
+        spin_loop();
+    }
+    gate.peek(WORD)
+}
+
+/// Marks the word that was seen, since someone may sleep. It returns the marked word, unless another word was found.
+pub fn mark(gate: &Gate, seat: &mut GateSeat, seen: u64) -> Option<u64>
+    requires office { (seat.old.table_id ≡ gate.now.table_id) × (gate.now.table_id.words ≡ 1) }
+    requires session { seat.old.me ≡ seated gate.now.key (member_of seat.old.me.0) }
+    requires held { seen ≢ 0 }
+    ensures seat { (seat.new.table_id ≡ seat.old.table_id) × (seat.new.id ≡ seat.old.id) }
+    ensures same { seat.new.me ≡ seat.old.me }
+{
+    if is_marked(seen) {
+        return Some(seen);
+    }
+    let found = gate.compare_exchange::<Mark>(seat, WORD, seen, seen + 1);
+    if found == seen { Some(seen + 1) } else { None }
+}
+
+/// Takes the monitor out where the gate is free, and leaves this word in it, which names the session. Or else it returns
+/// the word that it found.
+pub fn win(gate: &Gate, seat: &mut GateSeat, held: u64) -> Result<BoxedMonitor, u64>
+    requires office { (seat.old.table_id ≡ gate.now.table_id) × (gate.now.table_id.words ≡ 1) }
+    requires session { seat.old.me ≡ seated gate.now.key (member_of seat.old.me.0) }
+    requires held { Names held (member_of seat.old.me.0).number }
+    ensures seat { (seat.new.table_id ≡ seat.old.table_id) × (seat.new.id ≡ seat.old.id) }
+    ensures won { MatchResult result (λ j. TookOut gate.now.key (member_of seat.old.me.0) j seat.new.me) (λ _. (seat.new.me ≡ seat.old.me) × (gate.now.key.count ≢ 1)) }
+    ensures back { IfOk result (λ _. kept_view seat.new.me.0 ≡ seat.old.me.0) }
+{
+    let found = gate.compare_exchange::<Win>(seat, WORD, FREE, held);
+    if found != FREE {
+        return Err(found);
+    }
+    match gate.exchange(seat, SLOT, None) {
+        Some(monitor) => Ok(monitor),
+        None => unreachable!(),
+    }
+}
+
+/// Puts the monitor home and frees the gate. It wakes one that sleeps, if there may be one.
+pub fn put_home<M: Play<Option<BoxedMonitor>, View>>(
+    gate: &Gate,
+    seat: &mut GateSeat,
+    monitor: BoxedMonitor,
+)
+    requires office { (seat.old.table_id ≡ gate.now.table_id) × (gate.now.table_id.words ≡ 1) × (seat.old.me.1 ≡ (0, None) ∷ []) }
+    requires rule { Stands monitor.start monitor.entries → Allows (Gated gate.now.key) gate.now.table_id.slots seat.old.id (seat.old.me.0, (0, Some monitor) ∷ []) 0 (λ _. 0) (M.then (step gate.now.table_id.slots 0 0 0 maybe.none) (seat.old.me.0, (0, Some monitor) ∷ [])) }
+    ensures seat { (seat.new.table_id ≡ seat.old.table_id) × (seat.new.id ≡ seat.old.id) }
+    ensures legal { Stands monitor.start monitor.entries }
+    ensures told { (found : ℕ) × M.then (step gate.now.table_id.slots 0 0 0 maybe.none) (seat.old.me.0, (0, Some monitor) ∷ []) found seat.new.me }
+{
+    let _legal = monitor.entries();
+    match gate.exchange(seat, SLOT, Some(monitor)) {
+        None => {}
+        Some(_) => unreachable!(),
+    }
+    let found = gate.swap::<M>(seat, WORD, FREE);
+    if is_marked(found) {
+        gate.wake_one(WORD);
+    }
+}

@@ -1,0 +1,86 @@
+//! The table that the sessions of an office share: one word, the gate, and one slot, which holds the monitor.
+//!
+//! The word is 0 where the gate is free. Else it names the session k that holds it, as 2 (k + 1), and is one more, the
+//! mark, where someone may sleep.
+ghost use Rattle.std.specs.Prelude.{◌≡◌};
+
+use crate::boxed_monitor::BoxedMonitor;
+use atomic_table::{Seat, Shared, Table, TableRule};
+use mls_monitor::Monitor;
+use mls_requests::Entry;
+use std::alloc::Global;
+use std::collections::LinkedList;
+use std::marker::Model;
+use std::snapshot::Snapshot;
+
+/// What an office was opened with: the monitor, and how many sessions.
+#[derive(Drop)]
+pub struct Charter {
+    opened: Snapshot<Monitor>,
+    count: u64,
+}
+
+impl Model for Charter {
+    ghost use Rattle.mls_sessions.specs.Journals.{Charter, charter_code};
+
+    ghost Value = { Charter };
+
+    ghost coded = { charter_code };
+
+    ghost view = { λ c. record { start = c.opened.value.start; entries = c.opened.value.entries; count = c.count } };
+}
+
+impl Charter {
+    /// The monitor, and so many sessions.
+    pub fn of(monitor: &Monitor, count: u64) -> Charter
+        ensures { result ≡ record { start = monitor.now.start; entries = monitor.now.entries; count = count } }
+    {
+        Charter {
+            opened: Snapshot::of(monitor),
+            count,
+        }
+    }
+}
+
+/// A session's number, and what it has seen of the journal since the office was opened.
+pub struct Member {
+    pub number: u64,
+    pub later: LinkedList<Entry>,
+}
+
+/// What a seat knows. It exists in proofs alone: no value of it is made.
+pub enum View {
+    /// It was joined into another seat.
+    Spent,
+    /// The first seat, while the slot is still empty.
+    Starting(Charter),
+    /// The first seat, which has taken the empty slot.
+    Filling(Charter),
+    /// The first seat, which has so many numbers to give.
+    Giving(Charter, u64),
+    /// The sessions that it stands for.
+    Sessions(Charter, LinkedList<Member>),
+    /// Its session holds the gate, and took the monitor out with this journal since the opening.
+    Holding(Charter, Member, LinkedList<Entry>),
+}
+
+/// The gate's rule, which each atomic step keeps.
+pub struct GateRule;
+
+impl TableRule<Option<BoxedMonitor>, View, Charter> for GateRule {
+    ghost use Rattle.mls_sessions.specs.Rule.{Gated};
+    ghost use Rattle.mls_sessions.specs.declared.gate_table.View.TheVariants.{Starting};
+
+    ghost holds = { Gated };
+
+    ghost first = { Starting };
+}
+
+/// The table, as its owner has it.
+pub type GateTable = Table<Option<BoxedMonitor>, View, Charter, GateRule, Global>;
+
+/// The table, as the sessions share it.
+pub type Gate = Shared<Option<BoxedMonitor>, View, Charter, GateRule>;
+
+/// The right to step, with what is known by it. It takes no bytes.
+pub type GateSeat = Seat<Option<BoxedMonitor>, View>;

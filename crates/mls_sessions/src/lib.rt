@@ -1,0 +1,34 @@
+//! Sessions: threads share one monitor through a gate, and each session knows its own part of the one journal.
+#![tactic(auto)]
+
+mod asked;
+mod attend;
+mod boxed_monitor;
+mod closing;
+mod counts;
+mod feed;
+mod gate;
+mod gate_table;
+mod limits;
+mod meeting;
+mod office;
+mod office_fault;
+mod opening;
+mod returns;
+mod run;
+mod run_fault;
+mod session;
+mod steps;
+#[cfg(test)]
+mod tests;
+mod try_fault;
+mod turn;
+
+pub use feed::{Answer, Feed, Stage};
+pub use limits::MAX_SESSIONS;
+pub use office::Office;
+pub use office_fault::{CloseFault, OfficeFault, OfficeFaultKind};
+pub use run::run_sessions;
+pub use run_fault::{RunDone, RunFault, RunFaultKind};
+pub use session::Session;
+pub use try_fault::{Busy, TryFault};

@@ -1,0 +1,47 @@
+//! How an office opens: the monitor is put in, and each session gets a seat.
+ghost use Rattle.std.specs.Prelude.{◌≡◌, ◌≤◌, [], vec_len, vec_capacity};
+ghost use Rattle.mls_sessions.specs.declared.gate_table.View.TheVariants.{Starting, Giving};
+ghost use Rattle.mls_sessions.specs.Journals.{journal};
+ghost use Rattle.mls_sessions.specs.Rule.{begun, base, base_length};
+ghost use Rattle.mls_sessions.specs.Sessions.{office_at, newcomers};
+
+use crate::boxed_monitor::BoxedMonitor;
+use crate::gate::{FREE, OPENING, WORD, put_home};
+use crate::gate_table::{Gate, GateSeat};
+use crate::session::Session;
+use crate::steps::{Fill, Give, Settle};
+
+/// Puts the monitor into the empty slot.
+pub fn settle(gate: &Gate, seat: &mut GateSeat, monitor: BoxedMonitor)
+    requires office { (seat.old.table_id ≡ gate.now.table_id) × (gate.now.table_id.words ≡ 1) }
+    requires first { (seat.old.me ≡ (Starting gate.now.key, [])) × (monitor ≡ journal (begun gate.now.key) (base gate.now.key)) }
+    ensures seat { (seat.new.table_id ≡ seat.old.table_id) × (seat.new.id ≡ seat.old.id) }
+    ensures giving { seat.new.me ≡ (Giving gate.now.key gate.now.key.count, []) }
+{
+    let found = gate.compare_exchange::<Fill>(seat, WORD, FREE, OPENING);
+    let _ = found;
+    put_home::<Settle>(gate, seat, monitor);
+}
+
+/// Makes the sessions, one for each number.
+pub fn give_all(
+    gate: &Gate,
+    seat: &mut GateSeat,
+    sessions: &mut Vec<Session>,
+    count: u32,
+    base: u64,
+)
+    requires office { (seat.old.table_id ≡ gate.now.table_id) × (gate.now.table_id.words ≡ 1) }
+    requires first { (seat.old.me ≡ (Giving gate.now.key count, [])) × (count ≡ gate.now.key.count) × (base ≡ base_length gate.now.key) }
+    requires room { (sessions.old.items ≡ []) × (count ≤ vec_capacity sessions.old) }
+    ensures all { vec_len sessions.new ≡ count }
+    ensures sessions { sessions.new.items ≡ newcomers (office_at gate.now.table_id gate.now.key) count }
+{
+    for number in 0..count {
+        let place = gate.split_seat::<Give>(seat);
+        match sessions.push(Session::enter(place, number, base)) {
+            Ok(()) => {}
+            Err(_) => unreachable!(),
+        }
+    }
+}

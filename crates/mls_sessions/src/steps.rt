@@ -1,0 +1,92 @@
+//! The kinds of atomic step, each with what it tells the seat that makes it.
+ghost use Rattle.mls_sessions.specs.Steps.{filled, settled, won, marked, kept, updated, looked, left_of, right_of, both_of, first_of_two, second_of_two};
+ghost use Rattle.mls_sessions.specs.declared.gate_table.View.TheVariants.{Spent};
+
+use crate::boxed_monitor::BoxedMonitor;
+use crate::gate_table::View;
+use atomic_table::{Join, Play, Split};
+
+/// The first seat takes the empty slot.
+pub struct Fill;
+
+impl Play<Option<BoxedMonitor>, View> for Fill {
+    ghost then = { filled };
+}
+
+/// The first seat puts the monitor in.
+pub struct Settle;
+
+impl Play<Option<BoxedMonitor>, View> for Settle {
+    ghost then = { settled };
+}
+
+/// A session wins the gate with the monitor taken out, or loses it.
+pub struct Win;
+
+impl Play<Option<BoxedMonitor>, View> for Win {
+    ghost then = { won };
+}
+
+/// Someone may sleep. It counts as a win that was lost: no view changes.
+pub struct Mark;
+
+impl Play<Option<BoxedMonitor>, View> for Mark {
+    ghost then = { marked };
+}
+
+/// The monitor is put home, and the session's history stays.
+pub struct Keep;
+
+impl Play<Option<BoxedMonitor>, View> for Keep {
+    ghost then = { kept };
+}
+
+/// The monitor is put home, and its journal is the session's history.
+pub struct Update;
+
+impl Play<Option<BoxedMonitor>, View> for Update {
+    ghost then = { updated };
+}
+
+/// Two sessions in one seat look at what they know.
+pub struct Look;
+
+impl Play<Option<BoxedMonitor>, View> for Look {
+    ghost then = { looked };
+}
+
+/// The first seat gives a number to a new seat.
+pub struct Give;
+
+impl Split<View> for Give {
+    ghost left = { left_of };
+
+    ghost right = { right_of };
+}
+
+/// The whole view goes to a new seat.
+pub struct Move;
+
+impl Split<View> for Move {
+    ghost left = { λ v. Spent };
+
+    ghost right = { λ v. v };
+}
+
+/// A seat takes over the sessions of another.
+pub struct Gather;
+
+impl Join<View> for Gather {
+    ghost both = { both_of };
+
+    ghost spent = { Spent };
+}
+
+/// Two sessions in one seat get one seat each again, both with the longer history.
+pub struct Part;
+
+impl Split<View> for Part {
+    ghost left = { first_of_two };
+
+    ghost right = { second_of_two };
+}

@@ -1,0 +1,13 @@
+//! Tests of the lines of entries: what is written and read, what is refused, and journals cut into lines.
+#![tactic(auto)]
+
+#[cfg(test)]
+mod entries;
+#[cfg(test)]
+mod faults;
+#[cfg(test)]
+mod journals;
+#[cfg(test)]
+mod refusals;
+#[cfg(test)]
+mod rows;

@@ -1,0 +1,54 @@
+//! A monitor over the standard start, and what is asked of it.
+use mls_builder::Start;
+use mls_labels::{CatSet, Label, SecLabel};
+use mls_monitor::Monitor;
+use mls_requests::{Action, Request};
+use mls_starts::{Loaded, standard_start};
+use mls_tables::{Mode, ObjectId, SubjectId};
+use std::alloc::{AllocError, Global};
+
+pub const ANN: SubjectId = SubjectId(0);
+
+pub const BOB: SubjectId = SubjectId(1);
+
+pub const PLANS: ObjectId = ObjectId(1);
+
+/// A request for an access.
+pub fn get(subject: SubjectId, x: Mode, o: ObjectId) -> Request {
+    Request {
+        subject,
+        action: Action::Get(x, o),
+    }
+}
+
+/// A request for the end of an access.
+pub fn release(subject: SubjectId, x: Mode, o: ObjectId) -> Request {
+    Request {
+        subject,
+        action: Action::Release(x, o),
+    }
+}
+
+/// A subject's request for a level with no category.
+pub fn level(subject: SubjectId, level: u8) -> Request {
+    let label = SecLabel::of(Label::new(level % 16, CatSet::empty()));
+    Request {
+        subject,
+        action: Action::SubjectLevel(label),
+    }
+}
+
+/// The start alone.
+fn without_names(loaded: Loaded<Global>) -> Start {
+    let (names, start) = loaded.into_parts();
+    drop(names);
+    start
+}
+
+/// A monitor over the standard start, with an empty journal.
+pub fn standard_monitor(alloc: Global) -> Result<Monitor, AllocError> {
+    let Ok(loaded) = standard_start(alloc) else {
+        return Err(AllocError);
+    };
+    Monitor::open(alloc, without_names(loaded)).map_err(|_| AllocError)
+}
