@@ -64,52 +64,77 @@ fn check_command<'a>(alloc: Global) -> Result<Command<'a>, AllocError> {
         .arg(start_operand(alloc))
 }
 
-/// The command `run`.
-fn run_command<'a>(alloc: Global) -> Result<Command<'a>, AllocError> {
-    let serial = Arg::new(alloc, "serial")
+/// The option `--serial`.
+fn serial_option<'a>(alloc: Global) -> Arg<'a> {
+    Arg::new(alloc, "serial")
         .long("serial")
         .help("Runs the scripts one after the other, which is so by now without it too")
-        .action(ArgAction::SetTrue);
-    let journal = Arg::new(alloc, "journal")
+        .action(ArgAction::SetTrue)
+}
+
+/// The option `--journal`.
+fn journal_option<'a>(alloc: Global) -> Arg<'a> {
+    Arg::new(alloc, "journal")
         .long("journal")
         .value_name("FILE")
         .help("Writes the journal to FILE, which is made anew")
-        .action(ArgAction::Set);
-    let scripts = Arg::new(alloc, "SCRIPT")
+        .action(ArgAction::Set)
+}
+
+/// The operands `SCRIPT`.
+fn script_operands<'a>(alloc: Global) -> Arg<'a> {
+    Arg::new(alloc, "SCRIPT")
         .help("The scripts, at most 64; the first is session 0")
         .required(true)
         .num_args(1..)
-        .action(ArgAction::Append);
-    Command::new(alloc, "run")
+        .action(ArgAction::Append)
+}
+
+/// The operand `JOURNAL`.
+fn journal_operand<'a>(alloc: Global) -> Arg<'a> {
+    Arg::new(alloc, "JOURNAL")
+        .help("The journal, as mls run writes it")
+        .required(true)
+}
+
+/// The command `run`.
+fn run_command<'a>(alloc: Global) -> Result<Command<'a>, AllocError> {
+    let run = Command::new(alloc, "run")
         .about(RUN_ABOUT)
-        .after_help(RUN_EXAMPLE)
-        .arg(serial)?
-        .arg(journal)?
+        .after_help(RUN_EXAMPLE);
+    run.arg(serial_option(alloc))?
+        .arg(journal_option(alloc))?
         .arg(start_operand(alloc))?
-        .arg(scripts)
+        .arg(script_operands(alloc))
 }
 
 /// The command `replay`.
 fn replay_command<'a>(alloc: Global) -> Result<Command<'a>, AllocError> {
-    let journal = Arg::new(alloc, "JOURNAL")
-        .help("The journal, as mls run writes it")
-        .required(true);
-    Command::new(alloc, "replay")
+    let replay = Command::new(alloc, "replay")
         .about(REPLAY_ABOUT)
-        .after_help(REPLAY_EXAMPLE)
+        .after_help(REPLAY_EXAMPLE);
+    replay
         .arg(start_operand(alloc))?
-        .arg(journal)
+        .arg(journal_operand(alloc))
+}
+
+/// A command line with one more command.
+fn with<'a>(
+    line: Command<'a>,
+    made: Result<Command<'a>, AllocError>,
+) -> Result<Command<'a>, AllocError> {
+    line.subcommand(made?)
 }
 
 /// The program's command line.
 fn command<'a>(alloc: Global) -> Result<Command<'a>, AllocError> {
-    Command::new(alloc, "mls")
+    let line = Command::new(alloc, "mls")
         .version(VERSION)
         .about(ABOUT)
-        .after_help(EXAMPLE)
-        .subcommand(check_command(alloc)?)?
-        .subcommand(run_command(alloc)?)?
-        .subcommand(replay_command(alloc)?)
+        .after_help(EXAMPLE);
+    let line = with(line, check_command(alloc))?;
+    let line = with(line, run_command(alloc))?;
+    with(line, replay_command(alloc))
 }
 
 /// The text of an operand.
