@@ -1,6 +1,7 @@
 #!/usr/bin/env bash
 # The cost of a replay: has mls replay journals over the standard start, the same each time, and prints instructions an entry (by
-# callgrind, where valgrind is there, the start's reading taken off), and of a million entries seconds and the most memory an entry.
+# callgrind, where valgrind is there, the start's reading taken off), and of a million and of ten million entries seconds and the most
+# memory an entry.
 set -u
 export LC_ALL=C
 cd "$(dirname -- "$0")/.." || exit 1
@@ -38,7 +39,14 @@ if command -v valgrind >/dev/null; then
   echo "instructions an entry: $((($(instructions "$folder/short") - $(instructions "$folder/none")) / entries))"
 fi
 
-python3 -c 'import resource, subprocess, sys, time
+# Ten million entries in a file that just fits: ann reads a plan and releases it, and bob stays where he is in between.
+awk -v entries=10000000 'BEGIN {
+  kinds = split("0 0 get-read 1 yes,0 1 level 0 yes,0 0 release read 1 yes,0 1 level 0 yes", kind, ",")
+  for (n = 0; n < entries; n++) print n, kind[1 + n % kinds]
+}' >"$folder/longest"
+
+for journal in long longest; do
+  python3 -c 'import resource, subprocess, sys, time
 program, start, journal = sys.argv[1:]
 begun = time.monotonic()
 done = subprocess.run([program, "replay", start, journal], check=True, capture_output=True)
@@ -46,4 +54,5 @@ seconds = time.monotonic() - begun
 entries = int(done.stdout.split()[1])
 most = resource.getrusage(resource.RUSAGE_CHILDREN).ru_maxrss
 print(f"{entries} entries: {seconds:.2f} s, {most} KiB at the most, {most * 1024 // entries} bytes an entry")' \
-  "$program" "$start" "$folder/long"
+    "$program" "$start" "$folder/$journal"
+done

@@ -1,6 +1,9 @@
 //! The calls, each of which prints what it answers, and returns whether it was out of memory.
+ghost use Rattle.std.specs.Prelude.{◌≤◌, length, All};
+
 use mls_cli::{
-    CommandFault, LoadFault, Loaded, Names, check_start, read_start, standard_start, write_fault,
+    CommandFault, LoadFault, Loaded, Names, RunText, SCRIPT_LIMIT, check_start, read_start,
+    replay_journal, run_serial, standard_start, status, write_fault,
 };
 use mls_rules::Start;
 use std::io;
@@ -88,4 +91,48 @@ pub fn ask_line(rt: &HostRuntime, fault: &CommandFault) -> io::Result<bool> {
     drop(text);
     shown?;
     Ok(out_of_memory)
+}
+
+/// Prints what a run printed, and its journal.
+fn show_run(rt: &impl Print, run: &RunText) -> io::Result<()> {
+    print!(rt; "{}", run.output)?;
+    match &run.journal {
+        Some(text) => print!(rt; "{text}"),
+        None => println!(rt; "no journal"),
+    }
+}
+
+/// Prints that a command was refused, and with which status it then ends.
+fn show_refused(rt: &impl Print, call: &str, fault: &CommandFault) -> io::Result<bool> {
+    let status = status(*fault);
+    println!(rt; "{call}: {fault}, status {status}")?;
+    Ok(*fault == CommandFault::Memory)
+}
+
+/// Runs scripts over a start file.
+pub fn ask_run(rt: &HostRuntime, file: &[u8], scripts: &[&[u8]]) -> io::Result<bool>
+    requires { All (λ script. length script.now ≤ SCRIPT_LIMIT) scripts.now }
+{
+    match run_serial(rt.alloc(), file, scripts, true) {
+        Ok(run) => {
+            let shown = show_run(rt, &run);
+            drop(run);
+            shown?;
+            Ok(false)
+        }
+        Err(fault) => show_refused(rt, "run_serial", &fault),
+    }
+}
+
+/// Replays a journal over a start file.
+pub fn ask_replay(rt: &HostRuntime, file: &[u8], journal: &[u8]) -> io::Result<bool> {
+    match replay_journal(rt.alloc(), file, journal) {
+        Ok(text) => {
+            let shown = print!(rt; "{text}");
+            drop(text);
+            shown?;
+            Ok(false)
+        }
+        Err(fault) => show_refused(rt, "replay_journal", &fault),
+    }
 }

@@ -4,7 +4,7 @@
 
 mod calls;
 
-use calls::{ask_check, ask_line, ask_read, ask_standard};
+use calls::{ask_check, ask_line, ask_read, ask_replay, ask_run, ask_standard};
 use mls_cli::{CommandFault, LoadFault};
 use mls_rules::StartFault;
 use std::alloc::Global;
@@ -25,6 +25,23 @@ const LEAST: &[u8] =
     \"subjects\": [{\"name\": \"ann\", \"maximum\": \"U\", \"current\": \"U\", \"integrity\": \"lo\", \"trusted\": false}],\
     \"objects\": [{\"name\": \"root\", \"parent\": null, \"security\": \"U\", \"integrity\": \"lo\"}], \"matrix\": []}";
 
+/// A start file of a subject that may write the root.
+const WRITES: &[u8] =
+    b"{\"security\": {\"levels\": [\"U\"], \"categories\": []}, \"integrity\": {\"levels\": [\"lo\"], \"categories\": []},\
+    \"subjects\": [{\"name\": \"ann\", \"maximum\": \"U\", \"current\": \"U\", \"integrity\": \"lo\", \"trusted\": false}],\
+    \"objects\": [{\"name\": \"root\", \"parent\": null, \"security\": \"U\", \"integrity\": \"lo\"}],\
+    \"matrix\": [{\"subject\": \"ann\", \"object\": \"root\", \"modes\": [\"write\"]}]}";
+
+/// Scripts over that start: an object is made, permitted and read.
+const SCRIPTS: [&[u8]; 2] = [
+    b"ann get-write root\n$x = ann create root U lo\nann give read ann $x\nann get-read $x\n",
+    b"ann check read #1\n",
+];
+
+/// Their journal.
+const JOURNAL: &[u8] =
+    b"0 0 0 get-write 0 yes\n1 0 0 create 0 0 0 created 1\n2 0 0 give read 0 1 yes\n3 0 0 get-read 1 yes\n";
+
 /// Writes the lines of two faults.
 fn write_both(rt: &HostRuntime) -> io::Result<()> {
     let refused = CommandFault::Load(LoadFault::Start(StartFault::NotCompatible));
@@ -32,6 +49,17 @@ fn write_both(rt: &HostRuntime) -> io::Result<()> {
         if ask_line(rt, &fault)? {
             ask_line(rt, &fault)?;
         }
+    }
+    Ok(())
+}
+
+/// Runs the scripts, and replays their journal.
+fn run_and_replay(rt: &HostRuntime) -> io::Result<()> {
+    if ask_run(rt, WRITES, &SCRIPTS)? {
+        ask_run(rt, WRITES, &SCRIPTS)?;
+    }
+    if ask_replay(rt, WRITES, JOURNAL)? {
+        ask_replay(rt, WRITES, JOURNAL)?;
     }
     Ok(())
 }
@@ -71,5 +99,6 @@ fn main(rt: HostRuntime) -> io::Result<()> {
     if ask_check(&rt, LEAST)? {
         ask_check(&rt, LEAST)?;
     }
-    write_both(&rt)
+    write_both(&rt)?;
+    run_and_replay(&rt)
 }

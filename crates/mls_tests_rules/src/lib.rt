@@ -4,6 +4,8 @@
 #[cfg(test)]
 mod monitor;
 #[cfg(test)]
+mod replays;
+#[cfg(test)]
 mod rules;
 #[cfg(test)]
 mod standard;

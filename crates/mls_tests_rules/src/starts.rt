@@ -67,7 +67,7 @@ fn permits_two_cells<A: Allocator>(rt: &impl Abort, state: &State<A>) {
 }
 
 /// Asserts what a start counts.
-fn counts<A: Allocator>(
+pub fn counts<A: Allocator>(
     rt: &impl Abort,
     start: &Start<A>,
     subjects: u16,
