@@ -1,7 +1,8 @@
 //! A journal each single byte of which is changed.
-use crate::worked::{JOURNAL, START};
+use crate::worked::JOURNAL;
 use mls_cli::replay_journal;
 use mls_journal::{next_entry, write_entry};
+use mls_tests_files::STANDARD;
 use std::alloc::{AllocError, Global};
 use std::process::Abort;
 use std::test::Fail;
@@ -37,7 +38,7 @@ fn is_written_back(alloc: Global, journal: &[u8]) -> bool {
 
 /// Whether a journal is refused by name, or else replays to a secure state and its entries write it back.
 fn is_settled(alloc: Global, journal: &[u8]) -> bool {
-    match replay_journal(alloc, START, journal) {
+    match replay_journal(alloc, STANDARD.as_bytes(), journal) {
         Ok(text) => {
             let is_secure = text.ends_with("\nsecure yes\n");
             drop(text);

@@ -1,7 +1,8 @@
 //! Journals that are replayed over the standard start, and why some are refused.
-use crate::worked::{JOURNAL, START};
+use crate::worked::JOURNAL;
 use mls_cli::{CommandFault, EntryFault, LoadFault, ReplayFault, replay_journal};
 use mls_requests::{Reason, Reply};
+use mls_tests_files::STANDARD;
 use std::alloc::Global;
 
 /// A journal, and what is printed of its replay, or why it is refused.
@@ -110,7 +111,10 @@ fn is_replayed(
 #[test]
 fn journals_are_replayed(rt: HostRuntime) {
     for (n, (journal, wanted)) in ROWS.iter().enumerate() {
-        assert!(rt; is_replayed(rt.alloc(), START, journal, wanted), "at {n}");
+        assert!(rt;
+            is_replayed(rt.alloc(), STANDARD.as_bytes(), journal, wanted),
+            "at {n}"
+        );
     }
 }
 

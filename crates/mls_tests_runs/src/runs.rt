@@ -1,6 +1,7 @@
 //! What a run of scripts prints, and its journal.
-use crate::worked::{SCRIPT, START};
+use crate::worked::SCRIPT;
 use mls_cli::{CommandFault, LoadFault, RunText, run_serial};
+use mls_tests_files::STANDARD;
 use std::alloc::Global;
 
 /// Whether a run printed this, and has this journal or none.
@@ -26,7 +27,12 @@ fn is_run(run: Result<RunText, CommandFault>, output: &str, journal: Option<&str
 
 #[test]
 fn two_scripts_share_a_monitor(rt: HostRuntime) {
-    let run = run_serial(rt.alloc(), START, &[SCRIPT, b"sec get-write root\n"], true);
+    let run = run_serial(
+        rt.alloc(),
+        STANDARD.as_bytes(),
+        &[SCRIPT, b"sec get-write root\n"],
+        true,
+    );
     let output =
         "session 0\nno star\nyes\nyes\nno star\nyes\nyes\nsession 1\nyes\nentries 7\nsecure yes\n";
     let journal =
@@ -36,7 +42,7 @@ fn two_scripts_share_a_monitor(rt: HostRuntime) {
 
 #[test]
 fn one_script_runs(rt: HostRuntime) {
-    let run = run_serial(rt.alloc(), START, &[SCRIPT], true);
+    let run = run_serial(rt.alloc(), STANDARD.as_bytes(), &[SCRIPT], true);
     let output = "session 0\nno star\nyes\nyes\nno star\nyes\nyes\nentries 6\nsecure yes\n";
     let journal =
         "0 0 1 get-read 2 no star\n1 0 1 level 1 yes\n2 0 1 get-read 2 yes\n3 0 1 level 0 no star\n4 0 1 release read 2 yes\n5 0 1 level 0 yes\n";
@@ -45,7 +51,7 @@ fn one_script_runs(rt: HostRuntime) {
 
 #[test]
 fn an_empty_script_runs(rt: HostRuntime) {
-    let run = run_serial(rt.alloc(), START, &[b""], true);
+    let run = run_serial(rt.alloc(), STANDARD.as_bytes(), &[b""], true);
     let output = "session 0\nentries 0\nsecure yes\n";
     let journal = "";
     assert!(rt; is_run(run, output, Some(journal)));
@@ -55,7 +61,7 @@ fn an_empty_script_runs(rt: HostRuntime) {
 fn a_script_sees_what_another_holds_and_not_its_variables(rt: HostRuntime) {
     let run = run_serial(
         rt.alloc(),
-        START,
+        STANDARD.as_bytes(),
         &[
             b"sec get-write root\n$x = sec create root U hi\nsec give read ann $x\nann get-read $x\n",
             b"ann check read #4\nann release read $x\nann release read #4",
@@ -74,7 +80,7 @@ fn a_script_sees_what_another_holds_and_not_its_variables(rt: HostRuntime) {
 fn labels_denials_and_undefined_requests_are_journalled(rt: HostRuntime) {
     let run = run_serial(
         rt.alloc(),
-        START,
+        STANDARD.as_bytes(),
         &[
             b"sec get-write plans\nsec create plans C hi\n$y = sec create plans S:A hi\n",
             b"ann get-read #77\nann level T:B,A\nsec relabel $y S\nsec relabel plans T:A\nbob rescind append ann plans\n",
@@ -90,7 +96,7 @@ fn labels_denials_and_undefined_requests_are_journalled(rt: HostRuntime) {
 
 #[test]
 fn a_journal_that_is_not_asked_for_is_not_made(rt: HostRuntime) {
-    let run = run_serial(rt.alloc(), START, &[SCRIPT], false);
+    let run = run_serial(rt.alloc(), STANDARD.as_bytes(), &[SCRIPT], false);
     let output = "session 0\nno star\nyes\nyes\nno star\nyes\nyes\nentries 6\nsecure yes\n";
     assert!(rt; is_run(run, output, None));
 }

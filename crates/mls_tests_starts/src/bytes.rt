@@ -1,8 +1,8 @@
 //! Each byte of the standard file, changed.
-use crate::files::STANDARD;
 use mls_builder::Start;
 use mls_starts::{LoadFault, Loaded, read_start};
 use mls_state::is_secure;
+use mls_tests_files::STANDARD;
 use std::alloc::{AllocError, Global};
 use std::process::Abort;
 use std::test::Fail;

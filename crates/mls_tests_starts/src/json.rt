@@ -1,6 +1,7 @@
 //! Bytes that aren't JSON.
-use crate::files::{STANDARD, fault_of, is_refused};
+use crate::files::{fault_of, is_refused};
 use mls_starts::LoadFault;
+use mls_tests_files::STANDARD;
 use std::alloc::{AllocError, Global};
 use std::process::Abort;
 use std::test::Fail;

@@ -1,10 +1,10 @@
 //! The standard start and the standard file: each read of what they open with, beside the tables of the format.
-use crate::files::STANDARD;
 use mls_builder::Start;
 use mls_lines::Names;
 use mls_starts::{Loaded, read_start, standard_start};
 use mls_state::{State, is_secure};
 use mls_tables::{Mode, Modes, ObjectId, SubjectId};
+use mls_tests_files::STANDARD;
 use std::alloc::{Allocator, Global};
 use std::process::Abort;
 
