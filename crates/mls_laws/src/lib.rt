@@ -1,0 +1,12 @@
+//! What the definitions mean, as laws over one state or over a whole journal: they claim no flow over time, for a subject may observe, release,
+//! lower its level and write down what it remembers. The functions do nothing, so a wrong body shows nothing and there are no must-fail edits:
+//! what shows that the definitions of this crate say something are the laws of `examples`.
+#![tactic(auto)]
+
+mod flow;
+
+pub use flow::{
+    integrity_is_not_lifted, nothing_flows_down, objects_that_feed_each_other_have_one_integrity,
+    objects_that_flow_to_each_other_have_one_label, subjects_see_what_they_are_cleared_for,
+    subjects_use_what_is_as_trustworthy,
+};
