@@ -9,7 +9,7 @@ ghost use Rattle.mls_state.specs.Properties.{IsSecure};
 ghost use Rattle.mls_laws.specs.Flow.{Flows, Feeds, Chain};
 
 /// In a secure state nothing flows down: along any chain of subjects that aren't trusted, each of which observes one object
-/// and alters the next, the last object's label dominates the first's. (MTR-2997's reason for the star property)
+/// and alters the next, the last object's label dominates the first's. (MTR-2997, *-property)
 pub fn nothing_flows_down()
     ensures step { (v : State) (a b : ℕ) → IsSecure v → Flows v a b → IsTrue (is_above (map.get v.object_label b) (map.get v.object_label a)) }
     ensures chain { (v : State) (a b : ℕ) → IsSecure v → Chain (Flows v) a b → IsTrue (is_above (map.get v.object_label b) (map.get v.object_label a)) }

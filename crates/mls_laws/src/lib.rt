@@ -3,8 +3,10 @@
 //! what shows that the definitions of this crate say something are the laws of `examples`.
 #![tactic(auto)]
 
+mod denials;
 mod flow;
 
+pub use denials::{denied_requests_can_be_left_out, denied_requests_change_nothing};
 pub use flow::{
     integrity_is_not_lifted, nothing_flows_down, objects_that_feed_each_other_have_one_integrity,
     objects_that_flow_to_each_other_have_one_label, subjects_see_what_they_are_cleared_for,
