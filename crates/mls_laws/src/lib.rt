@@ -5,10 +5,14 @@
 
 mod denials;
 mod flow;
+mod unchanging;
 
 pub use denials::{denied_requests_can_be_left_out, denied_requests_change_nothing};
 pub use flow::{
     integrity_is_not_lifted, nothing_flows_down, objects_that_feed_each_other_have_one_integrity,
     objects_that_flow_to_each_other_have_one_label, subjects_see_what_they_are_cleared_for,
     subjects_use_what_is_as_trustworthy,
+};
+pub use unchanging::{
+    deleted_numbers_never_come_back, objects_keep_their_integrity, what_subjects_may_never_changes,
 };
