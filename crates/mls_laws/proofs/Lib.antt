@@ -1,3 +1,4 @@
 mod Answered
+mod Falls
 mod FlowLabels
 mod Kept

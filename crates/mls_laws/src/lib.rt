@@ -4,10 +4,12 @@
 #![tactic(auto)]
 
 mod denials;
+mod falling;
 mod flow;
 mod unchanging;
 
 pub use denials::{denied_requests_can_be_left_out, denied_requests_change_nothing};
+pub use falling::{labels_change_only_when_it_is_granted, no_label_falls_by_itself};
 pub use flow::{
     integrity_is_not_lifted, nothing_flows_down, objects_that_feed_each_other_have_one_integrity,
     objects_that_flow_to_each_other_have_one_label, subjects_see_what_they_are_cleared_for,
