@@ -2,3 +2,5 @@ mod Answered
 mod Falls
 mod FlowLabels
 mod Kept
+mod Provenances
+mod Rescinded

@@ -3,11 +3,13 @@
 //! what shows that the definitions of this crate say something are the laws of `examples`.
 #![tactic(auto)]
 
+mod accesses;
 mod denials;
 mod falling;
 mod flow;
 mod unchanging;
 
+pub use accesses::{every_access_has_its_reason, rescinding_is_final};
 pub use denials::{denied_requests_can_be_left_out, denied_requests_change_nothing};
 pub use falling::{labels_change_only_when_it_is_granted, no_label_falls_by_itself};
 pub use flow::{
