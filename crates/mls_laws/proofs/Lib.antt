@@ -1,4 +1,5 @@
 mod Answered
+mod Deleted
 mod Falls
 mod FlowLabels
 mod Kept

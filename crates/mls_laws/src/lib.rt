@@ -4,12 +4,14 @@
 #![tactic(auto)]
 
 mod accesses;
+mod deletion;
 mod denials;
 mod falling;
 mod flow;
 mod unchanging;
 
 pub use accesses::{every_access_has_its_reason, rescinding_is_final};
+pub use deletion::a_deletion_takes_what_reaches_the_object;
 pub use denials::{denied_requests_can_be_left_out, denied_requests_change_nothing};
 pub use falling::{labels_change_only_when_it_is_granted, no_label_falls_by_itself};
 pub use flow::{
