@@ -1,11 +1,10 @@
 -- What a deletion takes.
-use Rattle.std.proofs.Common.{◌≡◌, ◌↔◌, ℕ, Bool, true, false, not, ◌&&◌, refl, sym, ap, subst, ◌∙◌}
+use Rattle.std.proofs.Common.{◌≡◌, ◌↔◌, ℕ, Bool, true, false, not, ◌&&◌, refl, sym, ap, ◌∙◌}
 use Rattle.std.proofs.lemmas.Bool.{and_parts}
 use Rattle.std.specs.FinMap as map
 use Rattle.std.specs.FinSet as set
 use Rattle.mls_facts.proofs.Entries.{has-kept, at_kept}
 use Rattle.mls_tables.specs.declared.mode.Mode.{Mode}
-use Rattle.mls_tables.specs.Triples.{TripleSet}
 use Rattle.mls_tables.proofs.Laws.{contains-retain-triple}
 use Rattle.mls_tree.specs.Tree.{Reaches, is_inferior}
 use Rattle.mls_tree.proofs.Laws.{is_inferior-Reaches}
@@ -13,7 +12,7 @@ use Rattle.mls_requests.specs.declared.action.Action.TheVariants.{Delete}
 use Rattle.mls_requests.specs.declared.request.Request.{Request}
 use Rattle.mls_requests.specs.declared.reply.Reply.TheVariants.{Yes}
 use Rattle.mls_state.specs.State.{State, is_subject, is_active}
-use Rattle.mls_state.specs.Properties.{IsSecure, HasTree, Each, is_known}
+use Rattle.mls_state.specs.Properties.{IsSecure}
 use Rattle.mls_state.specs.Changes.{stays, with_objects}
 use Rattle.mls_rules.specs.Rules.{reply, after}
 use Rattle.mls_laws.specs.Journals.{is_grant}

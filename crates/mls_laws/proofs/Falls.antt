@@ -14,14 +14,12 @@ use Rattle.mls_requests.specs.declared.request.Request.{Request}
 use Rattle.mls_requests.specs.declared.reply.Reply.TheVariants.{Yes}
 use Rattle.mls_requests.specs.declared.entry.Entry.{Entry}
 use Rattle.mls_state.specs.State.{State, is_active, is_above}
-use Rattle.mls_state.specs.Properties.{IsSecure}
 use Rattle.mls_state.specs.Changes.{stays}
-use Rattle.mls_rules.specs.Rules.{conditions, AllHold, granted, reply, change, after, may_relabel, writes_parent}
-use Rattle.mls_rules.proofs.Laws.{after_secure}
+use Rattle.mls_rules.specs.Rules.{conditions, AllHold, granted, reply, change, after, writes_parent}
 use Rattle.mls_monitor.specs.Journal.{fold}
 use Rattle.mls_laws.specs.Journals.{is_grant}
 use Rattle.mls_laws.proofs.Answered.{granted_from, by_reply, IsRun}
-use Rattle.mls_laws.proofs.Kept.{Fixed, after_fixed, after_kept, fold_kept, IsKept}
+use Rattle.mls_laws.proofs.Kept.{Fixed, after_fixed, after_kept, fold_kept}
 use Rattle.mls_laws.proofs.FlowLabels.{above_trans}
 
 -- an action changes the label of an object that stays only where it relabels that object

@@ -1,5 +1,5 @@
 -- What no request changes.
-use Rattle.std.proofs.Common.{◌≡◌, ℕ, ◌<◌, Bool, true, false, List, nat_eq, is_some, ◌&&◌, refl, sym, ap, subst, ◌∙◌, arith}
+use Rattle.std.proofs.Common.{◌≡◌, ℕ, ◌<◌, Bool, true, false, List, nat_eq, is_some, ◌&&◌, refl, sym, ap, ◌∙◌, arith}
 use Rattle.std.proofs.lemmas.Bool.{and_parts}
 use Rattle.std.proofs.lemmas.Bool.Decides.{nat_tests}
 use Rattle.std.specs.FinMap as map
@@ -20,7 +20,7 @@ use Rattle.mls_rules.specs.Rules.{granted, reply, change, after, names_known}
 use Rattle.mls_rules.proofs.Laws.{after_keeps}
 use Rattle.mls_monitor.specs.Journal.{fold}
 use Rattle.mls_laws.specs.Journals.{is_grant}
-use Rattle.mls_laws.proofs.Answered.{granted_from, fold_keeps, fold_secure}
+use Rattle.mls_laws.proofs.Answered.{granted_from, fold_keeps}
 
 -- what is known of subjects, and the bounds
 abbrev pub Fixed : Type 0

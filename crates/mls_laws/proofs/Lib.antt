@@ -1,3 +1,4 @@
+mod AllReads
 mod Answered
 mod Deleted
 mod Falls

@@ -1,3 +1,4 @@
 pub mod Flow
 pub mod Journals
 pub mod Provenance
+pub mod Reads

@@ -3,7 +3,6 @@ use Rattle.std.specs.Prelude.{◌≡◌, ◌<◌, ℕ, List, slice_get, take, So
 use Rattle.mls_tables.specs.declared.mode.Mode.{Mode}
 use Rattle.mls_tree.specs.Tree.{Reaches}
 use Rattle.mls_requests.specs.declared.action.Action.TheVariants.{Get, Release, Give, Rescind, Delete}
-use Rattle.mls_requests.specs.declared.request.Request.{Request}
 use Rattle.mls_requests.specs.declared.reply.Reply.TheVariants.{Yes}
 use Rattle.mls_requests.specs.declared.entry.Entry.{Entry}
 use Rattle.mls_state.specs.State.{State}

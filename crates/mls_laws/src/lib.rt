@@ -1,6 +1,6 @@
-//! What the definitions mean, as laws over one state or over a whole journal: they claim no flow over time, for a subject may observe, release,
-//! lower its level and write down what it remembers. The functions do nothing, so a wrong body shows nothing and there are no must-fail edits:
-//! what shows that the definitions of this crate say something are the laws of `examples`.
+//! What the definitions mean: laws over one state or over a whole journal, which claim no flow over time.
+//! A subject may observe, release, lower its level and write down what it remembers. The functions do nothing: each is a law, which its
+//! contract states. An empty body can't be wrong, so there are no must-fail edits; the laws of `examples` show that the others speak of something.
 #![tactic(auto)]
 
 mod accesses;
@@ -8,6 +8,7 @@ mod deletion;
 mod denials;
 mod falling;
 mod flow;
+mod reading;
 mod unchanging;
 
 pub use accesses::{every_access_has_its_reason, rescinding_is_final};
@@ -19,6 +20,7 @@ pub use flow::{
     objects_that_flow_to_each_other_have_one_label, subjects_see_what_they_are_cleared_for,
     subjects_use_what_is_as_trustworthy,
 };
+pub use reading::reads_determine_the_state;
 pub use unchanging::{
     deleted_numbers_never_come_back, objects_keep_their_integrity, what_subjects_may_never_changes,
 };

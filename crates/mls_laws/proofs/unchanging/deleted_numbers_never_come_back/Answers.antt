@@ -1,5 +1,4 @@
-use Rattle.std.proofs.Common.{◌≡◌, ap, subst, sym, ◌∙◌}
-use Rattle.mls_requests.specs.declared.reply.Reply.TheVariants.{Created}
+use Rattle.std.proofs.Common.{ap, sym, ◌∙◌}
 use Rattle.mls_state.specs.State.{State, is_active}
 use Rattle.mls_rules.specs.Rules.{reply}
 use Rattle.mls_monitor.specs.Journal.{fold}
