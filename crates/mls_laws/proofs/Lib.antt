@@ -4,5 +4,7 @@ mod Deleted
 mod Falls
 mod FlowLabels
 mod Kept
+mod Plain
 mod Provenances
 mod Rescinded
+mod SevenStates

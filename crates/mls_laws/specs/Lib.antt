@@ -1,4 +1,6 @@
+pub mod Examples
 pub mod Flow
 pub mod Journals
 pub mod Provenance
 pub mod Reads
+pub mod SevenProperties

@@ -9,6 +9,7 @@ mod denials;
 mod falling;
 mod flow;
 mod reading;
+mod seven;
 mod unchanging;
 
 pub use accesses::{every_access_has_its_reason, rescinding_is_final};
@@ -21,6 +22,7 @@ pub use flow::{
     subjects_use_what_is_as_trustworthy,
 };
 pub use reading::reads_determine_the_state;
+pub use seven::{each_property_can_be_broken_alone, secure_is_all_seven};
 pub use unchanging::{
     deleted_numbers_never_come_back, objects_keep_their_integrity, what_subjects_may_never_changes,
 };
