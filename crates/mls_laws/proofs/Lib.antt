@@ -4,6 +4,7 @@ mod Deleted
 mod Falls
 mod FlowLabels
 mod Kept
+mod Lowered
 mod Plain
 mod Provenances
 mod Rescinded

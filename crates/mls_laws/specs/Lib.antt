@@ -4,3 +4,4 @@ pub mod Journals
 pub mod Provenance
 pub mod Reads
 pub mod SevenProperties
+pub mod SystemZ

@@ -8,6 +8,7 @@ mod deletion;
 mod denials;
 mod falling;
 mod flow;
+mod machine_z;
 mod reading;
 mod seven;
 mod unchanging;
@@ -20,6 +21,9 @@ pub use flow::{
     integrity_is_not_lifted, nothing_flows_down, objects_that_feed_each_other_have_one_integrity,
     objects_that_flow_to_each_other_have_one_label, subjects_see_what_they_are_cleared_for,
     subjects_use_what_is_as_trustworthy,
+};
+pub use machine_z::{
+    system_z_grants_every_access, system_z_keeps_every_state_secure, the_monitor_is_not_system_z,
 };
 pub use reading::reads_determine_the_state;
 pub use seven::{each_property_can_be_broken_alone, secure_is_all_seven};
