@@ -6,6 +6,7 @@
 mod accesses;
 mod deletion;
 mod denials;
+mod examples;
 mod falling;
 mod flow;
 mod machine_z;
@@ -16,6 +17,10 @@ mod unchanging;
 pub use accesses::{every_access_has_its_reason, rescinding_is_final};
 pub use deletion::a_deletion_takes_what_reaches_the_object;
 pub use denials::{denied_requests_can_be_left_out, denied_requests_change_nothing};
+pub use examples::{
+    a_secure_state_has_an_access, each_reply_is_given, some_accesses_have_a_reason,
+    something_flows, system_z_grants_what_the_monitor_denies,
+};
 pub use falling::{labels_change_only_when_it_is_granted, no_label_falls_by_itself};
 pub use flow::{
     integrity_is_not_lifted, nothing_flows_down, objects_that_feed_each_other_have_one_integrity,
