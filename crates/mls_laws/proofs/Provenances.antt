@@ -1,7 +1,7 @@
 -- Why an access is held.
 use Rattle.std.proofs.Common.{◌≡◌, ℕ, zero, suc, ◌<◌, Bool, true, false, not, ◌&&◌, ◌||◌, ◌⊎◌, inl, inr, List, [], ◌∷◌, take, Some, refl, sym, ap, subst, ◌∙◌, arith}
 use Rattle.std.specs.Prelude.{slice_get}
-use Rattle.std.proofs.lemmas.Bool.{and_parts}
+use Rattle.std.proofs.lemmas.Bool.{and_parts, or_right}
 use Rattle.std.specs.FinSet as set
 use Rattle.mls_tables.specs.declared.mode.Mode.{Mode}
 use Rattle.mls_tables.specs.Triples.{Triple, TripleSet, is_triple}
@@ -105,6 +105,68 @@ not_ended v e s o x h answered there (deleted q yields is reaches) =
     not_below v q s o x h reaches
     (subst (λ a. set.contains (change v e.request.subject a).accesses (s, o, x) ≡ true) is
     (subst (λ (w : State). set.contains w.accesses (s, o, x) ≡ true) (after_yes v e.request (sym answered ∙ yields)) there))
+
+-- what an action takes from the accesses
+abbrev Lost : State → ℕ → Action → ℕ → ℕ → Mode → Type 0
+Lost v subject a s o x =
+    ((subject ≡ s) × (a ≡ Release x o)) ⊎ ((a ≡ Rescind x s o) ⊎ ((q : ℕ) × (a ≡ Delete q) × Reaches v.parent o q))
+
+taken_one : (a b : Bool) → b ≡ true → (not a && b) ≡ false → a ≡ true
+taken_one true b there gone = refl
+taken_one false b there gone = let still : b ≡ false = gone in cc
+
+taken_away : (a b : Bool) → a ≡ true → (a && not b) ≡ false → b ≡ true
+taken_away true true there gone = refl
+taken_away true false there gone = cc
+taken_away false b there gone = cc
+
+lost_by : (v : State) (subject : ℕ) (a : Action) (s o : ℕ) (x : Mode) → HasTree v → set.contains v.accesses (s, o, x) ≡ true
+    → set.contains (change v subject a).accesses (s, o, x) ≡ false → Lost v subject a s o x × (granted v a ≡ Yes)
+lost_by v subject (Get y q) s o x h there gone =
+    let still : set.contains (set.insert v.accesses (subject, q, y)) (s, o, x) ≡ true =
+    contains-insert-triple v.accesses (subject, q, y) (s, o, x) ∙ or_right (is_triple (s, o, x) (subject, q, y)) (set.contains v.accesses (s, o, x)) there in
+    cc
+lost_by v subject (Release y q) s o x h there gone =
+    let same : (s, o, x) ≡ (subject, q, y) =
+    is_triple-true (s, o, x) (subject, q, y)
+    (taken_one (is_triple (s, o, x) (subject, q, y)) (set.contains v.accesses (s, o, x)) there (sym (contains-remove-triple v.accesses (subject, q, y) (s, o, x)) ∙ gone)) in
+    (inl (λ i. (sym same i).0, λ i. Release (sym same i).2 (sym same i).1), refl)
+lost_by v subject (Give y t q) s o x h there gone = cc
+lost_by v subject (Rescind y t q) s o x h there gone =
+    let same : (s, o, x) ≡ (t, q, y) =
+    is_triple-true (s, o, x) (t, q, y)
+    (taken_one (is_triple (s, o, x) (t, q, y)) (set.contains v.accesses (s, o, x)) there (sym (contains-remove-triple v.accesses (t, q, y) (s, o, x)) ∙ gone)) in
+    (inr (inl (λ i. Rescind (sym same i).2 (sym same i).0 (sym same i).1)), refl)
+lost_by v subject (Create p l i) s o x h there gone = cc
+lost_by v subject (Delete q) s o x h there gone =
+    let below : is_inferior v.parent o q ≡ true =
+    taken_away (set.contains v.accesses (s, o, x)) (is_inferior v.parent o q) there (sym (contains-retain-triple v.accesses (λ t. stays v q t.1) (s, o, x)) ∙ gone) in
+    (inr (inr (q, refl, ((is_inferior-Reaches v.parent (is_active v) v.next h.objects o q).0 below).1)), refl)
+lost_by v subject (SubjectLevel l) s o x h there gone = cc
+lost_by v subject (ObjectLevel q l) s o x h there gone = cc
+
+-- an access that an entry takes is one that it ends
+abbrev EndsIn : State → Entry → ℕ → ℕ → Mode → State → Type 0
+EndsIn v e s o x w = set.contains w.accesses (s, o, x) ≡ false → Ends v e s o x
+
+pub ended : (v : State) (e : Entry) (s o : ℕ) (x : Mode) → HasTree v → e.reply ≡ reply v e.request → set.contains v.accesses (s, o, x) ≡ true
+    → set.contains (after v e.request).accesses (s, o, x) ≡ false → Ends v e s o x
+ended v e s o x h answered there = by_reply (EndsIn v e s o x) v e.request (λ gone. cc) (λ is gone.
+    let lost = lost_by v e.request.subject e.request.action s o x h there gone in
+    from (answered ∙ (granted_from v e.request is).2 ∙ lost.1) lost.0) where
+      from : e.reply ≡ Yes → Lost v e.request.subject e.request.action s o x → Ends v e s o x
+      from yields (inl (own, action)) = released yields (request_of e.request s (Release x o) own action)
+      from yields (inr (inl action)) = rescinded yields action
+      from yields (inr (inr (q, action, reaches))) = deleted q yields action reaches
+
+-- and no longer held after it
+not_held : (b : Bool) → (b ≡ true → ⊥) → b ≡ false
+not_held true never = absurd (never refl)
+not_held false never = refl
+
+pub over : (v : State) (e : Entry) (s o : ℕ) (x : Mode) → HasTree v → e.reply ≡ reply v e.request → Ends v e s o x
+    → set.contains (after v e.request).accesses (s, o, x) ≡ false
+over v e s o x h answered ends = not_held (set.contains (after v e.request).accesses (s, o, x)) (λ there. not_ended v e s o x h answered there ends)
 
 -- held from the beginning, with nothing that ends it
 abbrev pub HeldAlong : State → List Entry → ℕ → ℕ → Mode → Type 0

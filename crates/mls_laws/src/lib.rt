@@ -14,7 +14,10 @@ mod reading;
 mod seven;
 mod unchanging;
 
-pub use accesses::{every_access_has_its_reason, rescinding_is_final};
+pub use accesses::{
+    accesses_end_by_release_rescission_or_deletion, every_access_has_its_reason,
+    rescinding_is_final,
+};
 pub use deletion::a_deletion_takes_what_reaches_the_object;
 pub use denials::{denied_requests_can_be_left_out, denied_requests_change_nothing};
 pub use examples::{
