@@ -1,5 +1,6 @@
 mod AfterKeeps
 mod LabelsSame
+pub mod Laws
 mod LevelTests
 mod Listed
 mod Security

@@ -4,12 +4,12 @@
 mod applying;
 mod authority;
 mod deciding;
-mod laws;
 mod levels;
+mod theorems;
 
 pub use applying::{apply, carry_out};
 pub use deciding::decide;
-pub use laws::tests_are_of_all;
 pub use mls_builder::{BuildRefused, Start, StartBuilder, StartFault};
 pub use mls_requests::{Action, Reason, Reply, Request};
 pub use mls_state::{State, is_secure};
+pub use theorems::tests_are_of_all;

@@ -2,7 +2,7 @@ use Rattle.std.proofs.Common.{eqb, eq-eqb}
 use Rattle.std.proofs.lemmas.Bool.{eqb-true}
 use Rattle.mls_rules.proofs.Listed.{one_of_children, all_of_children}
 use Rattle.mls_rules.proofs.SecurityLevels.{one_of_picked, all_of_picked}
-use Rattle.mls_rules.proofs.laws.tests_are_of_all.Goals as goal
+use Rattle.mls_rules.proofs.theorems.tests_are_of_all.Goals as goal
 
 pub returns-clause-subject : goal.returns-clause-subject
 returns-clause-subject c v s passes = (

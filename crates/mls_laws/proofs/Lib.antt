@@ -1,0 +1,15 @@
+mod AllReads
+mod Answered
+mod Deleted
+mod ExampleStart
+mod Falls
+mod FlowExamples
+mod FlowLabels
+mod Journalled
+mod Kept
+mod Lowered
+mod Plain
+mod Provenances
+mod Replied
+mod Rescinded
+mod SevenStates
