@@ -1,4 +1,4 @@
--- System Z: a machine that lowers every label to the bottom and then grants each access that it is asked for. (McLean 1985)
+-- System Z: a machine that lowers every label to the bottom and then grants each access that it is asked for. (McLean 1987)
 use Rattle.std.specs.Prelude.{ℕ, ◌&&◌, List, [], ◌∷◌, if◌then◌else◌, slice_get, take, Some, map, ◌≡◌}
 use Rattle.std.specs.Ordering.{nat_cmp}
 use Rattle.std.specs.FinSet as set
@@ -24,7 +24,7 @@ abbrev pub bottoms : List ℕ → FinMap nat_cmp Label
 bottoms [] = map.empty
 bottoms (k ∷ ks) = map.insert (bottoms ks) k bottom
 
--- A state with every label lowered: each label of a known subject and of an active object is the bottom. (McLean 1985)
+-- A state with every label lowered: each label of a known subject and of an active object is the bottom. (McLean 1987)
 abbrev pub with_labels_lowered : State → State
 with_labels_lowered v = record v {
   maximum = bottoms (map.keys v.maximum);
@@ -39,7 +39,7 @@ abbrev pub with_access : State → Triple → State
 with_access v t = record v { accesses = set.insert v.accesses t; matrix = set.insert v.matrix t }
 
 -- What System Z answers: yes to each access that is asked for, where subject and object are there; to all else it answers as the rules do. (McLean
--- 1985)
+-- 1987)
 abbrev pub z_answer : State → ℕ → Action → Reply
 z_answer v s (Get x o) = if is_subject v s && is_active v o then Yes else Undefined
 z_answer v s (Release x o) = reply v (record { subject = s; action = Release x o })
@@ -51,7 +51,7 @@ z_answer v s (SubjectLevel l) = reply v (record { subject = s; action = SubjectL
 z_answer v s (ObjectLevel o l) = reply v (record { subject = s; action = ObjectLevel o l })
 
 -- What System Z makes of a state: where an access is asked for, every label is lowered and the access is held; all else changes it as the rules do.
--- (McLean 1985)
+-- (McLean 1987)
 abbrev pub z_change : State → ℕ → Action → State
 z_change v s (Get x o) = if is_subject v s && is_active v o then with_access (with_labels_lowered v) (s, o, x) else v
 z_change v s (Release x o) = after v (record { subject = s; action = Release x o })
@@ -62,15 +62,15 @@ z_change v s (Delete o) = after v (record { subject = s; action = Delete o })
 z_change v s (SubjectLevel l) = after v (record { subject = s; action = SubjectLevel l })
 z_change v s (ObjectLevel o l) = after v (record { subject = s; action = ObjectLevel o l })
 
--- System Z's reply to a request. (McLean 1985)
+-- System Z's reply to a request. (McLean 1987)
 abbrev pub z_reply : State → Request → Reply
 z_reply v r = z_answer v r.subject r.action
 
--- System Z's state after a request. (McLean 1985)
+-- System Z's state after a request. (McLean 1987)
 abbrev pub z_after : State → Request → State
 z_after v r = z_change v r.subject r.action
 
--- System Z's state after some requests, in their order. (McLean 1985)
+-- System Z's state after some requests, in their order. (McLean 1987)
 abbrev pub z_run : State → List Request → State
 z_run v [] = v
 z_run v (r ∷ requests) = z_run (z_after v r) requests

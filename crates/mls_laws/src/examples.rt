@@ -54,7 +54,7 @@ pub fn some_accesses_have_a_reason()
 {}
 
 /// System Z grants what the monitor denies: bob asks to write plans, for which he has no permission; it says yes, its state is secure, and
-/// no legal journal that begins with his request shows its replies. (McLean 1985)
+/// no legal journal that begins with his request shows its replies. (McLean 1987)
 pub fn system_z_grants_what_the_monitor_denies()
     ensures denied { reply (opening example_rows) bob_writes_plans ≡ No Discretionary }
     ensures granted { z_reply (opening example_rows) bob_writes_plans ≡ Yes }

@@ -16,7 +16,7 @@ ghost use Rattle.mls_monitor.specs.Journal.{fold, IsLegal};
 ghost use Rattle.mls_laws.specs.SystemZ.{bottom, z_reply, z_after, z_run, ShowsSystemZ};
 
 /// System Z grants every access that is asked for, of a subject and an object that are there: it says yes, the access is held after it,
-/// and every label is then the bottom. (McLean 1985)
+/// and every label is then the bottom. (McLean 1987)
 pub fn system_z_grants_every_access()
     ensures reply { (v : State) (s o : ℕ) (x : Mode) → IsTrue (is_subject v s) → IsTrue (is_active v o) →
         z_reply v (record { subject = s; action = Get x o }) ≡ Yes }
@@ -35,7 +35,7 @@ pub fn system_z_grants_every_access()
 {}
 
 /// And yet System Z keeps every state secure, whatever is asked of it: that each state is secure doesn't tell a monitor from a machine
-/// that protects nothing. (McLean 1985)
+/// that protects nothing. (McLean 1987)
 pub fn system_z_keeps_every_state_secure()
     ensures { (v : State) (requests : List Request) → IsSecure v → IsSecure (z_run v requests) }
 {}
