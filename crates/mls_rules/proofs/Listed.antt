@@ -15,7 +15,6 @@ use Rattle.mls_tree.proofs.Laws.{is_active-tree, list_any-children, parent_from_
 use Rattle.mls_state.specs.State.{State, is_active}
 use Rattle.mls_state.specs.Properties.{HasTree}
 use Rattle.mls_rules.specs.Levels.{each_child}
-use Rattle.mls_state.proofs.Laws.{Each-from_all, all-from_Each}
 
 module _ {X : Type 0} (p : X → Bool) where
   -- what passes for all items passes for one of them
@@ -32,12 +31,6 @@ module _ {X : Type 0} (p : X → Bool) where
   all_of_each e itself (x ∷ xs) known =
       and_from (p x) (list_all p xs) (known x (ap (λ b. b || list_any (e x) xs) (itself x)))
       (all_of_each e itself xs (λ q later. known q (or_right (e q x) (list_any (e q) xs) later)))
-
--- to test each triple of a set is to test all items of a list that has just them
-pub each-listed : (b : TripleSet) (ts : List Triple) (p : Triple → Bool) → set.from_list {R = triple_cmp} ts ≡ b → each b p ≡ list_all p ts
-each-listed b ts p same = both_ways _ _
-    (λ all. all-from_Each ts b p same (λ t there. each-contains triples_total same_triple b p t all there))
-    (λ all. contains-each triples_total same_triple b p (Each-from_all ts b p same all))
 
 module _ (v : State) (h : HasTree v) where
   abbrev hierarchy : Hierarchy

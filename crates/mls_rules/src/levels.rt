@@ -2,6 +2,7 @@
 ghost use Rattle.std.specs.Prelude.{◌≡◌, ◌==◌, ◌||◌, not, IsTrue, Some};
 ghost use Rattle.std.specs.FinMap as map;
 ghost use Rattle.mls_requests.specs.declared.action.Action.{Action};
+ghost use Rattle.mls_tables.specs.Held.{each_mode};
 ghost use Rattle.mls_state.specs.State.{is_subject, is_active, is_above};
 ghost use Rattle.mls_state.specs.Properties.{simple_holds, star_holds};
 ghost use Rattle.mls_state.specs.Changes.{with_current, with_object_label};
@@ -67,12 +68,71 @@ fn star_at_label<A: Allocator>(
     state.is_trusted(t.0) || star_between(state.current(t.0), l, t.2)
 }
 
+/// Whether the accesses of a subject to an object meet star with its current label `l`.
+fn cell_star_at_level<A: Allocator>(
+    state: &State<A>,
+    s: SubjectId,
+    o: ObjectId,
+    l: SecLabel,
+) -> bool
+    requires subject { IsTrue (is_subject state.now s) }
+    requires object { IsTrue (is_active state.now o) }
+    ensures { result ≡ each_mode state.now.accesses s o (λ t. not (t.0 == s) || star_holds (with_current state.now s l) t) }
+{
+    let modes = state.accesses(s, o);
+    (!modes.has(Mode::Execute) || star_at_level(state, (s, o, Mode::Execute), s, l))
+        && ((!modes.has(Mode::Read) || star_at_level(state, (s, o, Mode::Read), s, l))
+            && ((!modes.has(Mode::Append) || star_at_level(state, (s, o, Mode::Append), s, l))
+                && (!modes.has(Mode::Write) || star_at_level(state, (s, o, Mode::Write), s, l))))
+}
+
+/// Whether the accesses of a subject to an object meet simple security with the label `l`.
+fn cell_simple_at_label<A: Allocator>(
+    state: &State<A>,
+    s: SubjectId,
+    o: ObjectId,
+    l: SecLabel,
+) -> bool
+    requires subject { IsTrue (is_subject state.now s) }
+    requires object { IsTrue (is_active state.now o) }
+    ensures { result ≡ each_mode state.now.accesses s o (λ t. not (t.1 == o) || simple_holds (with_object_label state.now o l) t) }
+{
+    let modes = state.accesses(s, o);
+    (!modes.has(Mode::Execute) || simple_at_label(state, (s, o, Mode::Execute), o, l))
+        && ((!modes.has(Mode::Read) || simple_at_label(state, (s, o, Mode::Read), o, l))
+            && ((!modes.has(Mode::Append) || simple_at_label(state, (s, o, Mode::Append), o, l))
+                && (!modes.has(Mode::Write) || simple_at_label(state, (s, o, Mode::Write), o, l))))
+}
+
+/// Whether the accesses of a subject to an object meet star with the label `l`.
+fn cell_star_at_label<A: Allocator>(
+    state: &State<A>,
+    s: SubjectId,
+    o: ObjectId,
+    l: SecLabel,
+) -> bool
+    requires subject { IsTrue (is_subject state.now s) }
+    requires object { IsTrue (is_active state.now o) }
+    ensures { result ≡ each_mode state.now.accesses s o (λ t. not (t.1 == o) || star_holds (with_object_label state.now o l) t) }
+{
+    let modes = state.accesses(s, o);
+    (!modes.has(Mode::Execute) || star_at_label(state, (s, o, Mode::Execute), o, l))
+        && ((!modes.has(Mode::Read) || star_at_label(state, (s, o, Mode::Read), o, l))
+            && ((!modes.has(Mode::Append) || star_at_label(state, (s, o, Mode::Append), o, l))
+                && (!modes.has(Mode::Write) || star_at_label(state, (s, o, Mode::Write), o, l))))
+}
+
 /// Whether all accesses of the subject meet star with this current label.
 fn keeps_star_of_subject<A: Allocator>(state: &State<A>, s: SubjectId, l: SecLabel) -> bool
     ensures { result ≡ each_of_subject state.now s (star_holds (with_current state.now s l)) }
 {
-    for t in state.triples() {
-        if !star_at_level(state, *t, s, l) {
+    // that accesses name known subjects
+    let _ = state.next();
+    if !state.is_subject(s) {
+        return true;
+    }
+    for o in state.objects_of(s) {
+        if !cell_star_at_level(state, s, *o, l) {
             return false;
         }
     }
@@ -83,8 +143,13 @@ fn keeps_star_of_subject<A: Allocator>(state: &State<A>, s: SubjectId, l: SecLab
 fn keeps_simple_of_object<A: Allocator>(state: &State<A>, o: ObjectId, l: SecLabel) -> bool
     ensures { result ≡ each_of_object state.now o (simple_holds (with_object_label state.now o l)) }
 {
-    for t in state.triples() {
-        if !simple_at_label(state, *t, o, l) {
+    // that accesses name active objects
+    let _ = state.next();
+    if !state.is_active(o) {
+        return true;
+    }
+    for s in state.subjects_of(o) {
+        if !cell_simple_at_label(state, *s, o, l) {
             return false;
         }
     }
@@ -95,8 +160,13 @@ fn keeps_simple_of_object<A: Allocator>(state: &State<A>, o: ObjectId, l: SecLab
 fn keeps_star_of_object<A: Allocator>(state: &State<A>, o: ObjectId, l: SecLabel) -> bool
     ensures { result ≡ each_of_object state.now o (star_holds (with_object_label state.now o l)) }
 {
-    for t in state.triples() {
-        if !star_at_label(state, *t, o, l) {
+    // that accesses name active objects
+    let _ = state.next();
+    if !state.is_active(o) {
+        return true;
+    }
+    for s in state.subjects_of(o) {
+        if !cell_star_at_label(state, *s, o, l) {
             return false;
         }
     }

@@ -3,6 +3,7 @@ use Rattle.std.proofs.Common.{◌≡◌, ℕ, ◌+◌, ◌≤◌, List, [], ◌�
 use lib.Seq.{drop-append_seam}
 use Rattle.std.specs.Prelude.{drop}
 use Rattle.mls_requests.specs.declared.entry.Entry.{Entry}
+use Rattle.mls_state.specs.State.{State}
 use Rattle.mls_monitor.specs.Journal.{Monitor}
 use Rattle.mls_sessions.specs.Journals.{journal_of, AllBelow}
 use Rattle.mls_sessions.specs.Rule.{begun, base}
@@ -35,6 +36,11 @@ module _ {F : Type 0} (at : F → Stage) (stage : Stage) where
 -- a monitor as it was
 pub grew_none : (m : Monitor) (n : ℕ) → Grew m.start m.entries n m
 grew_none m n = record { start = refl; begins = ([], append-nil m.entries); below = subst (AllBelow n) (sym (ap (λ (es : List Entry). drop (length m.entries) es) (sym (append-nil m.entries)) ∙ drop-append_seam m.entries [])) tt }
+
+-- the same, of equal starts, journals and numbers of sessions
+pub grew_as : {start first : State} {entries journal : List Entry} {n count : ℕ} {new : Monitor} → first ≡ start → journal ≡ entries → count ≡ n → Grew first journal count new → Grew start entries n new
+grew_as {start} {first} {entries} {journal} {n} {count} {new} p q r old =
+    subst (λ (b : State). Grew b entries n new) p (subst (λ (es : List Entry). Grew first es n new) q (subst (λ (k : ℕ). Grew first journal k new) r old))
 
 -- what a closed office leaves
 pub grew : (o : Office) (ss : List Session) (new : Monitor) → Leaves o ss (journal_of new) → Grew (begun o.charter) (base o.charter) o.charter.count new

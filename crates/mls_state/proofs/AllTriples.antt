@@ -6,10 +6,6 @@ use Rattle.std.proofs.lemmas.List.Folds.{list_any_at}
 use Rattle.mls_tables.specs.Triples.{Triple, TripleSet, triple_cmp, is_triple}
 use Rattle.mls_tables.proofs.Laws.{is_triple-itself, is_triple-true, contains-from_list-triple}
 use Rattle.mls_state.specs.Properties.{Each}
-use Rattle.mls_state.specs.declared.state.State.TheInside.{Inside}
-use Rattle.mls_state.specs.State.{is_subject, is_active}
-use Rattle.mls_state.specs.Properties.{is_known}
-use Rattle.mls_state.specs.StateView.{state_of, Agrees}
 use Rattle.std.proofs.lemmas.Bool.{and_parts, or_cases, and_from, or_right}
 
 -- what passes for each triple of a list passes for all
@@ -43,16 +39,3 @@ module _ (ts : List Triple) (b : TripleSet) (p : Triple → Bool) (listed : set.
   pub at-from_Each : Each b p → (k : ℕ) (d : Triple) → k < length ts → p (get_or ts k d) ≡ true
   at-from_Each each k d within =
       each (get_or ts k d) (is_listed (get_or ts k d) ∙ list_any_at (λ u. is_triple u (get_or ts k d)) ts k d within (is_triple-itself (get_or ts k d)))
-
--- each triple of a list that has just the current accesses names a known subject and an active object
-module _ {A : Type 0} (a : Inside A) (ts : List Triple) (k : ℕ) (d : Triple) (h : Agrees a) (listed : set.from_list {R = triple_cmp} ts ≡ a.accesses.triples) (within : k < length ts) where
-  known : is_known (state_of a) (get_or ts k d) ≡ true
-  known = at-from_Each ts a.accesses.triples (is_known (state_of a)) listed h.accesses_known k d within
-
-  pub listed_subject : is_subject (state_of a) (get_or ts k d).0 ≡ true
-  listed_subject = (and_parts (is_subject (state_of a) (get_or ts k d).0) (is_active (state_of a) (get_or ts k d).1) known).0
-
-  pub listed_object : is_active (state_of a) (get_or ts k d).1 ≡ true
-  listed_object = (and_parts (is_subject (state_of a) (get_or ts k d).0) (is_active (state_of a) (get_or ts k d).1) known).1
-
-pub ruleset listed_are_known = (listed_subject, listed_object)

@@ -3,6 +3,7 @@ mod Changes
 mod Copies
 mod EachTriple
 mod Growing
+mod Holders
 mod Kept
 pub mod Laws
 mod NumberedSet

@@ -1,13 +1,15 @@
 //! The audit: whether a state is secure, looked at from scratch.
-ghost use Rattle.std.specs.Prelude.{◌≡◌, ◌↔◌, IsTrue, All};
-ghost use Rattle.std.specs.List.{list_all};
+ghost use Rattle.std.specs.Prelude.{◌≡◌, ◌↔◌, ◌||◌, not, IsTrue};
+ghost use Rattle.std.specs.FinSet as set;
+ghost use Rattle.mls_tables.specs.Triples.{Triple};
+ghost use Rattle.mls_tables.specs.Held.{each_mode};
 ghost use Rattle.mls_state.specs.State.{is_subject, is_active};
 ghost use Rattle.mls_state.specs.Properties.{IsSecure, HasTree, Each};
 ghost use Rattle.mls_state.specs.Audit.{access_holds, fits_parent, ceiling_holds, EachBelow, EachSubject};
 
 use crate::conditions::{discretionary_holds, integrity_holds, simple_holds, star_holds};
 use crate::state::State;
-use mls_tables::{Mode, ObjectId, SubjectId};
+use mls_tables::{Mode, Modes, ObjectId, SubjectId};
 use std::alloc::Allocator;
 
 /// Whether a current access meets all properties that speak of accesses.
@@ -22,14 +24,41 @@ fn access_holds<A: Allocator>(state: &State<A>, s: SubjectId, o: ObjectId, x: Mo
         && integrity_holds(state, s, o, x)
 }
 
-/// Whether each of some accesses does.
-fn all_hold<A: Allocator>(state: &State<A>, triples: &[(SubjectId, ObjectId, Mode)]) -> bool
-    requires subjects { All (λ t. IsTrue (is_subject state.now t.0)) triples.now }
-    requires objects { All (λ t. IsTrue (is_active state.now t.1)) triples.now }
-    ensures { result ≡ list_all (access_holds state.now) triples.now }
+/// Whether an access does, where the mode is one of these.
+fn mode_holds<A: Allocator>(
+    state: &State<A>,
+    modes: Modes,
+    s: SubjectId,
+    o: ObjectId,
+    x: Mode,
+) -> bool
+    requires subject { IsTrue (is_subject state.now s) }
+    requires object { IsTrue (is_active state.now o) }
+    ensures { result ≡ (not (set.contains modes x) || access_holds state.now (s, o, x)) }
 {
-    for t in triples {
-        if !access_holds(state, t.0, t.1, t.2) {
+    !modes.has(x) || access_holds(state, s, o, x)
+}
+
+/// Whether the accesses of a subject to an object do.
+fn cell_holds<A: Allocator>(state: &State<A>, s: SubjectId, o: ObjectId) -> bool
+    requires subject { IsTrue (is_subject state.now s) }
+    requires object { IsTrue (is_active state.now o) }
+    ensures { result ≡ each_mode state.now.accesses s o (access_holds state.now) }
+{
+    let modes = state.accesses(s, o);
+    mode_holds(state, modes, s, o, Mode::Execute)
+        && (mode_holds(state, modes, s, o, Mode::Read)
+            && (mode_holds(state, modes, s, o, Mode::Append)
+                && mode_holds(state, modes, s, o, Mode::Write)))
+}
+
+/// Whether all accesses of a subject do.
+fn row_holds<A: Allocator>(state: &State<A>, s: SubjectId) -> bool
+    requires { IsTrue (is_subject state.now s) }
+    ensures { IsTrue result ↔ ((t : Triple) → IsTrue (set.contains state.now.accesses t) → t.0 ≡ s → IsTrue (access_holds state.now t)) }
+{
+    for o in state.objects_of(s) {
+        if !cell_holds(state, s, *o) {
             return false;
         }
     }
@@ -40,7 +69,14 @@ fn all_hold<A: Allocator>(state: &State<A>, triples: &[(SubjectId, ObjectId, Mod
 fn accesses_hold<A: Allocator>(state: &State<A>) -> bool
     ensures { IsTrue result ↔ Each state.now.accesses (access_holds state.now) }
 {
-    all_hold(state, state.triples())
+    // that accesses name known subjects
+    let _ = state.next();
+    for n in 0..state.subject_count() {
+        if !row_holds(state, SubjectId::new(n)) {
+            return false;
+        }
+    }
+    true
 }
 
 /// Whether an object is compatible with its parent. What isn't active has none, and is.
@@ -87,8 +123,8 @@ fn ceilings_hold<A: Allocator>(state: &State<A>) -> bool
     true
 }
 
-/// Whether the state is secure: whether all properties hold, each looked at anew. It goes once over the current
-/// accesses, once over the object numbers and once over the subjects, and doesn't allocate. That the objects are a tree
+/// Whether the state is secure: whether all properties hold, each looked at anew. It goes once over the objects
+/// of each subject, once over the object numbers and once over the subjects, and doesn't allocate. That the objects are a tree
 /// and the tables agree is so of every state.
 pub fn is_secure<A: Allocator>(state: &State<A>) -> bool
     ensures secure { IsTrue result → IsSecure state.now }

@@ -1,13 +1,18 @@
 -- What other crates may know of modes, of triples and of sets of them.
-use Rattle.std.specs.Prelude.{◌≡◌, ℕ, Bool, true, not, ◌&&◌, ◌||◌, ◌==◌, if◌then◌else◌, List, filter, refl}
-use Rattle.std.specs.List.{list_any}
+use Rattle.std.specs.Prelude.{◌≡◌, ℕ, Bool, true, false, not, ◌&&◌, ◌||◌, ◌==◌, if◌then◌else◌, List, [], ◌∷◌, filter, refl}
+use Rattle.std.specs.List.{list_any, list_all}
 use Rattle.std.specs.Ordering.{nat_cmp, ordering_then, eq_by_cmp, is_eq}
 use Rattle.std.specs.Cmp.{IsTotalOrder, Equal-is, nat_eq_equiv, nat_cmp_total, unsigned_tied, on_total, then_total}
 use Rattle.std.specs.declared.cmp.Ordering.{Ordering}
 use Rattle.std.specs.declared.cmp.Ordering.TheVariants.{Less, Equal, Greater}
 use Rattle.std.specs.FinSet.{nat_cmp-IsAntisymmetric}
 use Rattle.std.specs.FinSet as set
-use Rattle.std.proofs.Common.{sym, ap, ◌∙◌}
+use Rattle.std.proofs.Common.{◌⊎◌, inl, inr, sym, ap, subst, ◌∙◌, eqb}
+use Rattle.std.proofs.lemmas.Bool.{cases_eq, cases_Bool, eqb-true, eq-eqb, or_left, or_right, or_cases, and_parts, and_from, false≢true}
+use Rattle.mls_facts.specs.Each.{each}
+use Rattle.mls_facts.proofs.Each.{each-contains, contains-each}
+use Rattle.mls_facts.proofs.Passing.{same_tests}
+use Rattle.mls_tables.specs.Held.{is_held, each_mode}
 use Rattle.mls_facts.proofs.Sets as sets
 use Rattle.mls_tables.specs.declared.mode.Mode.{Mode}
 use Rattle.mls_tables.specs.declared.mode.Mode.TheVariants.{Execute, Read, Append, Write}
@@ -108,3 +113,85 @@ contains-without_object ts o t = contains-retain-triple ts (λ u. not (u.1 == o)
 -- the triples that are of no object of a group
 pub contains-without_objects : (ts : TripleSet) (group : List ℕ) (t : Triple) → set.contains (without_objects ts group) t ≡ (set.contains ts t && not (list_any (λ o. o == t.1) group))
 contains-without_objects ts group t = contains-retain-triple ts (λ u. not (list_any (λ o. o == u.1) group)) t
+
+-- who accesses in a mode accesses
+pub held_at : (b : TripleSet) (s o : ℕ) (x : Mode) → set.contains b (s, o, x) ≡ true → is_held b s o ≡ true
+held_at b s o Execute there = or_left _ _ there
+held_at b s o Read there = or_right (set.contains b (s, o, Execute)) _ (or_left _ _ there)
+held_at b s o Append there = or_right (set.contains b (s, o, Execute)) _ (or_right (set.contains b (s, o, Read)) _ (or_left _ _ there))
+held_at b s o Write there = or_right (set.contains b (s, o, Execute)) _ (or_right (set.contains b (s, o, Read)) _ (or_right (set.contains b (s, o, Append)) _ there))
+
+-- and who accesses does so in a mode
+pub held_in : (b : TripleSet) (s o : ℕ) → is_held b s o ≡ true → (x : Mode) × (set.contains b (s, o, x) ≡ true)
+held_in b s o held = from (cases_Bool (set.contains b (s, o, Execute))) (cases_Bool (set.contains b (s, o, Read))) (cases_Bool (set.contains b (s, o, Append))) where
+  from : (set.contains b (s, o, Execute) ≡ true) ⊎ (set.contains b (s, o, Execute) ≡ false) → (set.contains b (s, o, Read) ≡ true) ⊎ (set.contains b (s, o, Read) ≡ false) → (set.contains b (s, o, Append) ≡ true) ⊎ (set.contains b (s, o, Append) ≡ false) → (x : Mode) × (set.contains b (s, o, x) ≡ true)
+  from (inl a) _ _ = (Execute, a)
+  from (inr _) (inl a) _ = (Read, a)
+  from (inr _) (inr _) (inl a) = (Append, a)
+  from (inr e) (inr r) (inr a) = (Write, rw (e, r, a) at held)
+
+if_there : (there passes : Bool) → (not there || passes) ≡ true → there ≡ true → passes ≡ true
+if_there true passes h is = h
+if_there false passes h is = absurd (false≢true is)
+
+where_there : (there passes : Bool) → (there ≡ true → passes ≡ true) → (not there || passes) ≡ true
+where_there true passes h = h refl
+where_there false passes h = refl
+
+-- what passes in each mode passes in one
+pub each_mode-at : (b : TripleSet) (s o : ℕ) (p : Triple → Bool) (x : Mode) → each_mode b s o p ≡ true → set.contains b (s, o, x) ≡ true → p (s, o, x) ≡ true
+each_mode-at b s o p x all there = from x (and_parts _ _ all) there where
+  from : (x : Mode) → ((not (set.contains b (s, o, Execute)) || p (s, o, Execute)) ≡ true) × (((not (set.contains b (s, o, Read)) || p (s, o, Read)) && ((not (set.contains b (s, o, Append)) || p (s, o, Append)) && (not (set.contains b (s, o, Write)) || p (s, o, Write)))) ≡ true) → set.contains b (s, o, x) ≡ true → p (s, o, x) ≡ true
+  from Execute all there = if_there _ _ all.0 there
+  from Read all there = if_there _ _ (and_parts _ _ all.1).0 there
+  from Append all there = if_there _ _ (and_parts _ _ (and_parts (not (set.contains b (s, o, Read)) || p (s, o, Read)) _ all.1).1).0 there
+  from Write all there = if_there _ _ (and_parts (not (set.contains b (s, o, Append)) || p (s, o, Append)) _ (and_parts (not (set.contains b (s, o, Read)) || p (s, o, Read)) _ all.1).1).1 there
+
+pub each_mode-from : (b : TripleSet) (s o : ℕ) (p : Triple → Bool) → ((x : Mode) → set.contains b (s, o, x) ≡ true → p (s, o, x) ≡ true) → each_mode b s o p ≡ true
+each_mode-from b s o p known = and_from _ _ (one Execute) (and_from _ _ (one Read) (and_from _ _ (one Append) (one Write))) where
+  one : (x : Mode) → (not (set.contains b (s, o, x)) || p (s, o, x)) ≡ true
+  one x = where_there (set.contains b (s, o, x)) (p (s, o, x)) (known x)
+
+-- what passes for all numbers of a list passes for one of them
+pub all_one : (q : ℕ → Bool) (k : ℕ) (xs : List ℕ) → list_all q xs ≡ true → list_any (eqb k) xs ≡ true → q k ≡ true
+all_one q k [] all there = absurd (false≢true there)
+all_one q k (x ∷ xs) all there = from (all_one q k xs (and_parts (q x) (list_all q xs) all).1) (or_cases (eqb k x) (list_any (eqb k) xs) there) where
+  from : (list_any (eqb k) xs ≡ true → q k ≡ true) → (eqb k x ≡ true) ⊎ (list_any (eqb k) xs ≡ true) → q k ≡ true
+  from rest (inl same) = ap q (eqb-true k x same) ∙ (and_parts (q x) (list_all q xs) all).0
+  from rest (inr later) = rest later
+
+pub all_each : (q : ℕ → Bool) (xs : List ℕ) → ((k : ℕ) → list_any (eqb k) xs ≡ true → q k ≡ true) → list_all q xs ≡ true
+all_each q [] known = refl
+all_each q (x ∷ xs) known = and_from (q x) (list_all q xs) (known x (or_left _ _ (eq-eqb x x refl))) (all_each q xs (λ k there. known k (or_right (eqb k x) _ there)))
+
+-- each access of a subject passes where each of its objects does in each mode
+pub row_passes : (b : TripleSet) (s : ℕ) (p : Triple → Bool) (os : List ℕ) → ((o : ℕ) → list_any (eqb o) os ≡ is_held b s o) → list_all (λ o. each_mode b s o p) os ≡ true → (t : Triple) → set.contains b t ≡ true → t.0 ≡ s → p t ≡ true
+row_passes b s p os listed all t there own =
+    let stands : set.contains b (s, t.1, t.2) ≡ true = subst (λ k. set.contains b (k, t.1, t.2) ≡ true) own there in
+    subst (λ k. p (k, t.1, t.2) ≡ true) (sym own) (each_mode-at b s t.1 p t.2 (all_one (λ o. each_mode b s o p) t.1 os all (listed t.1 ∙ held_at b s t.1 t.2 stands)) stands)
+
+pub passes_row : (b : TripleSet) (s : ℕ) (p : Triple → Bool) (os : List ℕ) → ((t : Triple) → set.contains b t ≡ true → t.0 ≡ s → p t ≡ true) → list_all (λ o. each_mode b s o p) os ≡ true
+passes_row b s p os known = all_each (λ o. each_mode b s o p) os (λ o there. each_mode-from b s o p (λ x is. known (s, o, x) is refl))
+
+-- each access to an object passes where each of its subjects does in each mode
+pub column_passes : (b : TripleSet) (o : ℕ) (p : Triple → Bool) (ss : List ℕ) → ((s : ℕ) → list_any (eqb s) ss ≡ is_held b s o) → list_all (λ s. each_mode b s o p) ss ≡ true → (t : Triple) → set.contains b t ≡ true → t.1 ≡ o → p t ≡ true
+column_passes b o p ss listed all t there own =
+    let stands : set.contains b (t.0, o, t.2) ≡ true = subst (λ k. set.contains b (t.0, k, t.2) ≡ true) own there in
+    subst (λ k. p (t.0, k, t.2) ≡ true) (sym own) (each_mode-at b t.0 o p t.2 (all_one (λ s. each_mode b s o p) t.0 ss all (listed t.0 ∙ held_at b t.0 o t.2 stands)) stands)
+
+-- what a test lets pass of other subjects is told by the objects of one
+pub each-row : (b : TripleSet) (s : ℕ) (p : Triple → Bool) (os : List ℕ) → ((o : ℕ) → list_any (eqb o) os ≡ is_held b s o) → ((t : Triple) → (t.0 ≡ s → ⊥) → p t ≡ true) → each b p ≡ list_all (λ o. each_mode b s o p) os
+each-row b s p os listed others =
+    same_tests _ _ (λ all. passes_row b s p os (λ t there own. each-contains triples_total same_triple b p t all there)) (λ all. contains-each triples_total same_triple b p (λ t there. from all t there (cases_eq t.0 s))) where
+      from : list_all (λ o. each_mode b s o p) os ≡ true → (t : Triple) → set.contains b t ≡ true → (t.0 ≡ s) ⊎ (t.0 ≡ s → ⊥) → p t ≡ true
+      from all t there (inl own) = row_passes b s p os listed all t there own
+      from all t there (inr other) = others t other
+
+-- and of other objects by the subjects of one
+pub each-column : (b : TripleSet) (o : ℕ) (p : Triple → Bool) (ss : List ℕ) → ((s : ℕ) → list_any (eqb s) ss ≡ is_held b s o) → ((t : Triple) → (t.1 ≡ o → ⊥) → p t ≡ true) → each b p ≡ list_all (λ s. each_mode b s o p) ss
+each-column b o p ss listed others =
+    same_tests _ _ (λ all. all_each (λ s. each_mode b s o p) ss (λ s there. each_mode-from b s o p (λ x is. each-contains triples_total same_triple b p (s, o, x) all is)))
+    (λ all. contains-each triples_total same_triple b p (λ t there. from all t there (cases_eq t.1 o))) where
+      from : list_all (λ s. each_mode b s o p) ss ≡ true → (t : Triple) → set.contains b t ≡ true → (t.1 ≡ o) ⊎ (t.1 ≡ o → ⊥) → p t ≡ true
+      from all t there (inl own) = column_passes b o p ss listed all t there own
+      from all t there (inr other) = others t other

@@ -1,8 +1,13 @@
-mod Ascending
 mod Cells
 mod CellTriples
+mod Held
+mod IndexedTable
+mod Indexes
+mod Laid
 pub mod Laws
 mod ModeBits
-mod TripleLists
+mod Ordered
 mod Pairs
+mod Rows
+mod Shifts
 mod Within

@@ -3,3 +3,7 @@ pub mod ModeBits
 pub mod Triples
 pub mod Table
 pub mod Cells
+pub mod Rows
+pub mod Lists
+pub mod Rooms
+pub mod Held

@@ -1,75 +1,99 @@
 //! The current accesses.
-ghost use Rattle.std.specs.Prelude.{◌≡◌, ◌<◌, ◌≤◌, ◌+◌, IfOk, OnOk, OnErr, not};
+ghost use Rattle.std.specs.Prelude.{◌≡◌, ℕ, ◌<◌, ◌≤◌, ◌+◌, ◌==◌, ◌&&◌, ◌||◌, Bool, IfOk, OnOk, OnErr, not, length};
 ghost use Rattle.std.specs.FinSet as set;
+ghost use Rattle.std.specs.List.{list_any};
 ghost use Rattle.mls_tables.specs.declared.limits.TheConstants.{MAX_SUBJECTS, MAX_OBJECTS};
 ghost use Rattle.mls_tables.specs.declared.mode.Mode.{Mode as ModeName};
-ghost use Rattle.mls_tables.specs.Triples.{triple_cmp};
 ghost use Rattle.mls_tables.specs.Table.{IsWithin, IsAscending, empty_table, without_object, without_objects};
+ghost use Rattle.mls_tables.specs.Held.{is_held, objects_of, subjects_of, Indexes, IsIndexed};
 
 use crate::ids::{ObjectId, SubjectId};
+use crate::index::Index;
+use crate::matrix::Matrix;
 use crate::mode::Mode;
 use crate::modes::Modes;
-use crate::triple_list::{Triple, discard, discard_group, discard_object, holds, modes_at};
 use std::alloc::{AllocError, Allocator, Global};
 use std::marker::Model;
 
 /// The current accesses: a set of triples of a subject, an object and a mode, with rows for 1 to `MAX_SUBJECTS` subjects and columns for up to
-/// `MAX_OBJECTS` object numbers.
+/// `MAX_OBJECTS` object numbers. It is kept as cells, with the objects of each subject and the subjects of each object listed beside them.
 #[derive(Drop)]
 pub struct AccessSet<A: Allocator = Global> {
-    subjects: u16,
-    columns: u16,
-    triples: Vec<Triple, A>,
+    matrix: Matrix<A>,
+    index: Index<A>,
 }
 
 impl<A: Allocator> Model for AccessSet<A> {
-    ghost use Rattle.std.specs.Prelude.{◌≤◌};
-    ghost use Rattle.std.specs.FinSet as set;
-    ghost use Rattle.mls_tables.specs.declared.limits.TheConstants.{MAX_SUBJECTS, MAX_OBJECTS};
-    ghost use Rattle.mls_tables.specs.Table.{Table, table_code, IsWithin};
+    ghost use Rattle.mls_tables.specs.Table.{Table, table_code};
+    ghost use Rattle.mls_tables.specs.Held.{IsIndexed};
 
     ghost Value = { Table };
 
     ghost coded = { table_code };
 
-    ghost view = { λ b. record {
-      subjects = b.subjects;
-      columns = b.columns;
-      triples = set.from_list b.triples.items;
-    } };
+    ghost view = { λ b. b.matrix };
 
-    ghost invariant = { λ b. record {
-      least : 1 ≤ b.subjects;
-      most : b.subjects ≤ MAX_SUBJECTS;
-      columns : b.columns ≤ MAX_OBJECTS;
-      within : IsWithin b.subjects b.columns (set.from_list b.triples.items);
-    } };
+    ghost invariant = { λ b. IsIndexed b.matrix b.index.objects.lists b.index.subjects.lists };
+}
+
+/// Whether a subject doesn't access an object, in any mode.
+fn is_free<A: Allocator>(matrix: &Matrix<A>, s: SubjectId, o: ObjectId) -> bool
+    requires subject { s < matrix.now.subjects }
+    requires object { o < matrix.now.columns }
+    ensures { result ≡ not (is_held matrix.now.triples s o) }
+{
+    matrix.modes(s, o).is_empty()
+}
+
+/// Lists a pair that is about to be accessed, unless it is listed.
+///
+/// # Errors
+/// Where allocation fails. The lists are then unchanged.
+fn list_pair<A: Allocator>(
+    matrix: &Matrix<A>,
+    index: &mut Index<A>,
+    s: SubjectId,
+    o: ObjectId,
+) -> Result<(), AllocError>
+    requires subject { s < matrix.now.subjects }
+    requires object { o < matrix.now.columns }
+    requires indexed { IsIndexed matrix.now index.old.objects.lists index.old.subjects.lists }
+    ensures rows { length index.new.objects.lists ≡ length index.old.objects.lists }
+    ensures columns { length index.new.subjects.lists ≡ length index.old.subjects.lists }
+    ensures ok { OnOk result (Indexes (λ a b. (a == s && b == o) || is_held matrix.now.triples a b) index.new.objects.lists index.new.subjects.lists) }
+    ensures err_objects { OnErr result (index.new.objects.lists ≡ index.old.objects.lists) }
+    ensures err_subjects { OnErr result (index.new.subjects.lists ≡ index.old.subjects.lists) }
+{
+    if is_free(matrix, s, o) {
+        index.link(s, o)?;
+    }
+    Ok(())
+}
+
+/// Takes a pair off the lists of a relation, where it isn't accessed any more.
+fn unlist_pair<A: Allocator>(matrix: &Matrix<A>, index: &mut Index<A>, s: SubjectId, o: ObjectId)
+    requires subject { s < matrix.now.subjects }
+    requires object { o < matrix.now.columns }
+    requires row { s < length index.old.objects.lists }
+    requires column { o < length index.old.subjects.lists }
+    ensures rows { length index.new.objects.lists ≡ length index.old.objects.lists }
+    ensures columns { length index.new.subjects.lists ≡ length index.old.subjects.lists }
+    ensures listed { (p : ℕ → ℕ → Bool) → Indexes p index.old.objects.lists index.old.subjects.lists →
+        Indexes (λ a b. p a b && (is_held matrix.now.triples s o || not (a == s && b == o))) index.new.objects.lists index.new.subjects.lists }
+{
+    if is_free(matrix, s, o) {
+        index.unlink(s, o);
+    }
 }
 
 impl<A: Allocator> AccessSet<A> {
-    /// A set with rows for 1 to `MAX_SUBJECTS` subjects, no column and no triple.
-    ///
-    /// # Errors
-    /// `AllocError` where an allocation fails.
-    pub fn new(alloc: A, subjects: u16) -> Result<AccessSet<A>, AllocError>
-        requires least { 1 ≤ subjects }
-        requires most { subjects ≤ MAX_SUBJECTS }
-        ensures { IfOk result (λ b. b ≡ empty_table subjects) }
-    {
-        Ok(AccessSet {
-            subjects,
-            columns: 0,
-            triples: Vec::new(alloc),
-        })
-    }
-
     /// How many subjects there are rows for.
     pub fn subjects(&self) -> u16
         ensures reply { result ≡ self.now.subjects }
         ensures least { 1 ≤ result }
         ensures most { result ≤ MAX_SUBJECTS }
     {
-        self.subjects
+        self.matrix.subjects()
     }
 
     /// How many object numbers there are columns for. Each triple names a subject and an object within the two.
@@ -78,7 +102,7 @@ impl<A: Allocator> AccessSet<A> {
         ensures most { result ≤ MAX_OBJECTS }
         ensures within { IsWithin self.now.subjects self.now.columns self.now.triples }
     {
-        self.columns
+        self.matrix.columns()
     }
 
     /// Adds an empty column for the next object number.
@@ -90,7 +114,8 @@ impl<A: Allocator> AccessSet<A> {
         ensures ok { OnOk result (self.new ≡ record self.old { columns = self.old.columns + 1 }) }
         ensures err { OnErr result (self.new ≡ self.old) }
     {
-        self.columns += 1;
+        self.index.spare_column(self.matrix.columns())?;
+        self.matrix.add_object()?;
         Ok(())
     }
 
@@ -100,7 +125,7 @@ impl<A: Allocator> AccessSet<A> {
         requires object { o < self.now.columns }
         ensures cell { (x : ModeName) → set.contains result x ≡ set.contains self.now.triples (s, o, x) }
     {
-        modes_at(&self.triples, s, o)
+        self.matrix.modes(s, o)
     }
 
     /// Whether the subject accesses the object in the mode.
@@ -109,14 +134,25 @@ impl<A: Allocator> AccessSet<A> {
         requires object { o < self.now.columns }
         ensures { result ≡ set.contains self.now.triples (s, o, x) }
     {
-        holds(&self.triples, s, o, x)
+        self.modes(s, o).has(x)
     }
 
-    /// The triples, each at least once, in no promised order.
-    pub fn triples(&self) -> &[(SubjectId, ObjectId, Mode)]
-        ensures { set.from_list {R = triple_cmp} result.now ≡ self.now.triples }
+    /// The objects that a subject accesses, in whatever mode: ascending, each once.
+    pub fn objects_of(&self, s: SubjectId) -> &[ObjectId]
+        requires { s < self.now.subjects }
+        ensures list { result.now ≡ objects_of self.now.triples s }
+        ensures each { (o : ℕ) → list_any (λ a. o == a) result.now ≡ is_held self.now.triples s o }
     {
-        &self.triples
+        self.index.objects_of(s)
+    }
+
+    /// The subjects that access an object, in whatever mode: ascending, each once.
+    pub fn subjects_of(&self, o: ObjectId) -> &[SubjectId]
+        requires { o < self.now.columns }
+        ensures list { result.now ≡ subjects_of self.now.triples o }
+        ensures each { (s : ℕ) → list_any (λ a. s == a) result.now ≡ is_held self.now.triples s o }
+    {
+        self.index.subjects_of(o)
     }
 
     /// Adds a triple, and returns whether it is new.
@@ -133,7 +169,8 @@ impl<A: Allocator> AccessSet<A> {
         if self.contains(s, o, x) {
             return Ok(false);
         }
-        self.triples.push((s, o, x))?;
+        list_pair(&self.matrix, &mut self.index, s, o)?;
+        self.matrix.give(s, o, x);
         Ok(true)
     }
 
@@ -144,7 +181,12 @@ impl<A: Allocator> AccessSet<A> {
         ensures there { result ≡ set.contains self.old.triples (s, o, x) }
         ensures removed { self.new ≡ record self.old { triples = set.remove self.old.triples (s, o, x) } }
     {
-        discard(&mut self.triples, s, o, x)
+        if !self.contains(s, o, x) {
+            return false;
+        }
+        self.matrix.rescind(s, o, x);
+        unlist_pair(&self.matrix, &mut self.index, s, o);
+        true
     }
 
     /// Removes the triples of an object.
@@ -152,15 +194,48 @@ impl<A: Allocator> AccessSet<A> {
         requires { o < self.old.columns }
         ensures { self.new ≡ record self.old { triples = without_object self.old.triples o } }
     {
-        discard_object(&mut self.triples, o);
+        self.index.unlink_object(o);
+        self.matrix.clear_object(o);
     }
 
-    /// Removes the triples of the objects of a group, whose numbers ascend. It reads the triples once.
+    /// Removes the triples of an object, where it has a column.
+    fn drop_known(&mut self, o: ObjectId)
+        ensures { self.new ≡ record self.old { triples = without_object self.old.triples o } }
+    {
+        if o.number() < self.columns() {
+            self.drop_object(o);
+        }
+    }
+
+    /// Removes the triples of the objects of a group, whose numbers ascend. It touches only the lists of those
+    /// who access them, the largest object first.
     pub fn drop_objects(&mut self, group: &[ObjectId])
         requires { IsAscending group.now }
         ensures { self.new ≡ record self.old { triples = without_objects self.old.triples group.now } }
     {
-        discard_group(&mut self.triples, group);
+        let mut left = group.len();
+        while left > 0 {
+            left -= 1;
+            self.drop_known(group[left]);
+        }
+    }
+}
+
+impl<A: Allocator + Clone> AccessSet<A> {
+    /// A set with rows for 1 to `MAX_SUBJECTS` subjects, no column and no triple.
+    ///
+    /// # Errors
+    /// `AllocError` where an allocation fails.
+    pub fn new(alloc: A, subjects: u16) -> Result<AccessSet<A>, AllocError>
+        requires least { 1 ≤ subjects }
+        requires most { subjects ≤ MAX_SUBJECTS }
+        ensures { IfOk result (λ b. b ≡ empty_table subjects) }
+    {
+        let matrix = Matrix::new(alloc.clone()?, subjects);
+        Ok(AccessSet {
+            matrix,
+            index: Index::new(alloc, subjects)?,
+        })
     }
 
     /// A copy: the same rows, columns and triples.
@@ -170,10 +245,10 @@ impl<A: Allocator> AccessSet<A> {
     pub fn duplicate(&self, alloc: A) -> Result<AccessSet<A>, AllocError>
         ensures { IfOk result (λ b. b ≡ self.now) }
     {
+        let matrix = self.matrix.duplicate(alloc.clone()?)?;
         Ok(AccessSet {
-            subjects: self.subjects,
-            columns: self.columns,
-            triples: Vec::from_slice(alloc, &self.triples)?,
+            matrix,
+            index: self.index.duplicate(alloc)?,
         })
     }
 }

@@ -3,12 +3,13 @@
 
 mod access_set;
 mod ids;
+mod index;
 mod limits;
+mod lists;
 mod matrix;
 mod mode;
 mod modes;
 mod pair;
-mod triple_list;
 
 pub use access_set::AccessSet;
 pub use ids::{ObjectId, SubjectId};

@@ -63,7 +63,18 @@ fn permits_two_cells<A: Allocator>(rt: &impl Abort, state: &State<A>) {
     );
     assert!(rt; state.allowed(BOB, ObjectId(0)).is_empty());
     assert!(rt; state.allowed(SubjectId(0), TOOL).is_empty());
-    assert!(rt; is_secure(state) && state.triples().is_empty());
+    assert!(rt; is_secure(state) && is_idle(state));
+}
+
+/// Whether nobody accesses anything.
+fn is_idle<A: Allocator>(state: &State<A>) -> bool {
+    for n in 0..state.subject_count() {
+        let s = SubjectId::new(n);
+        if state.is_subject(s) && !state.objects_of(s).is_empty() {
+            return false;
+        }
+    }
+    true
 }
 
 /// Asserts what a start counts.

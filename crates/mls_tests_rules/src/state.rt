@@ -41,12 +41,23 @@ fn first(alloc: Global) -> Result<State<Global>, AllocError> {
     State::first(alloc, &[ann], root, Bounds::new(4, 2), Bounds::new(2, 0))
 }
 
+/// Whether nobody accesses anything.
+fn is_idle<A: Allocator>(state: &State<A>) -> bool {
+    for n in 0..state.subject_count() {
+        let s = SubjectId::new(n);
+        if state.is_subject(s) && !state.objects_of(s).is_empty() {
+            return false;
+        }
+    }
+    true
+}
+
 /// Asserts what a first state has, and that it permits what it is told to and no more.
 fn permits_what_it_is_told<A: Allocator>(rt: &impl Abort, state: &mut State<A>) {
     assert!(rt; state.is_subject(ANN) && state.is_active(ROOT));
     assert!(rt; !state.is_subject(BOB) && !state.is_active(PLANS));
     assert!(rt; state.maximum(ANN) == security(2) && state.object_label(ROOT) == security(0));
-    assert!(rt; state.allowed(ANN, ROOT).is_empty() && state.triples().is_empty());
+    assert!(rt; state.allowed(ANN, ROOT).is_empty() && is_idle(state));
     state.permit_all(&[(ANN, ROOT, Mode::Read), (ANN, ROOT, Mode::Append)]);
     assert!(rt; state.is_subject(ANN) && state.is_active(ROOT));
     let modes = state.allowed(ANN, ROOT);
@@ -65,10 +76,15 @@ fn a_first_state_permits_what_it_is_told(rt: HostRuntime) -> Result<(), Fail> {
 fn changes_an_access<A: Allocator>(rt: &impl Abort, state: &mut State<A>) {
     assert!(rt; state.is_subject(ANN) && state.is_active(PLANS));
     assert!(rt; state.put_access(ANN, PLANS, Mode::Read) == Ok(true));
-    assert!(rt; state.triples() == [(ANN, PLANS, Mode::Read)].as_slice());
+    assert!(rt; state.is_subject(ANN) && state.is_active(PLANS));
+    assert!(rt; state.objects_of(ANN) == [PLANS].as_slice());
+    assert!(rt; state.subjects_of(PLANS) == [ANN].as_slice());
+    let modes = state.accesses(ANN, PLANS);
+    assert!(rt; modes.has(Mode::Read) && !modes.has(Mode::Execute));
+    assert!(rt; !modes.has(Mode::Append) && !modes.has(Mode::Write));
     assert!(rt; state.remove_access(ANN, PLANS, Mode::Read));
     assert!(rt; !state.remove_access(ANN, PLANS, Mode::Read));
-    assert!(rt; state.triples().is_empty());
+    assert!(rt; is_idle(state));
 }
 
 #[test]

@@ -1,12 +1,12 @@
 //! Lists of what is in a state.
-ghost use Rattle.std.specs.Prelude.{◌≡◌, IsTrue, All};
-ghost use Rattle.std.specs.FinSet as set;
-ghost use Rattle.mls_tables.specs.Triples.{triple_cmp};
+ghost use Rattle.std.specs.Prelude.{◌≡◌, ◌==◌, ℕ, IsTrue, All};
+ghost use Rattle.std.specs.List.{list_any};
+ghost use Rattle.mls_tables.specs.Held.{is_held, objects_of, subjects_of};
 ghost use Rattle.mls_tree.specs.Tree.{children};
 ghost use Rattle.mls_state.specs.State.{is_subject, is_active};
 
 use crate::state::State;
-use mls_tables::{Mode, ObjectId, SubjectId};
+use mls_tables::{ObjectId, SubjectId};
 use std::alloc::Allocator;
 
 impl<A: Allocator> State<A> {
@@ -19,13 +19,25 @@ impl<A: Allocator> State<A> {
         self.tree.children(o)
     }
 
-    /// The current accesses, each at least once, in no promised order: for a rule or an audit that looks at all.
-    #[tactic(auto, using(crate::proofs::AllTriples::listed_are_known))]
-    pub fn triples(&self) -> &[(SubjectId, ObjectId, Mode)]
-        ensures list { set.from_list {R = triple_cmp} result.now ≡ self.now.accesses }
-        ensures subjects { All (λ t. IsTrue (is_subject self.now t.0)) result.now }
-        ensures objects { All (λ t. IsTrue (is_active self.now t.1)) result.now }
+    /// The objects that a known subject accesses, in whatever mode: ascending, each once. They are active.
+    #[tactic(auto, using(crate::proofs::Tables::access_row))]
+    pub fn objects_of(&self, s: SubjectId) -> &[ObjectId]
+        requires { IsTrue (is_subject self.now s) }
+        ensures list { result.now ≡ objects_of self.now.accesses s }
+        ensures each { (o : ℕ) → list_any (λ a. o == a) result.now ≡ is_held self.now.accesses s o }
+        ensures active { All (λ o. IsTrue (is_active self.now o)) result.now }
     {
-        self.accesses.triples()
+        self.accesses.objects_of(s)
+    }
+
+    /// The subjects that access an active object, in whatever mode: ascending, each once. They are known.
+    #[tactic(auto, using(crate::proofs::Tables::access_column))]
+    pub fn subjects_of(&self, o: ObjectId) -> &[SubjectId]
+        requires { IsTrue (is_active self.now o) }
+        ensures list { result.now ≡ subjects_of self.now.accesses o }
+        ensures each { (s : ℕ) → list_any (λ a. s == a) result.now ≡ is_held self.now.accesses s o }
+        ensures known { All (λ s. IsTrue (is_subject self.now s)) result.now }
+    {
+        self.accesses.subjects_of(o)
     }
 }

@@ -66,17 +66,26 @@ fn group_leaves_matrix(rt: &impl Abort, matrix: &mut Matrix) {
     }
 }
 
+/// Asserts what is held of one of four objects: each mode by one of three subjects, or none by anybody.
+fn assert_held(rt: &impl Abort, set: &AccessSet, o: ObjectId, modes: &[Mode]) {
+    assert!(rt; set.subjects() == 3 && set.columns() == 4 && o.0 < 4);
+    assert!(rt; has_just(set.modes(SubjectId(2), o), modes));
+    assert!(rt; set.modes(SubjectId(0), o).is_empty() && set.modes(SubjectId(1), o).is_empty());
+}
+
 /// Removes the triples of two of four objects.
 fn group_leaves_set(rt: &impl Abort, set: &mut AccessSet) {
     assert!(rt; set.subjects() == 3 && set.columns() == 4);
-    assert!(rt; set.triples().len() == 16);
+    assert_filled(rt, set);
     set.drop_objects(&[ObjectId(1), ObjectId(3)]);
     assert!(rt; set.columns() == 4);
-    for (o, kept) in [(0, true), (1, false), (2, true), (3, false)] {
-        assert!(rt; set.contains(SubjectId(2), ObjectId(o), Mode::Append) == kept);
+    for o in [0, 2] {
+        assert_held(rt, set, ObjectId(o), &MODES);
+        assert_held(rt, set, ObjectId(o + 1), &[]);
     }
-    assert!(rt; set.triples().len() == 8);
-    assert!(rt; set.triples().iter().all(|t| t.0 == SubjectId(2) && t.1.0 % 2 == 0));
+    assert!(rt; set.subjects() == 3);
+    assert!(rt; set.objects_of(SubjectId(2)) == [ObjectId(0), ObjectId(2)].as_slice());
+    assert!(rt; set.objects_of(SubjectId(0)).is_empty() && set.objects_of(SubjectId(1)).is_empty());
 }
 
 #[test]

@@ -1,17 +1,16 @@
-use Rattle.std.proofs.Common.{sym, not, ◌||◌, nat_eq, Bool}
-use Rattle.mls_tables.specs.Triples.{Triple}
+use Rattle.std.proofs.Common.{sym}
+use Rattle.std.proofs.lemmas.Bool.{not-true}
 use Rattle.mls_state.specs.Properties.{star_holds}
 use Rattle.mls_state.specs.Changes.{with_object_label}
-use Rattle.mls_rules.proofs.LevelTests.{one_fails, all_pass}
+use Rattle.mls_rules.proofs.LevelTests.{none_of_object, column_fails, column_all}
 use Rattle.mls_rules.proofs.levels.keeps_star_of_object.Goals as goal
 
-pub returns-then-not-star_at_label : goal.returns-then-not-star_at_label
-returns-then-not-star_at_label g c =
-    let test : Triple → Bool = λ t. not (nat_eq t.1 c.args.o) || star_holds (with_object_label c.args.state.now c.args.o c.args.l) t in
-    one_fails c.args.state.now.accesses c.triples-t-items.result.now test c.triples-t-items.ensures.list c.loop-t.t-index c.t-item.result c.loop-t-test.true c.t-item.is
-    (sym c.if-not-star_at_label.ensures)
+pub returns-then-not-is_active : goal.returns-then-not-is_active
+returns-then-not-is_active g c = sym (none_of_object c.args.state.now c.args.o (star_holds (with_object_label c.args.state.now c.args.o c.args.l)) c.next.ensures.tree.accesses_known (sym c.if-not-is_active.ensures))
+
+pub returns-then-not-cell_star_at_label : goal.returns-then-not-cell_star_at_label
+returns-then-not-cell_star_at_label g c =
+    column_fails c.args.state.now.accesses c.args.o c.subjects_of-s-items.result.now (star_holds (with_object_label c.args.state.now c.args.o c.args.l)) c.subjects_of-s-items.ensures.each c.loop-s.s-index c.s-item.result c.loop-s-test.true c.s-item.is (sym c.if-not-cell_star_at_label.ensures)
 
 pub returns : goal.returns
-returns g c =
-    let test : Triple → Bool = λ t. not (nat_eq t.1 c.args.o) || star_holds (with_object_label c.args.state.now c.args.o c.args.l) t in
-    all_pass c.args.state.now.accesses c.triples-t-items.result.now test c.triples-t-items.ensures.list c.loop-t.t-index c.loop-t-test.false c.loop-t.invariant
+returns g c = column_all c.args.state.now.accesses c.args.o c.subjects_of-s-items.result.now (star_holds (with_object_label c.args.state.now c.args.o c.args.l)) c.subjects_of-s-items.ensures.each c.loop-s.s-index c.loop-s-test.false c.loop-s.invariant

@@ -1,21 +1,20 @@
-use Rattle.std.proofs.Common.{rules}
-use Rattle.mls_tables.proofs.Within.{IsWithin-kept}
-use Rattle.mls_tables.proofs.TripleLists.{kept-without_object}
+use Rattle.std.proofs.Common.{sym}
+use Rattle.mls_tables.specs.Table.{without_object}
+use Rattle.mls_tables.specs.Held.{is_held}
+use Rattle.mls_tables.proofs.Held.{held_without}
+use Rattle.mls_tables.proofs.Indexes.{Indexes-same}
+use Rattle.mls_tables.proofs.IndexedTable.{holders_below, IsIndexed-changed}
 use Rattle.mls_tables.proofs.access_set.AccessSet.drop_object.Goals as goal
 
-pub invariant_of-self : goal.invariant_of-self
-invariant_of-self g c = record {
-  least = c.self.invariant.least;
-  most = c.self.invariant.most;
-  columns = c.self.invariant.columns;
-  within = IsWithin-kept _ _ _ _ _ c.discard_object.ensures c.self.invariant.within;
-}
+pub unlink_object-requires-clause-subjects : goal.unlink_object-requires-clause-subjects
+unlink_object-requires-clause-subjects g c =
+    let index = c.self.inside.index in
+    holders_below (is_held c.self.inside.matrix.triples) index.objects.lists index.subjects.lists c.self.invariant.held c.args.o
 
-pub returns : goal.returns
-returns g c =
-    let inside = c.self.inside in
-    rw (← c.self.view_is) (λ i. record {
-      subjects = inside.subjects;
-      columns = inside.columns;
-      triples = kept-without_object inside.triples.items c.discard_object.new.triples.items c.args.o (search rules) i;
-    })
+pub invariant_of-self : goal.invariant_of-self
+invariant_of-self g c =
+    let index = c.self.inside.index in
+    let matrix = c.self.inside.matrix in
+    let after = c.unlink_object.new.self in
+    rw c.clear_object.ensures (IsIndexed-changed matrix index.objects.lists index.subjects.lists after.objects.lists after.subjects.lists (without_object matrix.triples c.args.o) c.self.invariant c.unlink_object.ensures.rows c.unlink_object.ensures.columns
+    (Indexes-same _ (is_held (without_object matrix.triples c.args.o)) after.objects.lists after.subjects.lists (λ a b. sym (held_without matrix.triples c.args.o a b)) (c.unlink_object.ensures.gone (is_held matrix.triples) c.self.invariant.held)))

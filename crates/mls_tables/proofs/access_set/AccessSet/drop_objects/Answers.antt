@@ -1,21 +1,31 @@
-use Rattle.std.proofs.Common.{rules}
-use Rattle.mls_tables.proofs.Within.{IsWithin-kept}
-use Rattle.mls_tables.proofs.TripleLists.{kept-without_objects}
+use Rattle.std.proofs.Common.{◌≡◌, ◌+◌, ◌-◌, ◌<◌, length, take, get_or, sym, ap, ◌∙◌, arith, rules}
+use Rattle.mls_tables.specs.Table.{Table, without_object, without_objects}
+use Rattle.mls_tables.proofs.Within.{without_objects-none}
+use Rattle.mls_tables.proofs.IndexedTable.{without_objects-last}
 use Rattle.mls_tables.proofs.access_set.AccessSet.drop_objects.Goals as goal
 
-pub invariant_of-self : goal.invariant_of-self
-invariant_of-self g c = record {
-  least = c.self.invariant.least;
-  most = c.self.invariant.most;
-  columns = c.self.invariant.columns;
-  within = IsWithin-kept _ _ _ _ _ c.discard_group.ensures c.self.invariant.within;
-}
+pub loop-left-preserved : goal.loop-left-preserved
+loop-left-preserved g c =
+    let group = c.args.group.now in
+    let k = c.loop-left.left - 1 in
+    let some : k < length group = omega arith in
+    let whole : k + 1 ≡ c.loop-left.left = omega arith in
+    let dropped : c.drop_known.new.self ≡ record c.loop-left.self { triples = without_object c.loop-left.self.triples c.index-group-left.result } = search rules in
+    record {
+      few = omega arith;
+      rows = ap (λ (t : Table). t.subjects) dropped ∙ c.loop-left.invariant.rows;
+      columns = ap (λ (t : Table). t.columns) dropped ∙ c.loop-left.invariant.columns;
+      triples = ap (λ (t : Table). without_objects t.triples (take k group)) dropped
+          ∙ without_objects-last c.loop-left.self.triples group k c.index-group-left.result some c.index-group-left.is
+          ∙ ap (λ n. without_objects c.loop-left.self.triples (take n group)) whole
+          ∙ c.loop-left.invariant.triples;
+    }
 
 pub returns : goal.returns
 returns g c =
-    let inside = c.self.inside in
-    rw (← c.self.view_is) (λ i. record {
-      subjects = inside.subjects;
-      columns = inside.columns;
-      triples = kept-without_objects inside.triples.items c.discard_group.new.triples.items c.args.group.now (search rules) i;
-    })
+    let none : c.loop-left.left ≡ 0 = omega arith in
+    λ i. record {
+      subjects = c.loop-left.invariant.rows i;
+      columns = c.loop-left.invariant.columns i;
+      triples = (sym (without_objects-none c.loop-left.self.triples) ∙ sym (ap (λ n. without_objects c.loop-left.self.triples (take n c.args.group.now)) none) ∙ c.loop-left.invariant.triples) i;
+    }
