@@ -3,7 +3,7 @@ use Rattle.std.proofs.Common.{◌≡◌, ℕ, ◌+◌, ◌-◌, ◌<◌, ◌≤�
 use Rattle.std.proofs.lemmas.Bool.{cases_eq, cases_order}
 use Rattle.std.proofs.lemmas.List.{get_or-map, take-append-le, drop-append-le, set-get_or}
 use Rattle.mls_facts.proofs.Places.{map-set}
-use Rattle.mls_tables.specs.declared.lists.Span.{Span}
+use Rattle.mls_tables.specs.declared.span.Span.{Span}
 use Rattle.mls_tables.specs.Lists.{list_at, nowhere, AreApart, IsLaidOut, FindsRoom}
 
 turned : (s t : Span) → AreApart s t → AreApart t s

@@ -6,6 +6,7 @@ mod Indexes
 mod Laid
 pub mod Laws
 mod ModeBits
+mod Once
 mod Ordered
 mod Pairs
 mod Rows

@@ -119,7 +119,7 @@ filter-absent x (y ∷ xs) none =
     λ i. cond (not (other i)) (y ∷ filter-absent x xs parts.1 i) (filter-absent x xs parts.1 i)
 
 -- what stands behind a number of a list that rises differs from it
-behind_absent : (x : ℕ) (xs : List ℕ) → IsStrictlySortedBy nat_cmp (x ∷ xs) → list_any (eqb x) xs ≡ false
+pub behind_absent : (x : ℕ) (xs : List ℕ) → IsStrictlySortedBy nat_cmp (x ∷ xs) → list_any (eqb x) xs ≡ false
 behind_absent x xs up = false_from_ne_true _ (λ there.
     let at = Any-from_list_any (eqb x) xs there in
     let within : at.0 < length xs = at.2 in
@@ -140,9 +140,10 @@ filter-remove x (y ∷ xs) (suc k) up within is =
     ap (λ l. y ∷ l) rest ∙ sym (λ i. cond (not (other i)) (y ∷ filter (λ z. not (eqb z x)) xs) (filter (λ z. not (eqb z x)) xs))
 
 -- to take a number out at its place is to keep the others
-pub listed-left : (p : ℕ → Bool) (n x : ℕ) (r : Result ℕ ℕ) → FoundAt (listed p n) x r → left (listed p n) r ≡ listed (λ y. p y && not (eqb y x)) n
+pub left-filter : (xs : List ℕ) (x : ℕ) (r : Result ℕ ℕ) → IsStrictlyIncreasing xs → FoundAt xs x r → left xs r ≡ filter (λ y. not (eqb y x)) xs
+left-filter xs x (Ok k) up place = filter-remove x xs k (sorted_from_strictly_increasing xs up) place.0 place.1
+left-filter xs x (Err k) up place = sym (filter-absent x xs (any_missed xs x k place))
+
+pub listed-filter : (p : ℕ → Bool) (n x : ℕ) → filter (λ y. not (eqb y x)) (listed p n) ≡ listed (λ y. p y && not (eqb y x)) n
 unfolding listed
-listed-left p n x (Ok k) place =
-    filter-remove x (listed p n) k (sorted_from_strictly_increasing (listed p n) (IsStrictlyIncreasing-filter_range p 0 n)) place.0 place.1
-    ∙ filter-twice (λ y. not (eqb y x)) p _
-listed-left p n x (Err k) place = sym (filter-absent x (listed p n) (any_missed (listed p n) x k place)) ∙ filter-twice (λ y. not (eqb y x)) p _
+listed-filter p n x = filter-twice (λ y. not (eqb y x)) p _

@@ -1,5 +1,5 @@
 -- What a change of one list makes of the relation that lists tell.
-use Rattle.std.specs.Prelude.{◌≡◌, ℕ, ◌<◌, ◌≤◌, Bool, true, false, not, ◌&&◌, ◌||◌, List, [], length, Result, refl}
+use Rattle.std.specs.Prelude.{◌≡◌, ℕ, ◌<◌, ◌≤◌, Bool, true, false, not, ◌&&◌, ◌||◌, List, [], length, filter, Result, refl}
 use Rattle.std.specs.List.{range_with_len}
 use Rattle.std.specs.List.Sorted.{IsStrictlyIncreasing}
 use Rattle.std.proofs.Common.{◌⊎◌, inl, inr, arith, sym, ap, subst, ◌∙◌, eqb, get_or, set, get_or-set_same, get_or-set_other}
@@ -8,8 +8,8 @@ use Rattle.std.proofs.Math.Bool.{and-true}
 use Rattle.std.proofs.lemmas.List.FromFn.{length-range_with_len}
 use Rattle.mls_facts.proofs.Increasing.{IsStrictlyIncreasing-filter_range}
 use Rattle.mls_facts.proofs.Lists.{length-filter-le}
-use Rattle.mls_tables.specs.Rows.{FoundAt, entered, left, listed, IsRows}
-use Rattle.mls_tables.proofs.Ordered.{listed-entered, listed-left}
+use Rattle.mls_tables.specs.Rows.{FoundAt, entered, listed, IsRows}
+use Rattle.mls_tables.proofs.Ordered.{listed-entered, listed-filter}
 
 pub IsStrictlyIncreasing-listed : (p : ℕ → Bool) (n : ℕ) → IsStrictlyIncreasing (listed p n)
 unfolding listed
@@ -38,9 +38,9 @@ module _ (p : ℕ → ℕ → Bool) (n : ℕ) (lists : List (List ℕ)) (rows : 
           rw (same, eq-eqb a a refl) (get_or-set_same lists a _ [] here ∙ ap (λ l. entered l r x) (rows a) ∙ listed-entered (p a) n x r below found_in_row)
       from (inr other) = rw (ne_eqb b a other) (get_or-set_other lists a b _ [] other ∙ rows b)
 
-    -- a number less in one list
-    pub IsRows-left : (after : List (List ℕ)) → after ≡ set lists a (left (get_or lists a []) r) → IsRows (λ b y. p b y && not (eqb b a && eqb y x)) n after
-    IsRows-left after is b = ap (λ l. get_or l b []) is ∙ from (cases_eq b a) where
-      from : (b ≡ a) ⊎ (b ≡ a → ⊥) → get_or (set lists a (left (get_or lists a []) r)) b [] ≡ listed (λ y. p b y && not (eqb b a && eqb y x)) n
-      from (inl same) = rw (same, eq-eqb a a refl) (get_or-set_same lists a _ [] here ∙ ap (λ l. left l r) (rows a) ∙ listed-left (p a) n x r found_in_row)
-      from (inr other) = rw (ne_eqb b a other) (get_or-set_other lists a b _ [] other ∙ rows b ∙ ap (λ q. listed q n) (λ i y. sym (and-true (p b y)) i))
+  -- a number less in one list
+  pub IsRows-discarded : (x : ℕ) → a < length lists → (after : List (List ℕ)) → after ≡ set lists a (filter (λ y. not (eqb y x)) (get_or lists a [])) → IsRows (λ b y. p b y && not (eqb b a && eqb y x)) n after
+  IsRows-discarded x here after is b = ap (λ l. get_or l b []) is ∙ from (cases_eq b a) where
+    from : (b ≡ a) ⊎ (b ≡ a → ⊥) → get_or (set lists a (filter (λ y. not (eqb y x)) (get_or lists a []))) b [] ≡ listed (λ y. p b y && not (eqb b a && eqb y x)) n
+    from (inl same) = rw (same, eq-eqb a a refl) (get_or-set_same lists a _ [] here ∙ ap (filter (λ y. not (eqb y x))) (rows a) ∙ listed-filter (p a) n x)
+    from (inr other) = rw (ne_eqb b a other) (get_or-set_other lists a b _ [] other ∙ rows b ∙ ap (λ q. listed q n) (λ i y. sym (and-true (p b y)) i))

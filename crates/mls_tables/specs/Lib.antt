@@ -7,3 +7,4 @@ pub mod Rows
 pub mod Lists
 pub mod Rooms
 pub mod Held
+pub mod Once

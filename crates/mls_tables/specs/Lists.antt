@@ -1,6 +1,6 @@
 -- Lists that lie in one piece of memory, each in a stretch of its own.
 use Rattle.std.specs.Prelude.{◌≡◌, ℕ, ◌+◌, ◌<◌, ◌≤◌, ◌⊎◌, List, ◌++◌, length, take, drop, slice_index_or}
-use Rattle.mls_tables.specs.declared.lists.Span.{Span}
+use Rattle.mls_tables.specs.declared.span.Span.{Span}
 
 -- The list that lies in a stretch. (own)
 abbrev pub list_at : {X : Type 0} → List X → Span → List X

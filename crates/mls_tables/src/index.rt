@@ -1,13 +1,12 @@
 //! Who accesses what: for each subject its objects, and for each object its subjects.
 ghost use Rattle.std.specs.Prelude.{◌≡◌, ℕ, ◌<◌, ◌≤◌, ◌==◌, ◌&&◌, ◌||◌, Bool, not, [], All, length, slice_index_or, replicate, IfOk, OnOk, OnErr};
-ghost use Rattle.std.specs.List.{list_any};
-ghost use Rattle.std.specs.List.Sorted.{IsStrictlyIncreasing};
 ghost use Rattle.mls_tables.specs.declared.limits.TheConstants.{MAX_SUBJECTS, MAX_OBJECTS};
-ghost use Rattle.mls_tables.specs.Rows.{IsInRange, FoundAt, IsRows};
 ghost use Rattle.mls_tables.specs.Held.{Indexes};
 
 use crate::ids::{ObjectId, SubjectId};
 use crate::lists::Lists;
+use crate::objects::{enter_object, take_from_each, take_object};
+use crate::subjects::{enter_subject, take_subject};
 use std::alloc::{AllocError, Allocator, Global};
 
 /// For each subject the objects that it accesses, and for each object the subjects that access it, both ascending.
@@ -15,83 +14,6 @@ use std::alloc::{AllocError, Allocator, Global};
 pub struct Index<A: Allocator = Global> {
     objects: Lists<ObjectId, A>,
     subjects: Lists<SubjectId, A>,
-}
-
-/// Where an object stands in a list, or else where it would, by binary search.
-fn place_of_object(list: &[ObjectId], o: ObjectId) -> Result<usize, usize>
-    ensures range { IsInRange result (length list.now) }
-    ensures place { IsStrictlyIncreasing list.now → FoundAt list.now o result }
-{
-    list.binary_search_by_key(&o.number(), |x| x.number())
-}
-
-/// Where a subject stands in a list, or else where it would, by binary search.
-fn place_of_subject(list: &[SubjectId], s: SubjectId) -> Result<usize, usize>
-    ensures range { IsInRange result (length list.now) }
-    ensures place { IsStrictlyIncreasing list.now → FoundAt list.now s result }
-{
-    list.binary_search_by_key(&s.number(), |x| x.number())
-}
-
-/// Takes an object out of the list of a subject.
-fn take_object<A: Allocator>(objects: &mut Lists<ObjectId, A>, s: SubjectId, o: ObjectId)
-    requires { s < length objects.old.lists }
-    ensures many { length objects.new.lists ≡ length objects.old.lists }
-    ensures taken { (p : ℕ → ℕ → Bool) (n : ℕ) → IsRows p n objects.old.lists → IsRows (λ a b. p a b && not (a == s && b == o)) n objects.new.lists }
-{
-    let row = usize::from(s.0);
-    let place = place_of_object(objects.list(row), o);
-    objects.leave(row, place);
-}
-
-/// Takes a subject out of the list of an object.
-fn take_subject<A: Allocator>(subjects: &mut Lists<SubjectId, A>, o: ObjectId, s: SubjectId)
-    requires { o < length subjects.old.lists }
-    ensures many { length subjects.new.lists ≡ length subjects.old.lists }
-    ensures taken { (p : ℕ → ℕ → Bool) (n : ℕ) → IsRows p n subjects.old.lists → IsRows (λ a b. p a b && not (a == o && b == s)) n subjects.new.lists }
-{
-    let column = usize::from(o.0);
-    let place = place_of_subject(subjects.list(column), s);
-    subjects.leave(column, place);
-}
-
-/// Takes an object out of the lists of some subjects.
-fn take_from_each<A: Allocator>(
-    objects: &mut Lists<ObjectId, A>,
-    holders: &[SubjectId],
-    o: ObjectId,
-)
-    requires { All (λ s. s < length objects.old.lists) holders.now }
-    ensures many { length objects.new.lists ≡ length objects.old.lists }
-    ensures taken { (p : ℕ → ℕ → Bool) (n : ℕ) → IsRows p n objects.old.lists → IsRows (λ a b. p a b && not (list_any (λ s. a == s) holders.now && b == o)) n objects.new.lists }
-{
-    for s in holders {
-        take_object(objects, *s, o);
-    }
-}
-
-/// Enters an object into the list of a subject, which has room for it.
-fn enter_object<A: Allocator>(objects: &mut Lists<ObjectId, A>, s: SubjectId, o: ObjectId)
-    requires row { s < length objects.old.lists }
-    requires room { length (slice_index_or objects.old.lists s []) < slice_index_or objects.old.rooms s 0 }
-    ensures many { length objects.new.lists ≡ length objects.old.lists }
-    ensures entered { (p : ℕ → ℕ → Bool) (n : ℕ) → o < n → IsRows p n objects.old.lists → IsRows (λ a b. (a == s && b == o) || p a b) n objects.new.lists }
-{
-    let row = usize::from(s.0);
-    let place = place_of_object(objects.list(row), o);
-    objects.enter(row, place, o);
-}
-
-/// Enters a subject into the list of an object, which has room for it.
-fn enter_subject<A: Allocator>(subjects: &mut Lists<SubjectId, A>, o: ObjectId, s: SubjectId)
-    requires column { o < length subjects.old.lists }
-    requires room { length (slice_index_or subjects.old.lists o []) < slice_index_or subjects.old.rooms o 0 }
-    ensures many { length subjects.new.lists ≡ length subjects.old.lists }
-    ensures entered { (p : ℕ → ℕ → Bool) (n : ℕ) → s < n → IsRows p n subjects.old.lists → IsRows (λ a b. (a == o && b == s) || p a b) n subjects.new.lists }
-{
-    let column = usize::from(o.0);
-    let place = place_of_subject(subjects.list(column), s);
-    subjects.enter(column, place, s);
 }
 
 /// So many empty lists.
@@ -138,9 +60,7 @@ impl<A: Allocator> Index<A> {
         ensures objects { self.new.objects.lists ≡ self.old.objects.lists }
         ensures subjects { (o : ℕ) → slice_index_or self.new.subjects.lists o [] ≡ slice_index_or self.old.subjects.lists o [] }
     {
-        if self.subjects.len() == usize::from(next) {
-            self.subjects.add_list()?;
-        }
+        self.subjects.spare_list(usize::from(next))?;
         Ok(())
     }
 

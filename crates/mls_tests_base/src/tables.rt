@@ -1,12 +1,17 @@
 //! The worked tables.
-use mls_tables::{AccessSet, Matrix, Mode, Modes, ObjectId, SubjectId};
+use mls_tables::{
+    AccessSet, Matrix, Mode, Modes, ObjectId, SubjectId, indexes_give_each_triple_once,
+};
 use std::alloc::AllocError;
 use std::process::Abort;
 use std::test::Fail;
 
 mod filled;
+mod indexes;
 mod large;
+mod lists;
 mod packed;
+mod refused;
 
 const MODES: [Mode; 4] = [Mode::Execute, Mode::Read, Mode::Append, Mode::Write];
 
@@ -109,5 +114,6 @@ fn an_access_set_is_a_set_of_triples(rt: HostRuntime) -> Result<(), Fail> {
     remove_two(&rt, &mut set);
     let copy = set.duplicate(rt.alloc())?;
     drop_last(&rt, &mut set, &copy);
+    indexes_give_each_triple_once();
     Ok(())
 }

@@ -1,5 +1,5 @@
 -- The fields of a tree: that each operation keeps them in agreement.
-use Rattle.std.proofs.Common.{◌≡◌, ℕ, zero, suc, ◌+◌, ◌<◌, ◌≤◌, ◌⊎◌, inl, inr, Bool, true, false, cond, not, ◌&&◌, ◌||◌, eqb, IsTrue, List, [], ◌∷◌, ◌++◌, length, take, filter, get_or, set, Option, Some, None, IfSome, IfNone, refl, sym, ap, subst, ◌∙◌, arith, length-append, length-set}
+use Rattle.std.proofs.Common.{◌≡◌, ℕ, ◌+◌, ◌<◌, ◌≤◌, ◌⊎◌, inl, inr, Bool, true, false, cond, not, ◌&&◌, ◌||◌, eqb, IsTrue, List, [], ◌∷◌, ◌++◌, length, take, filter, get_or, set, Option, Some, None, IfSome, IfNone, refl, sym, ap, subst, ◌∙◌, arith, length-append, length-set}
 use Rattle.std.proofs.Math.Bool.{and-true, and-false}
 use Rattle.std.proofs.lemmas.Bool.{cases_Bool, cases_eq, eqb-true, eq-eqb, ne_eqb}
 use Rattle.std.proofs.lemmas.List.{append-nil, get_or_default}
@@ -7,6 +7,7 @@ use Rattle.std.proofs.lemmas.List.Elements.{filter_agree}
 use Rattle.std.proofs.lemmas.List.Folds.{list_any_more}
 use Rattle.std.specs.Cmp.{nat_cmp_total}
 use Rattle.std.specs.List.{range_with_len, list_any}
+use Rattle.std.specs.List.Sorted.{IsStrictlyIncreasing}
 use Rattle.std.specs.Ordering.{nat_cmp}
 use Rattle.std.specs.FinMap as map
 use Rattle.std.specs.FinMap.{FinMap, nat_cmp-IsAntisymmetric}
@@ -21,12 +22,8 @@ use Rattle.mls_tree.specs.Tree.{IsTree, is_active, is_child, is_inferior, childr
 use Rattle.mls_tree.specs.Kept.{parents_of, hierarchy_of, IsKept, stays_listed}
 use Rattle.mls_tree.proofs.Grown.{IsTree-root, IsTree-insert, is_active-insert}
 use Rattle.mls_tree.proofs.Inferiors.{IsTree-retain, is_active-retain, inferior_below}
-use Rattle.mls_tree.proofs.Listed.{children-insert, list_any-inferiors, parent_from_child}
+use Rattle.mls_tree.proofs.Listed.{children-insert, list_any-inferiors, parent_from_child, IsStrictlyIncreasing-children}
 use Rattle.mls_tree.proofs.Laws.{inferiors_below}
-
-empty_list : (o : ℕ) → get_or {A = List ℕ} ([] ∷ []) o [] ≡ []
-empty_list zero = refl
-empty_list (suc o) = refl
 
 -- the list of the root alone
 pub parents_of-root : parents_of (None ∷ []) ≡ map.empty
@@ -38,12 +35,22 @@ no_child o =
     filter_range_none (λ c. is_child (parents_of (None ∷ [])) c o) 0 1 (λ c low high. ap (holds_of (λ p. eqb p o)) (ap (λ m. map.get m c) parents_of-root ∙ map.get-empty nat_cmp c))
 
 -- the fields of the tree of the root alone
-pub IsKept-root : IsKept (None ∷ []) ([] ∷ [])
-IsKept-root = record {
+pub IsKept-root : (lists : List (List ℕ)) → 0 < length lists → ((o : ℕ) → get_or lists o [] ≡ []) → IsKept (None ∷ []) lists
+IsKept-root lists some empty = record {
   tree = subst (λ m. IsTree m (is_active m) 1) (sym parents_of-root) IsTree-root;
   as_many = omega arith;
-  listed = λ o. empty_list o ∙ sym (no_child o);
+  listed = λ o. empty o ∙ sym (no_child o);
 }
+
+-- the lists of children ascend, those too that are emptied
+pub cleared_ascend : (parents : List (Option ℕ)) (lists : List (List ℕ)) → IsKept parents lists → (b : Bool) (q : ℕ) → IsStrictlyIncreasing (cond b [] (get_or lists q []))
+cleared_ascend parents lists kept true q = λ j within. absurd (omega arith)
+cleared_ascend parents lists kept false q = subst IsStrictlyIncreasing (sym (kept.listed q)) (IsStrictlyIncreasing-children (hierarchy_of parents) q)
+
+-- what is so of each number is so of the one that is there
+pub of_some : (P : ℕ → Type 0) → ((p : ℕ) → P p) → (e : Option ℕ) → IfSome e P
+of_some P all None = tt
+of_some P all (Some p) = all p
 
 -- what is read of the lists after an object is added at the end of one
 pub get_or-pushed : (lists : List (List ℕ)) (p x o : ℕ) → p < length lists → get_or (set lists p (get_or lists p [] ++ x ∷ [])) o [] ≡ get_or lists o [] ++ cond (eqb o p) (x ∷ []) []

@@ -1,6 +1,5 @@
 pub mod Grown
 pub mod Ways
-pub mod Laid
 pub mod Inferiors
 pub mod Listed
 pub mod Laws

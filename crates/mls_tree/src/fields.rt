@@ -1,11 +1,11 @@
 //! Steps on what a tree is kept as: a list of parents, and a list of children for each object.
 ghost use Rattle.std.specs.Prelude.{◌≡◌, ℕ, ◌<◌, ◌≤◌, ◌==◌, ◌++◌, [], ◌∷◌, not, Some, None, IfSome, IfNone, if◌then◌else◌, All, length, filter, slice_index, slice_index_or, slice_set, vec_len, IfOk, OnOk, OnErr};
 ghost use Rattle.std.specs.List.{list_any};
+ghost use Rattle.std.specs.List.Sorted.{IsStrictlyIncreasing};
 ghost use Rattle.mls_tables.specs.declared.limits.TheConstants.{MAX_OBJECTS};
 ghost use Rattle.mls_tree.specs.Kept.{stays_listed};
 
-use crate::lists::Lists;
-use mls_tables::ObjectId;
+use mls_tables::{Lists, ObjectId};
 use std::alloc::{AllocError, Allocator};
 
 /// The parents in the tree of the root alone: the root has none.
@@ -20,38 +20,22 @@ pub fn root_alone<A: Allocator>(alloc: A) -> Result<Vec<Option<ObjectId>, A>, Al
     Ok(parents)
 }
 
-/// Makes sure that there is a list for the next object.
-///
-/// # Errors
-/// Where allocation fails. The lists are then unchanged.
-pub fn spare_list<A: Allocator>(lists: &mut Lists<A>, next: usize) -> Result<(), AllocError>
-    requires { next ≤ length lists.old }
-    ensures room { OnOk result (next < length lists.new) }
-    ensures longer { length lists.old ≤ length lists.new }
-    ensures same { (o : ℕ) → slice_index_or lists.new o [] ≡ slice_index_or lists.old o [] }
-{
-    if lists.len() == next {
-        lists.add_list()?;
-    }
-    Ok(())
-}
-
 /// Adds the next object below its parent: to the parents, and to the parent's list of children.
 ///
 /// # Errors
 /// Where allocation fails. Parents and lists are then unchanged.
 pub fn enter<A: Allocator>(
     parents: &mut Vec<Option<ObjectId>, A>,
-    lists: &mut Lists<A>,
+    lists: &mut Lists<ObjectId, A>,
     parent: ObjectId,
     next: u16,
 ) -> Result<(), AllocError>
-    requires list { parent < length lists.old }
-    requires few { length (slice_index_or lists.old parent []) ≤ MAX_OBJECTS }
+    requires list { parent < length lists.old.lists }
+    requires few { length (slice_index_or lists.old.lists parent []) ≤ MAX_OBJECTS }
     ensures parents { OnOk result (parents.new.items ≡ parents.old.items ++ Some parent ∷ []) }
-    ensures lists { OnOk result (lists.new ≡ slice_set lists.old parent (slice_index_or lists.old parent [] ++ next ∷ [])) }
+    ensures lists { OnOk result (lists.new.lists ≡ slice_set lists.old.lists parent (slice_index_or lists.old.lists parent [] ++ next ∷ [])) }
     ensures same_parents { OnErr result (parents.new.items ≡ parents.old.items) }
-    ensures same_lists { OnErr result (lists.new ≡ lists.old) }
+    ensures same_lists { OnErr result (lists.new.lists ≡ lists.old.lists) }
 {
     parents.reserve(1)?;
     lists.push(parent.number() as usize, ObjectId::new(next))?;
@@ -64,13 +48,13 @@ pub fn enter<A: Allocator>(
 /// # Errors
 /// Where allocation fails.
 pub fn add_children<A: Allocator, B: Allocator>(
-    lists: &Lists<A>,
+    lists: &Lists<ObjectId, A>,
     group: &mut Vec<ObjectId, B>,
     at: usize,
 ) -> Result<(), AllocError>
     requires place { at < vec_len group.old }
-    requires listed { slice_index group.old.items at < length lists.now }
-    ensures { OnOk result (group.new.items ≡ group.old.items ++ slice_index_or lists.now (slice_index group.old.items at) []) }
+    requires listed { slice_index group.old.items at < length lists.now.lists }
+    ensures { OnOk result (group.new.items ≡ group.old.items ++ slice_index_or lists.now.lists (slice_index group.old.items at) []) }
 {
     let below = lists.list(group[at].number() as usize);
     group.extend_from_slice(below)?;
@@ -78,22 +62,27 @@ pub fn add_children<A: Allocator, B: Allocator>(
 }
 
 /// Empties the lists of the objects.
-pub fn clear_each<A: Allocator>(lists: &mut Lists<A>, group: &[ObjectId])
-    requires { All (λ x. x < length lists.old) group.now }
-    ensures many { length lists.new ≡ length lists.old }
-    ensures cleared { (q : ℕ) → slice_index_or lists.new q [] ≡
-        (if list_any (λ x. q == x) group.now then [] else slice_index_or lists.old q []) }
+pub fn clear_each<A: Allocator>(lists: &mut Lists<ObjectId, A>, group: &[ObjectId])
+    requires { All (λ x. x < length lists.old.lists) group.now }
+    ensures many { length lists.new.lists ≡ length lists.old.lists }
+    ensures cleared { (q : ℕ) → slice_index_or lists.new.lists q [] ≡
+        (if list_any (λ x. q == x) group.now then [] else slice_index_or lists.old.lists q []) }
 {
     for o in group {
         lists.clear(o.number() as usize);
     }
 }
 
-/// Takes an object out of the list of its parent, if it has one.
-pub fn discard_one<A: Allocator>(lists: &mut Lists<A>, parent: Option<ObjectId>, o: ObjectId)
-    requires { IfSome parent (λ p. p < length lists.old) }
-    ensures listed { IfSome parent (λ p. lists.new ≡ slice_set lists.old p (filter (λ y. not (y == o)) (slice_index_or lists.old p []))) }
-    ensures root { IfNone parent (lists.new ≡ lists.old) }
+/// Takes an object out of the list of its parent, if it has one. The list ascends.
+pub fn discard_one<A: Allocator>(
+    lists: &mut Lists<ObjectId, A>,
+    parent: Option<ObjectId>,
+    o: ObjectId,
+)
+    requires list { IfSome parent (λ p. p < length lists.old.lists) }
+    requires ascends { IfSome parent (λ p. IsStrictlyIncreasing (slice_index_or lists.old.lists p [])) }
+    ensures listed { IfSome parent (λ p. lists.new.lists ≡ slice_set lists.old.lists p (filter (λ y. not (y == o)) (slice_index_or lists.old.lists p []))) }
+    ensures root { IfNone parent (lists.new.lists ≡ lists.old.lists) }
 {
     match parent {
         Some(p) => lists.discard(p.number() as usize, o),
@@ -101,16 +90,17 @@ pub fn discard_one<A: Allocator>(lists: &mut Lists<A>, parent: Option<ObjectId>,
     }
 }
 
-/// Takes each of the objects out of its parent's list.
+/// Takes each of the objects out of its parent's list. The lists ascend.
 pub fn discard_each<A: Allocator>(
-    lists: &mut Lists<A>,
+    lists: &mut Lists<ObjectId, A>,
     parents: &[Option<ObjectId>],
     group: &[ObjectId],
 )
     requires numbers { All (λ x. x < length parents.now) group.now }
-    requires listed { (x p : ℕ) → slice_index_or parents.now x None ≡ Some p → p < length lists.old }
-    ensures many { length lists.new ≡ length lists.old }
-    ensures left { (q : ℕ) → slice_index_or lists.new q [] ≡ filter (stays_listed parents.now group.now q) (slice_index_or lists.old q []) }
+    requires listed { (x p : ℕ) → slice_index_or parents.now x None ≡ Some p → p < length lists.old.lists }
+    requires ascend { (q : ℕ) → IsStrictlyIncreasing (slice_index_or lists.old.lists q []) }
+    ensures many { length lists.new.lists ≡ length lists.old.lists }
+    ensures left { (q : ℕ) → slice_index_or lists.new.lists q [] ≡ filter (stays_listed parents.now group.now q) (slice_index_or lists.old.lists q []) }
 {
     for o in group {
         let parent = parents[o.number() as usize];

@@ -2,7 +2,6 @@
 #![tactic(auto)]
 
 mod fields;
-mod lists;
 mod reach;
 mod tree;
 

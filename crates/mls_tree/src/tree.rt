@@ -6,8 +6,7 @@ ghost use Rattle.mls_tree.specs.Tree.{is_active, IsTree, is_inferior, children, 
 ghost use Rattle.mls_tree.specs.declared.tree.TreeFault.TheVariants.{Full, Memory};
 
 use crate::fields;
-use crate::lists::Lists;
-use mls_tables::{MAX_OBJECTS, ObjectId};
+use mls_tables::{Lists, MAX_OBJECTS, ObjectId};
 use std::alloc::{AllocError, Allocator, Global};
 use std::marker::Model;
 
@@ -34,7 +33,7 @@ impl From<AllocError> for TreeFault {
 #[derive(Drop)]
 pub struct Tree<A: Allocator = Global> {
     parents: Vec<Option<ObjectId>, A>,
-    children: Lists<A>,
+    children: Lists<ObjectId, A>,
 }
 
 impl<A: Allocator> Model for Tree<A> {
@@ -47,7 +46,7 @@ impl<A: Allocator> Model for Tree<A> {
 
     ghost view = { λ a. hierarchy_of a.parents.items };
 
-    ghost invariant = { λ a. IsKept a.parents.items a.children };
+    ghost invariant = { λ a. IsKept a.parents.items a.children.lists };
 }
 
 impl<A: Allocator> Tree<A> {
@@ -103,7 +102,7 @@ impl<A: Allocator> Tree<A> {
         if next >= MAX_OBJECTS {
             return Err(TreeFault::Full);
         }
-        fields::spare_list(&mut self.children, next as usize)?;
+        self.children.spare_list(next as usize)?;
         fields::enter(&mut self.parents, &mut self.children, parent, next)?;
         Ok(ObjectId::new(next))
     }
@@ -168,7 +167,7 @@ impl<A: Allocator + Clone> Tree<A> {
     {
         let parents = fields::root_alone(alloc.clone()?)?;
         let mut children = Lists::new(alloc)?;
-        children.add_list()?;
+        children.spare_list(0)?;
         Ok(Tree { parents, children })
     }
 

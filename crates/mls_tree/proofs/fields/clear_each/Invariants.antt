@@ -5,6 +5,6 @@ use Rattle.mls_tree.proofs.fields.clear_each.Given as goal
 abbrev pub invariant-loop-o : goal.invariant-loop-o
 invariant-loop-o g l =
     record {
-      many : length l.lists ≡ length l.initial.lists;
-      cleared : (q : ℕ) → get_or l.lists q [] ≡ cond (list_any (eqb q) (take l.o-index l.group)) [] (get_or l.initial.lists q []);
+      many : length l.lists.lists ≡ length l.initial.lists.lists;
+      cleared : (q : ℕ) → get_or l.lists.lists q [] ≡ cond (list_any (eqb q) (take l.o-index l.group)) [] (get_or l.initial.lists.lists q []);
     }

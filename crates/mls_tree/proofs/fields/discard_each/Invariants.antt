@@ -5,6 +5,6 @@ use Rattle.mls_tree.proofs.fields.discard_each.Given as goal
 abbrev pub invariant-loop-o : goal.invariant-loop-o
 invariant-loop-o g l =
     record {
-      many : length l.lists ≡ length l.initial.lists;
-      left : (q : ℕ) → get_or l.lists q [] ≡ filter (stays_listed l.parents (take l.o-index l.group) q) (get_or l.initial.lists q []);
+      many : length l.lists.lists ≡ length l.initial.lists.lists;
+      left : (q : ℕ) → get_or l.lists.lists q [] ≡ filter (stays_listed l.parents (take l.o-index l.group) q) (get_or l.initial.lists.lists q []);
     }

@@ -1,7 +1,7 @@
 use Rattle.std.proofs.Common.{◌≡◌, ◌<◌, ◌≤◌, length, sym, ap, subst, ◌∙◌, arith}
 use Rattle.std.specs.List.{insert}
 use Rattle.std.proofs.lemmas.List.{get_or_default, length-map, with_items_is}
-use Rattle.mls_tables.specs.declared.lists.Span.{Span}
+use Rattle.mls_tables.specs.declared.span.Span.{Span}
 use Rattle.mls_tables.specs.Lists.{nowhere, list_at}
 use Rattle.mls_tables.proofs.Laid.{list_is, room_is, changed_laid, changed_lists}
 use Rattle.mls_tables.proofs.lists.Lists.enter.Goals as goal

@@ -17,8 +17,8 @@ enter-requires-clause-few g c =
 pub invariant_of-self-2 : goal.invariant_of-self-2
 invariant_of-self-2 g c =
     let parents = c.self.inside.parents.items in
-    let lists = c.self.inside.children in
-    let spare = c.spare_list.new.lists in
+    let lists = c.self.inside.children.lists in
+    let spare = c.spare_list.new.self.lists in
     let next : length parents ≡ c.args.self.now.next = ap (λ h. h.next) c.self.view_is in
     let room : length parents < MAX_OBJECTS = omega (arith, c.next-next.ensures.number) in
     let below : IsTrue (is_active (parents_of parents) c.args.parent) = subst (λ h. IsTrue (is_active h.parent c.args.parent)) (sym c.self.view_is) c.requires in
@@ -28,10 +28,10 @@ invariant_of-self-2 g c =
     let within : c.args.parent < length spare = omega arith in
     let free : c.next-next.result < length spare = c.in_ok-spare_list.ensures.room in
     let number : c.next-next.result ≡ length parents = c.next-next.ensures.number ∙ sym next in
-    let long : length c.enter.new.lists ≡ length spare = ap length c.in_ok-enter.ensures.lists ∙ length-set spare c.args.parent (get_or spare c.args.parent [] ++ c.next-next.result ∷ []) in
-    let enough : length parents < length c.enter.new.lists = omega (arith, number) in
+    let long : length c.enter.new.lists.lists ≡ length spare = ap length c.in_ok-enter.ensures.lists ∙ length-set spare c.args.parent (get_or spare c.args.parent [] ++ c.next-next.result ∷ []) in
+    let enough : length parents < length c.enter.new.lists.lists = omega (arith, number) in
     rw c.in_ok-enter.ensures.parents
-    (IsKept-push parents lists c.enter.new.lists c.args.parent c.self.invariant below room enough (λ o.
+    (IsKept-push parents lists c.enter.new.lists.lists c.args.parent c.self.invariant below room enough (λ o.
     ap (λ l. get_or l o []) c.in_ok-enter.ensures.lists ∙ get_or-pushed spare c.args.parent c.next-next.result o within
     ∙ (λ i. c.spare_list.ensures.same o i ++ cond (eqb o c.args.parent) (number i ∷ []) [])))
 

@@ -18,7 +18,7 @@ add_children-requires-clause-listed g c =
     let within : c.loop-at.at < length c.loop-at.group.items = omega arith in
     let below : get_or c.loop-at.group.items c.loop-at.at 0 < c.args.self.now.next = found_below c.args.self.now tree c.args.o c.requires c.loop-at.group.items c.loop-at.at c.loop-at.invariant within in
     let next : length c.self.inside.parents.items ≡ c.args.self.now.next = ap (λ h. h.next) c.self.view_is in
-    let many : length c.self.inside.parents.items ≤ length c.self.inside.children = c.self.invariant.as_many in
+    let many : length c.self.inside.parents.items ≤ length c.self.inside.children.lists = c.self.invariant.as_many in
     omega arith
 
 pub loop-at-smaller : goal.loop-at-smaller

@@ -1,0 +1,66 @@
+//! Lists of objects, which ascend.
+ghost use Rattle.std.specs.Prelude.{◌≡◌, ℕ, ◌<◌, ◌==◌, ◌&&◌, ◌||◌, Bool, not, [], All, length, filter, slice_index_or, slice_set};
+ghost use Rattle.std.specs.List.{list_any};
+ghost use Rattle.std.specs.List.Sorted.{IsStrictlyIncreasing};
+ghost use Rattle.mls_tables.specs.Rows.{IsInRange, FoundAt, IsRows};
+
+use crate::ids::{ObjectId, SubjectId};
+use crate::lists::Lists;
+use std::alloc::Allocator;
+
+/// Where an object stands in a list, or else where it would, by binary search.
+fn place_of_object(list: &[ObjectId], o: ObjectId) -> Result<usize, usize>
+    ensures range { IsInRange result (length list.now) }
+    ensures place { IsStrictlyIncreasing list.now → FoundAt list.now o result }
+{
+    list.binary_search_by_key(&o.number(), |x| x.number())
+}
+
+impl<A: Allocator> Lists<ObjectId, A> {
+    /// Takes an object out of a list, if it is there. It is looked for by binary search, so the list must ascend.
+    pub fn discard(&mut self, i: usize, o: ObjectId)
+        requires { i < length self.old.lists }
+        ensures many { length self.new.lists ≡ length self.old.lists }
+        ensures gone { IsStrictlyIncreasing (slice_index_or self.old.lists i []) →
+            self.new.lists ≡ slice_set self.old.lists i (filter (λ y. not (y == o)) (slice_index_or self.old.lists i [])) }
+    {
+        let place = place_of_object(self.list(i), o);
+        self.leave(i, place);
+    }
+}
+
+/// Takes an object out of the list of a subject.
+pub fn take_object<A: Allocator>(objects: &mut Lists<ObjectId, A>, s: SubjectId, o: ObjectId)
+    requires { s < length objects.old.lists }
+    ensures many { length objects.new.lists ≡ length objects.old.lists }
+    ensures taken { (p : ℕ → ℕ → Bool) (n : ℕ) → IsRows p n objects.old.lists → IsRows (λ a b. p a b && not (a == s && b == o)) n objects.new.lists }
+{
+    objects.discard(usize::from(s.0), o);
+}
+
+/// Takes an object out of the lists of some subjects.
+pub fn take_from_each<A: Allocator>(
+    objects: &mut Lists<ObjectId, A>,
+    holders: &[SubjectId],
+    o: ObjectId,
+)
+    requires { All (λ s. s < length objects.old.lists) holders.now }
+    ensures many { length objects.new.lists ≡ length objects.old.lists }
+    ensures taken { (p : ℕ → ℕ → Bool) (n : ℕ) → IsRows p n objects.old.lists → IsRows (λ a b. p a b && not (list_any (λ s. a == s) holders.now && b == o)) n objects.new.lists }
+{
+    for s in holders {
+        take_object(objects, *s, o);
+    }
+}
+
+/// Enters an object into the list of a subject, which has room for it.
+pub fn enter_object<A: Allocator>(objects: &mut Lists<ObjectId, A>, s: SubjectId, o: ObjectId)
+    requires row { s < length objects.old.lists }
+    requires room { length (slice_index_or objects.old.lists s []) < slice_index_or objects.old.rooms s 0 }
+    ensures many { length objects.new.lists ≡ length objects.old.lists }
+    ensures entered { (p : ℕ → ℕ → Bool) (n : ℕ) → o < n → IsRows p n objects.old.lists → IsRows (λ a b. (a == s && b == o) || p a b) n objects.new.lists }
+{
+    let row = usize::from(s.0);
+    let place = place_of_object(objects.list(row), o);
+    objects.enter(row, place, o);
+}
