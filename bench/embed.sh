@@ -1,0 +1,27 @@
+#!/usr/bin/env bash
+# What the calls of the library for C cost: nanoseconds a call, the least of five runs, and instructions a call (by callgrind, the
+# difference of two counts). `cells` is a C program that looks up the same packed cells with no monitor.
+set -u
+export LC_ALL=C
+cd "$(dirname -- "$0")/.." || exit 1
+folder=$(mktemp -d) || exit 1
+trap 'rm -r "$folder"' EXIT
+bin/build-c "$folder" || exit 1
+cc -O2 -I"$folder/include" bench/embed.c "$folder/lib/libmls.a" -o "$folder/embed" || exit 1
+
+nanoseconds() { for _ in 1 2 3 4 5; do "$folder/embed" examples/standard.json "$1" "$2"; done | sort -n | head -n 1; }
+
+instructions() {
+  valgrind --tool=callgrind --callgrind-out-file=/dev/null "$folder/embed" examples/standard.json "$1" "$2" 2>&1 >/dev/null |
+    awk '/ Collected : / { print $4 }'
+}
+
+echo "call: nanoseconds, instructions"
+for row in "cells 100000000" "check 100000000" "decide 20000000" "denied 5000000" "granted 5000000"; do
+  read -r what count <<<"$row"
+  each="?"
+  if command -v valgrind >/dev/null; then
+    each=$((($(instructions "$what" 200000) - $(instructions "$what" 100000)) / 100000))
+  fi
+  echo "$what: $(nanoseconds "$what" "$count"), $each"
+done

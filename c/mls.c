@@ -1,0 +1,75 @@
+/* The part of the library that is plain C: the words of numbers, and the calls that take bytes with a length. What is proved
+ * takes no null pointer; where a length is 0 and the pointer is null, it gets the address of a byte that it doesn't read. */
+#include "mls.h"
+
+#define COUNT(words) (sizeof(words) / sizeof(words)[0])
+
+static uint8_t nothing;
+
+static const uint8_t *bytes(const uint8_t *at, size_t len) { return at || len ? at : &nothing; }
+
+static char nowhere;
+
+static char *room(char *at, size_t cap) { return at || cap ? at : &nowhere; }
+
+int mls_open_bytes(mls_t *m, const uint8_t *start, size_t len, mls_fault_t *fault);
+int mls_entry_bytes(mls_t *m, uint64_t n, char *buf, size_t cap, size_t *len);
+int mls_subject_bytes(mls_t *m, const uint8_t *name, size_t len, uint16_t *subject);
+int mls_object_bytes(mls_t *m, const uint8_t *name, size_t len, uint16_t *object);
+int mls_read_label_bytes(mls_t *m, uint32_t kind, const uint8_t *text, size_t len, mls_label_t *label);
+int mls_write_label_bytes(mls_t *m, uint32_t kind, const mls_label_t *label, char *buf, size_t cap, size_t *len);
+
+int mls_open(mls_t *m, const uint8_t *start, size_t len, mls_fault_t *fault) {
+    return mls_open_bytes(m, bytes(start, len), len, fault);
+}
+
+int mls_entry_text(mls_t *m, uint64_t n, char *buf, size_t cap, size_t *len) {
+    return mls_entry_bytes(m, n, room(buf, cap), cap, len);
+}
+
+int mls_subject(mls_t *m, const uint8_t *name, size_t len, uint16_t *subject) {
+    return mls_subject_bytes(m, bytes(name, len), len, subject);
+}
+
+int mls_object(mls_t *m, const uint8_t *name, size_t len, uint16_t *object) {
+    return mls_object_bytes(m, bytes(name, len), len, object);
+}
+
+int mls_read_label(mls_t *m, int kind, const uint8_t *text, size_t len, mls_label_t *label) {
+    return mls_read_label_bytes(m, (uint32_t)kind, bytes(text, len), len, label);
+}
+
+int mls_write_label(mls_t *m, int kind, const mls_label_t *label, char *buf, size_t cap, size_t *len) {
+    return mls_write_label_bytes(m, (uint32_t)kind, label, room(buf, cap), cap, len);
+}
+
+static const char *word(const char *const *words, size_t count, int number) {
+    return number >= 0 && (size_t)number < count ? words[number] : "?";
+}
+
+const char *mls_status_word(int status) {
+    static const char *const words[] = {"ok", "closed", "open", "no memory", "invalid", "start refused", "journal refused",
+                                        "replay differs", "too short", "not found"};
+    return status > -(int)COUNT(words) ? word(words, COUNT(words), -status) : "?";
+}
+
+const char *mls_action_word(int action) {
+    static const char *const words[] = {"get", "release", "give", "rescind", "create", "delete", "level", "relabel"};
+    return word(words, COUNT(words), action);
+}
+
+const char *mls_mode_word(int mode) {
+    static const char *const words[] = {"execute", "read", "append", "write"};
+    return word(words, COUNT(words), mode);
+}
+
+const char *mls_reply_word(int reply) {
+    static const char *const words[] = {"yes", "created", "undefined"};
+    return reply >= MLS_DENIED && reply <= MLS_DENIED + MLS_FULL ? "no" : word(words, COUNT(words), reply);
+}
+
+const char *mls_reason_word(int reason) {
+    static const char *const words[] = {"discretionary", "simple", "star", "integrity", "authority", "compatibility", "ceiling",
+                                        "root", "full"};
+    return word(words, COUNT(words), reason);
+}

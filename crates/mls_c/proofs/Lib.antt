@@ -1,0 +1,5 @@
+pub mod Blocks
+pub mod Openings
+pub mod Pointers
+pub mod Utf8
+pub mod Words

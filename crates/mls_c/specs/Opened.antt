@@ -1,0 +1,39 @@
+-- What a handle holds while it is open.
+use Rattle.std.specs.Prelude.{ℕ, List, [], ◌∷◌, ◌++◌, length, refl}
+use Rattle.std.specs.Coded.{Coded, code_by, coded×, coded_list}
+use Rattle.mls_lines.specs.Names.{Names, names_code}
+use Rattle.mls_state.specs.State.{State, state_code}
+use Rattle.mls_requests.specs.declared.entry.Entry.{Entry}
+use Rattle.mls_requests.specs.declared.request.Request.{Request}
+use Rattle.mls_requests.specs.contracts.entry.Entry as entry
+use Rattle.mls_rules.specs.Rules.{reply}
+use Rattle.mls_monitor.specs.Journal.{fold}
+use Rattle.mls_starts.specs.Ties.{Loaded}
+
+-- An open monitor: the names of its start, the state that it started with, and its journal. (own)
+pub record Opened : Type 0 where
+  pub names : Names
+  pub start : State
+  pub entries : List Entry
+
+-- The state of an open monitor: the fold of its journal from its start. (own)
+abbrev pub state_of : Opened → State
+state_of o = fold o.start o.entries
+
+-- The monitor that a start file opens with this journal. (own)
+abbrev pub opened_with : Loaded → List Entry → Opened
+opened_with loaded journal = record { names = loaded.names; start = loaded.start; entries = journal }
+
+-- The entry that the next request gets: its number is how many entries there are, and its reply is that of the rules. (own)
+abbrev pub next_entry : Opened → ℕ → Request → Entry
+next_entry o session r = record { number = length o.entries; session = session; reply = reply (state_of o) r; request = r }
+
+-- An open monitor with one entry more. (own)
+abbrev pub with_entry : Opened → Entry → Opened
+with_entry o e = record { names = o.names; start = o.start; entries = o.entries ++ e ∷ [] }
+
+-- How an open monitor is stored: as the tuple of its parts. (own)
+abbrev pub opened_code : Coded Opened
+opened_code =
+    code_by (Names × (State × List Entry)) (coded× names_code (coded× state_code (coded_list entry.the_row.coded)))
+    (λ o. (o.names, (o.start, o.entries))) (λ p. record { names = p.0; start = p.1.0; entries = p.1.1 }) (λ _. refl)

@@ -1,0 +1,56 @@
+//! What C keeps of an open monitor: the address of its block, or null.
+ghost use Rattle.std.specs.Prelude.{◌≡◌, Option, Some, None, IsSome};
+ghost use Rattle.std.specs.Coded.{coded_option};
+ghost use Rattle.mls_c.specs.Handle.{owns_opened};
+ghost use Rattle.mls_c.specs.Opened.{Opened, opened_code};
+
+use crate::block::Block;
+use crate::opened::Opened;
+use std::alloc::Global;
+use std::marker::Model;
+
+/// An open monitor's address, which is all that C has of it. Dropping it frees nothing: whoever holds one puts it back into a
+/// handle or makes a box of it.
+#[repr(C)]
+#[derive(Drop)]
+pub struct Kept {
+    at: *mut u8,
+    pub ghost value: { Option Opened } by { coded_option opened_code },
+}
+
+impl Model for Kept {
+    ghost also_owns = { λ k. owns_opened k.at k.value };
+}
+
+unsafe impl Send for Kept {}
+
+impl Kept {
+    /// No monitor.
+    pub(crate) fn none() -> Kept
+        ensures { result.value ≡ None }
+    {
+        Kept {
+            at: std::ptr::null_mut(),
+        }
+    }
+
+    /// The monitor in a block.
+    pub(crate) fn of(block: Block<Opened, Global>) -> Kept
+        ensures { result.value ≡ Some block.value }
+    {
+        let Block { at, alloc: _ } = block;
+        Kept { at: at.cast() }
+    }
+
+    /// The block of the monitor, which goes back to the heap.
+    pub(crate) fn into_block(self, alloc: Global) -> Block<Opened, Global>
+        requires { IsSome self.value }
+        ensures { Some result.value ≡ self.value }
+    {
+        let Kept { at } = self;
+        Block {
+            at: at.cast(),
+            alloc,
+        }
+    }
+}

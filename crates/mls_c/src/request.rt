@@ -1,0 +1,147 @@
+//! Requests in numbers.
+ghost use Rattle.std.specs.Prelude.{◌≡◌};
+ghost use Rattle.mls_c.specs.Requests.{mode_at, number_of_mode, action_of, request_of, blank, numbers_of_request};
+
+use crate::label::LabelNumbers;
+use mls_labels::{IntLabel, SecLabel};
+use mls_requests::{Action, Request};
+use mls_tables::{Mode, ObjectId, SubjectId};
+
+/// A request: which action, of which subject, and what it is about. What an action doesn't use isn't looked at.
+#[repr(C)]
+#[derive(Clone, Copy)]
+pub struct RequestNumbers {
+    pub action: u8,
+    pub mode: u8,
+    pub subject: u16,
+    pub other: u16,
+    pub object: u16,
+    pub security: LabelNumbers,
+    pub integrity: LabelNumbers,
+}
+
+/// The mode of a number.
+pub(crate) fn mode_at(number: u8) -> Option<Mode>
+    ensures { result ≡ mode_at number }
+{
+    match number {
+        0 => Some(Mode::Execute),
+        1 => Some(Mode::Read),
+        2 => Some(Mode::Append),
+        3 => Some(Mode::Write),
+        _ => None,
+    }
+}
+
+/// The number of a mode.
+fn number_of_mode(mode: Mode) -> u8
+    ensures { result ≡ number_of_mode mode }
+{
+    match mode {
+        Mode::Execute => 0,
+        Mode::Read => 1,
+        Mode::Append => 2,
+        Mode::Write => 3,
+    }
+}
+
+impl RequestNumbers {
+    /// The action of the numbers.
+    fn action(&self) -> Option<Action>
+        ensures { result ≡ action_of self.now }
+    {
+        let object = ObjectId::new(self.object);
+        let other = SubjectId::new(self.other);
+        match self.action {
+            0 => Some(Action::Get(mode_at(self.mode)?, object)),
+            1 => Some(Action::Release(mode_at(self.mode)?, object)),
+            2 => Some(Action::Give(mode_at(self.mode)?, other, object)),
+            3 => Some(Action::Rescind(mode_at(self.mode)?, other, object)),
+            4 => {
+                let security = SecLabel::of(self.security.label()?);
+                let integrity = IntLabel::of(self.integrity.label()?);
+                Some(Action::Create(object, security, integrity))
+            }
+            5 => Some(Action::Delete(object)),
+            6 => Some(Action::SubjectLevel(SecLabel::of(self.security.label()?))),
+            7 => Some(Action::ObjectLevel(object, SecLabel::of(self.security.label()?))),
+            _ => None,
+        }
+    }
+
+    /// The request of the numbers, where they are one's.
+    pub(crate) fn request(&self) -> Option<Request>
+        ensures { result ≡ request_of self.now }
+    {
+        let action = self.action()?;
+        Some(Request {
+            subject: SubjectId::new(self.subject),
+            action,
+        })
+    }
+
+    /// The numbers of a request of this subject, with 0 for all else.
+    fn blank(subject: SubjectId) -> RequestNumbers
+        ensures { result ≡ blank subject }
+    {
+        RequestNumbers {
+            action: 0,
+            mode: 0,
+            subject: subject.number(),
+            other: 0,
+            object: 0,
+            security: LabelNumbers::none(),
+            integrity: LabelNumbers::none(),
+        }
+    }
+
+    /// A request in numbers.
+    pub(crate) fn of(request: &Request) -> RequestNumbers
+        ensures { result ≡ numbers_of_request request.now }
+    {
+        let mut numbers = RequestNumbers::blank(request.subject);
+        match request.action {
+            Action::Get(mode, object) => {
+                numbers.mode = number_of_mode(mode);
+                numbers.object = object.number();
+            }
+            Action::Release(mode, object) => {
+                numbers.action = 1;
+                numbers.mode = number_of_mode(mode);
+                numbers.object = object.number();
+            }
+            Action::Give(mode, other, object) => {
+                numbers.action = 2;
+                numbers.mode = number_of_mode(mode);
+                numbers.other = other.number();
+                numbers.object = object.number();
+            }
+            Action::Rescind(mode, other, object) => {
+                numbers.action = 3;
+                numbers.mode = number_of_mode(mode);
+                numbers.other = other.number();
+                numbers.object = object.number();
+            }
+            Action::Create(parent, security, integrity) => {
+                numbers.action = 4;
+                numbers.object = parent.number();
+                numbers.security = LabelNumbers::of(security.label());
+                numbers.integrity = LabelNumbers::of(integrity.label());
+            }
+            Action::Delete(object) => {
+                numbers.action = 5;
+                numbers.object = object.number();
+            }
+            Action::SubjectLevel(label) => {
+                numbers.action = 6;
+                numbers.security = LabelNumbers::of(label.label());
+            }
+            Action::ObjectLevel(object, label) => {
+                numbers.action = 7;
+                numbers.object = object.number();
+                numbers.security = LabelNumbers::of(label.label());
+            }
+        }
+        numbers
+    }
+}

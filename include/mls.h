@@ -1,0 +1,157 @@
+/* mls.h: a proved reference monitor for C programs.
+ *
+ * A handle is closed or open. It is open with the names of a start, the start, and a journal; the state of the monitor is
+ * the fold of the rules over the journal from the start, and is always secure. Each call says what becomes of the handle and
+ * what it tells, for every status; docs/EMBEDDING.md has the table, and crates/mls_c the contracts, which are proved.
+ *
+ * What the caller keeps, and nothing checks:
+ * - The caller allocates a handle, as MLS_INIT or all zeros, and never copies it, writes to it or moves it while it is open.
+ * - Pointers are valid for what they are lent for, aligned, and none overlaps another of the same call. Where a length is 0,
+ *   the pointer beside it may be null; no other may.
+ * - One call at a time works on a handle: put a mutex round it where threads share it. No call is made from a signal handler,
+ *   nor in the forked child of a process with threads.
+ * Memory comes from malloc, realloc and free, and only mls_close frees what the library holds.
+ */
+#ifndef MLS_H
+#define MLS_H
+
+#include <stddef.h>
+#include <stdint.h>
+
+#ifdef __cplusplus
+extern "C" {
+#endif
+
+/* Statuses: MLS_OK, or below 0 where the call changed nothing. The decision is never in the status. */
+enum {
+    MLS_OK = 0,
+    MLS_ECLOSED = -1,   /* the handle is closed */
+    MLS_EOPEN = -2,     /* the handle is open already */
+    MLS_ENOMEM = -3,    /* an allocation failed */
+    MLS_EINVAL = -4,    /* the numbers are no request, no label or no kind of labels, or the text is no label */
+    MLS_ESTART = -5,    /* the start is refused: the fault says why */
+    MLS_ERANGE = -8,    /* the buffer is too short */
+    MLS_ENOTFOUND = -9  /* no such entry, or no such name */
+};
+
+/* Actions. */
+enum {
+    MLS_GET = 0,            /* object, mode */
+    MLS_RELEASE = 1,        /* object, mode */
+    MLS_GIVE = 2,           /* object, mode, and the other subject that is permitted it */
+    MLS_RESCIND = 3,        /* object, mode, and the other subject that is permitted it no longer */
+    MLS_CREATE = 4,         /* object is the parent; security and integrity are the new object's labels */
+    MLS_DELETE = 5,         /* object */
+    MLS_SUBJECT_LEVEL = 6,  /* security: the subject's new current label */
+    MLS_OBJECT_LEVEL = 7    /* object; security: its new label */
+};
+
+/* Modes of access. */
+enum { MLS_EXECUTE = 0, MLS_READ = 1, MLS_APPEND = 2, MLS_WRITE = 3 };
+
+/* Replies: a denial is MLS_DENIED and the number of its reason. */
+enum { MLS_YES = 0, MLS_CREATED = 1, MLS_UNDEFINED = 2, MLS_DENIED = 16 };
+
+/* Reasons of denials. */
+enum {
+    MLS_DISCRETIONARY = 0, MLS_SIMPLE = 1, MLS_STAR = 2, MLS_INTEGRITY = 3, MLS_AUTHORITY = 4, MLS_COMPATIBILITY = 5,
+    MLS_CEILING = 6, MLS_ROOT = 7, MLS_FULL = 8
+};
+
+/* Kinds of labels. */
+enum { MLS_SECURITY_LABEL = 0, MLS_INTEGRITY_LABEL = 1 };
+
+/* A handle. Its fields are the library's. */
+typedef struct {
+    uint32_t held;
+    void *monitor;
+} mls_t;
+
+#define MLS_INIT { 0, NULL }
+
+/* A label: a level below 16, and bit n % 64 of word n / 64 for category n. Categories are below 64, so the other words are 0. */
+typedef struct {
+    uint8_t level;
+    uint64_t categories[4];
+} mls_label_t;
+
+/* A request. What its action doesn't use isn't looked at. */
+typedef struct {
+    uint8_t action, mode;
+    uint16_t subject, other, object;
+    mls_label_t security, integrity;
+} mls_request_t;
+
+/* An answer: the number of its entry, the reply, and the object that was made where the reply is MLS_CREATED, else 0. */
+typedef struct {
+    uint64_t number;
+    uint16_t reply, object;
+} mls_answer_t;
+
+/* An entry of the journal. */
+typedef struct {
+    uint64_t number;
+    uint32_t session;
+    uint16_t reply, object;
+    mls_request_t request;
+} mls_entry_t;
+
+/* Why a start or a journal is refused: the kind of the fault, a number that says more, and the place. */
+typedef struct {
+    uint16_t kind, number;
+    uint64_t place;
+} mls_fault_t;
+
+/* Opens a closed handle from the bytes of a start file, with an empty journal.
+ * MLS_EOPEN, MLS_ESTART, MLS_ENOMEM. The fault is written where the status is MLS_ESTART, and else left alone. */
+int mls_open(mls_t *m, const uint8_t *start, size_t len, mls_fault_t *fault);
+
+/* Answers a request by the rules, changes the state as they say, and adds just its entry to the journal. The session is
+ * written into the entry and means nothing else. MLS_ECLOSED, MLS_EINVAL, MLS_ENOMEM; nothing is changed or written then. */
+int mls_submit(mls_t *m, uint32_t session, const mls_request_t *request, mls_answer_t *answer);
+
+/* Whether the subject holds an access to the object in the mode now: 1 or 0, and 0 too where the handle is closed or the mode
+ * is none. It adds no entry and doesn't allocate. */
+int mls_check(mls_t *m, uint16_t subject, uint16_t object, uint8_t mode);
+
+/* What mls_submit would answer now. Nothing changes, and it doesn't allocate. MLS_ECLOSED, MLS_EINVAL. */
+int mls_decide(mls_t *m, const mls_request_t *request, mls_answer_t *answer);
+
+/* How many entries the journal has; 0 where the handle is closed. */
+uint64_t mls_entries(mls_t *m);
+
+/* Copies out entry n, counted from 0. MLS_ECLOSED, MLS_ENOTFOUND. */
+int mls_entry(mls_t *m, uint64_t n, mls_entry_t *entry);
+
+/* Copies out the line of entry n, counted from 0, with its newline and without a byte of 0 after it: the lines of all entries,
+ * one after the other, are the journal's text. The length of the line is told with MLS_OK and with MLS_ERANGE,
+ * which leaves the buffer as it was. MLS_ECLOSED, MLS_ENOTFOUND, MLS_ERANGE, MLS_ENOMEM. */
+int mls_entry_text(mls_t *m, uint64_t n, char *buf, size_t cap, size_t *len);
+
+/* The number of a subject's or of an object's name in the start; objects that were made later have no name. It doesn't
+ * allocate. MLS_ECLOSED, MLS_ENOTFOUND. */
+int mls_subject(mls_t *m, const uint8_t *name, size_t len, uint16_t *subject);
+int mls_object(mls_t *m, const uint8_t *name, size_t len, uint16_t *object);
+
+/* Reads a label's text in the scheme of its kind. It doesn't allocate. MLS_ECLOSED, MLS_EINVAL. */
+int mls_read_label(mls_t *m, int kind, const uint8_t *text, size_t len, mls_label_t *label);
+
+/* Copies out a label's text in the scheme of its kind, as mls_entry_text does a line. MLS_ECLOSED, MLS_EINVAL where the scheme
+ * has no such label, MLS_ERANGE, MLS_ENOMEM. */
+int mls_write_label(mls_t *m, int kind, const mls_label_t *label, char *buf, size_t cap, size_t *len);
+
+/* Closes a handle and frees what it holds. A closed handle stays closed. */
+void mls_close(mls_t *m);
+
+/* The words of the numbers, as the program mls writes them; "?" where a number has none. */
+const char *mls_status_word(int status);
+const char *mls_action_word(int action);
+const char *mls_mode_word(int mode);
+const char *mls_reply_word(int reply);
+const char *mls_reason_word(int reason);
+
+#ifdef __cplusplus
+}
+#endif
+
+#endif
