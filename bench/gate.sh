@@ -45,7 +45,7 @@ row() (
   trap 'rm -rf "$folder/out/incremental"; [ ! -d "$folder/out/kept" ] || mv "$folder/out/kept" "$folder/out/incremental"' EXIT
   of_proof=$(prove "$folder") || exit 1
   functions=$(counted functions)
-  public=$(find "$folder/src" -name '*.rt' ! -path '*/tests*' -exec cat {} + | grep -cE '^ *pub (const |unsafe )*fn ')
+  public=$(find "$folder/src" -name '*.rt' ! -path '*/tests*' -exec cat {} + | grep -cE '^ *pub (const |unsafe |extern "C" )*fn ')
   if grep -rq '#\[test\]' "$folder/src"; then
     of_tests=$(prove "$folder" --test) || exit 1
     tests=$(counted tests)

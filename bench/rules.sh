@@ -95,3 +95,36 @@ echo "4,092 creates, gives, gets and checks: $((($(instructions examples/standar
 awk 'BEGIN { for (n = 4; n < 4096; n++) print "$o" n " = sec create root U hi\nsec give read sec $o" n "\nsec get-read $o" n; for (n = 4; n < 4096; n++) print "sec delete $o" n }' >"$folder/lines"
 cat "$folder/ready" "$folder/lines" >"$folder/both"
 echo "4,092 creates, gives, gets and deletes: $((($(instructions examples/standard.json "$folder/both") - standard) / 1000)) thousand in all"
+
+# Bytes that a run still holds when its last answer is written, as valgrind tells of each allocation.
+held() {
+  valgrind --tool=massif --massif-out-file=/dev/null --trace-malloc=yes "$program" run --serial "$1" "$2" 2>&1 >"$folder/answers" | python3 -c '
+import re, sys
+now, held, size = 0, 0, {}
+for line in sys.stdin:
+    call = re.search(r"(malloc|calloc|realloc|memalign|free)\((.*?)\)(?: = (0x[0-9A-F]+))?", line)
+    if not call:
+        continue
+    name, words, place = call.groups()
+    numbers = [int(it) for it in re.findall(r"(?<![x0-9A-Fa-f])[0-9]+(?![x0-9A-Fa-f])", words)]
+    if name in ("free", "realloc"):
+        now -= size.pop(words.split(",")[0].strip(), 0)
+    if name != "free":
+        size[place] = numbers[0] * numbers[1] if name == "calloc" else numbers[-1]
+        now += size[place]
+        held = now
+print(held)'
+}
+
+# The standard shapes: 256 subjects, and all object numbers.
+: >"$folder/ready"
+echo "cell 0 0 write" | start 1 >"$folder/start"
+one=$(held "$folder/start" "$folder/ready")
+echo "cell 0 0 write" | start 4096 >"$folder/start"
+echo "4,095 objects more, of which nothing is held: $((($(held "$folder/start" "$folder/ready") - one) / 4095)) bytes each"
+# Each of 256 subjects holds 60 objects; and, for as long a journal, one of them holds one.
+awk 'BEGIN { for (s = 0; s < 256; s++) for (o = 1; o <= 60; o++) print "cell", s, o, "read" }' | start 4096 >"$folder/start"
+awk 'BEGIN { for (s = 0; s < 256; s++) for (o = 1; o <= 60; o++) print "s0 get-read o1" }' >"$folder/ready"
+few=$(held "$folder/start" "$folder/ready")
+awk 'BEGIN { for (s = 0; s < 256; s++) for (o = 1; o <= 60; o++) print "s" s " get-read o" o }' >"$folder/ready"
+echo "a subject that holds an object, of 15,360: $((($(held "$folder/start" "$folder/ready") - few) / 15359)) bytes"

@@ -38,7 +38,7 @@ fn ended(
 /// The file that a fault is about.
 fn file_of<'a>(fault: &CommandFault, start: &'a str, journal: &'a str) -> &'a str {
     match fault {
-        CommandFault::Load(_) | CommandFault::Memory => start,
+        CommandFault::Load(_) | CommandFault::Thread | CommandFault::Memory => start,
         CommandFault::Entry { .. } | CommandFault::Replay(_) => journal,
     }
 }

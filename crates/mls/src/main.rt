@@ -1,6 +1,8 @@
 //! The program `mls`: it runs the command that its words name; without words it answers the script on standard input over the standard start.
 #![tactic(auto)]
 
+ghost use Rattle.std.specs.Prelude.{◌<◌, ◌≤◌, length, vec_len, All};
+
 mod commands;
 mod files;
 mod output;
@@ -10,15 +12,22 @@ mod serving;
 mod words;
 
 use clap::Error;
-use commands::{check, replay};
-use output::{NO_MEMORY, NOT_WRITTEN, refused};
-use scripts::run;
+use commands::{check, replay, start_file};
+use mls_cli::{MAX_SCRIPTS, SCRIPT_LIMIT, run_serial, run_threads};
+use output::{NO_MEMORY, NOT_WRITTEN, file_refused, refused};
+use progress::Progress;
+use scripts::{ended_run, lent, read_scripts};
 use serving::serve_standard;
 use std::env;
 use std::env::FillError;
 use std::process::ExitCode;
 use std::rt::Env;
-use words::{Job, read_words};
+use std::sync::Wait;
+use std::thread::Threads;
+use words::{Job, RunWords, read_words};
+
+/// The line on standard error where the count of scripts is none that can be run.
+const SCRIPT_COUNT: &str = "mls: run: at most 64 scripts";
 
 /// Whether the program was given a word. No word is copied, so it needs no memory and takes any bytes.
 fn has_words(env: &impl Env) -> bool {
@@ -37,11 +46,90 @@ fn explained(rt: &HostRuntime, error: Error) -> ExitCode {
     }
 }
 
-/// Does what the words ask for.
-fn run_words(rt: &HostRuntime, words: &[String]) -> ExitCode {
+/// Runs scripts over the bytes of a start file: each in a thread of its own, or one after the other where that was asked for.
+fn run_texts<R: Threads + Wait + Sync>(
+    threads: &R,
+    progress: &mut Progress<'_>,
+    start: &[u8],
+    texts: &[&[u8]],
+    words: &RunWords<'_>,
+) -> ExitCode
+    requires count { (0 < length texts.now) × (length texts.now ≤ MAX_SCRIPTS) }
+    requires limit { All (λ text. length text.now ≤ SCRIPT_LIMIT) texts.now }
+{
+    let alloc = progress.rt().alloc();
+    progress.begin("running");
+    let done = if words.is_serial {
+        run_serial(alloc, start, texts, words.journal.is_some())
+    } else {
+        run_threads(threads, alloc, start, texts, words.journal.is_some())
+    };
+    ended_run(progress, done, words)
+}
+
+/// Runs scripts over the bytes of a start file, once they were read.
+fn run_scripts<R: Threads + Wait + Sync>(
+    threads: &R,
+    progress: &mut Progress<'_>,
+    start: &[u8],
+    texts: &[Vec<u8>],
+    words: &RunWords<'_>,
+) -> ExitCode
+    requires count { (0 < length texts.now) × (length texts.now ≤ MAX_SCRIPTS) }
+    requires limit { All (λ text. vec_len text ≤ SCRIPT_LIMIT) texts.now }
+{
+    let Ok(slices) = lent(progress.rt().alloc(), texts) else {
+        progress.end();
+        return refused(progress.rt(), NO_MEMORY, 1);
+    };
+    let status = run_texts(threads, progress, start, &slices, words);
+    drop(slices);
+    status
+}
+
+/// Reads the scripts of a run whose start file was read, and runs them.
+fn run_over<R: Threads + Wait + Sync>(
+    threads: &R,
+    progress: &mut Progress<'_>,
+    start: &[u8],
+    words: &RunWords<'_>,
+) -> ExitCode
+    requires { (0 < vec_len words.now.scripts) × (vec_len words.now.scripts ≤ MAX_SCRIPTS) }
+{
+    match read_scripts(progress, words) {
+        Ok(texts) => {
+            let status = run_scripts(threads, progress, start, &texts, words);
+            drop(texts);
+            status
+        }
+        Err(status) => status,
+    }
+}
+
+/// Runs scripts over a start file.
+fn run<R: Threads + Wait + Sync>(threads: &R, rt: &HostRuntime, words: &RunWords<'_>) -> ExitCode {
+    if words.scripts.is_empty() || words.scripts.len() > MAX_SCRIPTS {
+        return refused(rt, SCRIPT_COUNT, 2);
+    }
+    let mut progress = Progress::new(rt);
+    let start = match start_file(words.start).read(&mut progress) {
+        Ok(bytes) => bytes,
+        Err(fault) => return file_refused(&mut progress, words.start, fault),
+    };
+    let status = run_over(threads, &mut progress, &start, words);
+    drop(start);
+    status
+}
+
+/// Does what the words ask for. Threads are started by a run of scripts alone.
+fn run_words<R: Threads + Wait + Sync>(
+    threads: &R,
+    rt: &HostRuntime,
+    words: &[String],
+) -> ExitCode {
     match read_words(rt.alloc(), words) {
         Ok(Job::Check { start }) => check(rt, start),
-        Ok(Job::Run(words)) => run(rt, &words),
+        Ok(Job::Run(words)) => run(threads, rt, &words),
         Ok(Job::Replay { start, journal }) => replay(rt, start, journal),
         Ok(Job::Serve) => serve_standard(rt),
         Err(error) => explained(rt, error),
@@ -49,21 +137,21 @@ fn run_words(rt: &HostRuntime, words: &[String]) -> ExitCode {
 }
 
 /// Reads the words and does what they ask for.
-fn run_args(rt: &HostRuntime) -> ExitCode {
+fn run_args<R: Threads + Wait + Sync>(threads: &R, rt: &HostRuntime) -> ExitCode {
     let Ok(args) = env::args(rt) else {
         return refused(rt, "mls: a word isn't UTF-8", 2);
     };
     let Ok(words) = args.collect::<Vec<String>>(rt.alloc()) else {
         return refused(rt, NO_MEMORY, 1);
     };
-    let status = run_words(rt, &words);
+    let status = run_words(threads, rt, &words);
     drop(words);
     status
 }
 
 fn main(rt: HostRuntime) -> ExitCode {
     if has_words(&rt) {
-        run_args(&rt)
+        run_args(&rt, &rt)
     } else {
         serve_standard(&rt)
     }

@@ -1,12 +1,11 @@
-//! The command that runs scripts.
-ghost use Rattle.std.specs.Prelude.{◌≤◌, length, vec_len, All, IfOk};
+//! The scripts of a run: read, lent, and what is printed of the run.
+ghost use Rattle.std.specs.Prelude.{◌≡◌, ◌≤◌, length, vec_len, All, IfOk};
 
-use crate::commands::start_file;
 use crate::files::{FileFault, Input, write_file};
-use crate::output::{NO_MEMORY, command_refused, file_refused, print, refused};
+use crate::output::{command_refused, file_refused, print};
 use crate::progress::Progress;
 use crate::words::RunWords;
-use mls_cli::{MAX_SCRIPTS, RunText, SCRIPT_LIMIT, run_serial};
+use mls_cli::{CommandFault, RunText, SCRIPT_LIMIT};
 use std::alloc::{AllocError, Global};
 use std::process::ExitCode;
 
@@ -17,11 +16,13 @@ struct ScriptFault {
 }
 
 /// Reads scripts, in order.
-fn read_scripts(progress: &mut Progress<'_>, paths: &[&str]) -> Result<Vec<Vec<u8>>, ScriptFault>
-    ensures { IfOk result (λ texts. All (λ text. vec_len text ≤ SCRIPT_LIMIT) texts.items) }
+fn read_in_order(progress: &mut Progress<'_>, paths: &[&str]) -> Result<Vec<Vec<u8>>, ScriptFault>
+    ensures count { IfOk result (λ texts. vec_len texts ≡ length paths.now) }
+    ensures limit { IfOk result (λ texts. All (λ text. vec_len text ≤ SCRIPT_LIMIT) texts.items) }
 {
     let mut texts = Vec::new(progress.rt().alloc());
-    for (place, path) in paths.iter().enumerate() {
+    for path in paths {
+        let place = texts.len();
         let script = Input {
             path,
             limit: SCRIPT_LIMIT,
@@ -40,10 +41,31 @@ fn read_scripts(progress: &mut Progress<'_>, paths: &[&str]) -> Result<Vec<Vec<u
     Ok(texts)
 }
 
+/// Reads the scripts of a run, in order, or tells why one wasn't read.
+///
+/// # Errors
+/// The status to end with.
+pub fn read_scripts(
+    progress: &mut Progress<'_>,
+    words: &RunWords<'_>,
+) -> Result<Vec<Vec<u8>>, ExitCode>
+    ensures count { IfOk result (λ texts. vec_len texts ≡ vec_len words.now.scripts) }
+    ensures limit { IfOk result (λ texts. All (λ text. vec_len text ≤ SCRIPT_LIMIT) texts.items) }
+{
+    match read_in_order(progress, &words.scripts) {
+        Ok(texts) => Ok(texts),
+        Err(ScriptFault { place, fault }) => {
+            let path = words.scripts.get(place).copied().unwrap_or("");
+            Err(file_refused(progress, path, fault))
+        }
+    }
+}
+
 /// The bytes of texts.
-fn lent<'a>(alloc: Global, texts: &'a [Vec<u8>]) -> Result<Vec<&'a [u8]>, AllocError>
+pub fn lent<'a>(alloc: Global, texts: &'a [Vec<u8>]) -> Result<Vec<&'a [u8]>, AllocError>
     requires { All (λ text. vec_len text ≤ SCRIPT_LIMIT) texts.now }
-    ensures { IfOk result (λ slices. All (λ text. length text.now ≤ SCRIPT_LIMIT) slices.items) }
+    ensures count { IfOk result (λ slices. vec_len slices ≡ length texts.now) }
+    ensures limit { IfOk result (λ slices. All (λ text. length text.now ≤ SCRIPT_LIMIT) slices.items) }
 {
     let mut slices = Vec::with_capacity(alloc, texts.len())?;
     for text in texts {
@@ -64,69 +86,17 @@ fn print_run(progress: &mut Progress<'_>, run: &RunText, words: &RunWords<'_>) -
     print(progress.rt(), &run.output)
 }
 
-/// Runs scripts over the bytes of a start file.
-fn run_texts(
+/// Ends a run: prints what it came to, or tells why it was refused.
+pub fn ended_run(
     progress: &mut Progress<'_>,
-    start: &[u8],
-    texts: &[&[u8]],
+    done: Result<RunText, CommandFault>,
     words: &RunWords<'_>,
-) -> ExitCode
-    requires { All (λ text. length text.now ≤ SCRIPT_LIMIT) texts.now }
-{
-    progress.begin("running");
-    match run_serial(progress.rt().alloc(), start, texts, words.journal.is_some()) {
+) -> ExitCode {
+    match done {
         Ok(run) => print_run(progress, &run, words),
         Err(fault) => {
             progress.end();
             command_refused(progress.rt(), words.start, &fault)
         }
     }
-}
-
-/// Runs scripts over the bytes of a start file, once they were read.
-fn run_scripts(
-    progress: &mut Progress<'_>,
-    start: &[u8],
-    texts: &[Vec<u8>],
-    words: &RunWords<'_>,
-) -> ExitCode
-    requires { All (λ text. vec_len text ≤ SCRIPT_LIMIT) texts.now }
-{
-    let Ok(slices) = lent(progress.rt().alloc(), texts) else {
-        progress.end();
-        return refused(progress.rt(), NO_MEMORY, 1);
-    };
-    let status = run_texts(progress, start, &slices, words);
-    drop(slices);
-    status
-}
-
-/// Reads the scripts of a run whose start file was read, and runs them.
-fn run_over(progress: &mut Progress<'_>, start: &[u8], words: &RunWords<'_>) -> ExitCode {
-    match read_scripts(progress, &words.scripts) {
-        Ok(texts) => {
-            let status = run_scripts(progress, start, &texts, words);
-            drop(texts);
-            status
-        }
-        Err(ScriptFault { place, fault }) => {
-            let path = words.scripts.get(place).copied().unwrap_or("");
-            file_refused(progress, path, fault)
-        }
-    }
-}
-
-/// Runs scripts over a start file.
-pub fn run(rt: &HostRuntime, words: &RunWords<'_>) -> ExitCode {
-    if words.scripts.len() > MAX_SCRIPTS {
-        return refused(rt, "mls: run: at most 64 scripts", 2);
-    }
-    let mut progress = Progress::new(rt);
-    let start = match start_file(words.start).read(&mut progress) {
-        Ok(bytes) => bytes,
-        Err(fault) => return file_refused(&mut progress, words.start, fault),
-    };
-    let status = run_over(&mut progress, &start, words);
-    drop(start);
-    status
 }

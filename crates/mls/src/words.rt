@@ -9,6 +9,8 @@ pub struct RunWords<'a> {
     pub scripts: Vec<&'a str>,
     /// The file that the journal is written to, where one is.
     pub journal: Option<&'a str>,
+    /// Whether the scripts run one after the other, and not each in a thread of its own.
+    pub is_serial: bool,
 }
 
 /// What a command line asks for.
@@ -68,7 +70,7 @@ fn check_command<'a>(alloc: Global) -> Result<Command<'a>, AllocError> {
 fn serial_option<'a>(alloc: Global) -> Arg<'a> {
     Arg::new(alloc, "serial")
         .long("serial")
-        .help("Runs the scripts one after the other, which is so by now without it too")
+        .help("Runs the scripts one after the other, and not each in a thread of its own")
         .action(ArgAction::SetTrue)
 }
 
@@ -154,6 +156,7 @@ fn run_words<'a>(alloc: Global, matches: &ArgMatches<'a>) -> Result<RunWords<'a>
         start: operand(matches, "START"),
         scripts,
         journal: matches.get_str("journal"),
+        is_serial: matches.get_flag("serial"),
     })
 }
 

@@ -1,7 +1,2 @@
-pub mod Kept
-pub mod LineLemmas
-pub mod Pieces
-pub mod Progress
-pub mod Runs
-pub mod Texts
+pub mod Feeds
 pub mod JournalTexts

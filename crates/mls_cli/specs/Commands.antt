@@ -1,11 +1,13 @@
--- What the refusal of a start and that of a replay are as the refusal of a command, and the status that the program then ends with.
+-- What the refusal of a start, that of a replay and that of a run in threads are as the refusal of a command, and the status that the program then ends with.
 use Rattle.std.specs.Prelude.{ℕ}
 use Rattle.mls_monitor.specs.declared.replay_fault.ReplayFault.{ReplayFault}
 use Rattle.mls_monitor.specs.declared.replay_fault.ReplayFault.TheVariants as replayed
 use Rattle.mls_starts.specs.declared.load_fault.LoadFault.{LoadFault}
 use Rattle.mls_starts.specs.declared.load_fault.LoadFault.TheVariants as refused
+use Rattle.mls_sessions.specs.declared.run_fault.RunFaultKind.{RunFaultKind}
+use Rattle.mls_sessions.specs.declared.run_fault.RunFaultKind.TheVariants as run
 use Rattle.mls_cli.specs.declared.command.CommandFault.{CommandFault}
-use Rattle.mls_cli.specs.declared.command.CommandFault.TheVariants.{Load, Entry, Replay, Memory}
+use Rattle.mls_cli.specs.declared.command.CommandFault.TheVariants.{Load, Entry, Replay, Thread, Memory}
 
 -- The refusal of a command whose start is refused: out of memory is that, whatever met it. (own)
 abbrev pub command_fault : LoadFault → CommandFault
@@ -24,9 +26,16 @@ replay_fault (replayed.Number at) = Replay (replayed.Number at)
 replay_fault (replayed.Differs at expected) = Replay (replayed.Differs at expected)
 replay_fault replayed.Memory = Memory
 
+-- The refusal of a command whose run in threads is refused; it never has a number of scripts that can't be run. (own)
+abbrev pub run_fault : RunFaultKind → CommandFault
+run_fault run.BadCount = Memory
+run_fault run.Memory = Memory
+run_fault run.Thread = Thread
+
 -- The status that the program ends with: 3 where a journal isn't one of its start, 1 for all else. (own)
 abbrev pub status_of : CommandFault → ℕ
 status_of (Load cause) = 1
 status_of (Entry line cause) = 1
 status_of (Replay cause) = 3
+status_of Thread = 1
 status_of Memory = 1

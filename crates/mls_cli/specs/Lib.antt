@@ -1,5 +1,2 @@
 pub mod Commands
-pub mod Lines
 pub mod Run
-pub mod Script
-pub mod Serve

@@ -1,12 +1,17 @@
 -- What a script of a run prints, the journal that it leaves, and the text of a journal.
-use Rattle.std.specs.Prelude.{ℕ, List, [], ◌∷◌, ◌++◌, codes}
+use Rattle.std.specs.Prelude.{◌≡◌, ℕ, ◌+◌, List, [], ◌∷◌, ◌++◌, codes}
 use Rattle.std.specs.Fmt.{decimal}
 use Rattle.mls_state.specs.State.{State}
 use Rattle.mls_requests.specs.declared.entry.Entry.{Entry}
 use Rattle.mls_journal.specs.EntryText.{entry_line}
 use Rattle.mls_lines.specs.Names.{Names}
-use Rattle.mls_cli.specs.Lines.{lines_of}
-use Rattle.mls_cli.specs.Script.{Standing, answers, after_lines}
+use Rattle.mls_monitor.specs.Journal.{IsLegal}
+use Rattle.mls_sessions.specs.Journals.{AllBelow}
+use Rattle.mls_starts.specs.Says.{SaysStart}
+use Rattle.mls_starts.specs.Ties.{Loaded}
+use Rattle.mls_scripts.specs.Feed.{ScriptFeed}
+use Rattle.mls_scripts.specs.Lines.{lines_of}
+use Rattle.mls_scripts.specs.Script.{Standing, answers, after_lines}
 
 -- The line that a script's answers stand under. (own)
 abbrev pub heading : ℕ → List ℕ
@@ -32,3 +37,17 @@ journal_text (e ∷ entries) = entry_line e ++ journal_text entries
 -- How a command says that a monitor stands at its end: how many entries it has, and that its state is secure. (own)
 abbrev pub ending : ℕ → List ℕ
 ending count = codes "entries " ++ decimal count ++ codes "\nsecure yes\n"
+
+-- What the scripts of a run in threads print, the first of these as session k: each its heading and its answers. (own)
+unfoldable pub fed_texts : ℕ → List ScriptFeed → List ℕ
+fed_texts k [] = []
+fed_texts k (f ∷ feeds) = heading k ++ f.text ++ fed_texts (k + 1) feeds
+
+-- A text is that of a journal which is legal from a start, and whose entries are all of the first n sessions. (own)
+abbrev pub IsJournalFrom : State → ℕ → List ℕ → Type 0
+IsJournalFrom start n text = (entries : List Entry) × (text ≡ journal_text entries) × IsLegal start entries × AllBelow n entries
+
+-- A text is that of a journal which is legal from the start that a start file's bytes say, and whose entries are all of the first n
+-- sessions. (own)
+abbrev pub IsJournalOf : List ℕ → ℕ → List ℕ → Type 0
+IsJournalOf bytes n text = (loaded : Loaded) × SaysStart bytes loaded × IsJournalFrom loaded.start n text

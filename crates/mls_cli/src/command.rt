@@ -20,7 +20,10 @@ pub enum CommandFault {
     /// The journal isn't one of this start, for another cause than memory.
     #[error("the journal is refused: {0}")]
     Replay(ReplayFault),
-    /// An allocation failed.
+    /// A thread couldn't be started, also for want of memory.
+    #[error("a thread couldn't be started")]
+    Thread,
+    /// An allocation failed, outside the start of a thread.
     #[error("out of memory")]
     Memory,
 }
@@ -73,6 +76,9 @@ pub fn status(fault: CommandFault) -> u8
 {
     match fault {
         CommandFault::Replay(_) => 3,
-        CommandFault::Load(_) | CommandFault::Entry { .. } | CommandFault::Memory => 1,
+        CommandFault::Load(_)
+        | CommandFault::Entry { .. }
+        | CommandFault::Thread
+        | CommandFault::Memory => 1,
     }
 }

@@ -13,6 +13,9 @@ use std::alloc::{AllocError, Global};
 /// The line that tells of an allocation that failed.
 const MEMORY_LINE: &str = "mls: memory\n";
 
+/// The line that tells of a thread that couldn't be started.
+const THREAD_LINE: &str = "mls: thread\n";
+
 /// The number and the name of a scheme's fault.
 fn scheme_words(fault: SchemeFault) -> &'static str {
     match fault {
@@ -110,6 +113,7 @@ fn fault_line(alloc: Global, fault: CommandFault, file: &str) -> Result<String, 
             format!(in alloc; "mls: {file}: line {line}: entry {fault}\n")
         }
         CommandFault::Replay(fault) => replay_line(alloc, file, fault),
+        CommandFault::Thread => String::from_str(alloc, THREAD_LINE),
         CommandFault::Memory => String::from_str(alloc, MEMORY_LINE),
     }
 }

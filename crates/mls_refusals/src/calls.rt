@@ -3,10 +3,12 @@ ghost use Rattle.std.specs.Prelude.{◌≤◌, length, All};
 
 use mls_cli::{
     CommandFault, LoadFault, Loaded, Names, RunText, SCRIPT_LIMIT, check_start, read_start,
-    replay_journal, run_serial, standard_start, status, write_fault,
+    replay_journal, run_serial, run_threads, standard_start, status, write_fault,
 };
 use mls_rules::Start;
 use std::io;
+use std::sync::Wait;
+use std::thread::Threads;
 
 /// Prints what a start has: how many subjects, objects and cells.
 fn show_start(rt: &impl Print, start: &Start) -> io::Result<()> {
@@ -121,6 +123,26 @@ pub fn ask_run(rt: &HostRuntime, file: &[u8], scripts: &[&[u8]]) -> io::Result<b
             Ok(false)
         }
         Err(fault) => show_refused(rt, "run_serial", &fault),
+    }
+}
+
+/// Runs a script over a start file, in a thread. A thread that couldn't be started counts as out of memory.
+pub fn ask_threads<R: Threads + Wait + Sync>(
+    threads: &R,
+    rt: &HostRuntime,
+    file: &[u8],
+    script: &[u8],
+) -> io::Result<bool>
+    requires { length script.now ≤ SCRIPT_LIMIT }
+{
+    match run_threads(threads, rt.alloc(), file, &[script], true) {
+        Ok(run) => {
+            let shown = show_run(rt, &run);
+            drop(run);
+            shown?;
+            Ok(false)
+        }
+        Err(fault) => Ok(show_refused(rt, "run_threads", &fault)? || fault == CommandFault::Thread),
     }
 }
 

@@ -1,15 +1,20 @@
 //! A program that makes the calls that take the global allocator, each once more where it was out of memory. `.ci/check-refusals` has
-//! always the same of its allocations refused; the first word says how many it makes before the calls, so that each of theirs has its turn.
+//! always the same of its allocations refused; the first word says how many it makes before the calls, so that each of theirs has its turn,
+//! and the second which call it makes.
 #![tactic(auto)]
 
 mod calls;
+mod office;
 
-use calls::{ask_check, ask_line, ask_read, ask_replay, ask_run, ask_standard};
+use calls::{ask_check, ask_line, ask_read, ask_replay, ask_run, ask_standard, ask_threads};
 use mls_cli::{CommandFault, LoadFault};
 use mls_rules::StartFault;
+use office::ask_office;
 use std::alloc::Global;
 use std::io;
 use std::rt::Env;
+use std::sync::Wait;
+use std::thread::Threads;
 
 /// A start file with something of each kind.
 const EACH: &[u8] =
@@ -53,21 +58,18 @@ fn write_both(rt: &HostRuntime) -> io::Result<()> {
     Ok(())
 }
 
-/// Runs the scripts, and replays their journal.
-fn run_and_replay(rt: &HostRuntime) -> io::Result<()> {
-    if ask_run(rt, WRITES, &SCRIPTS)? {
-        ask_run(rt, WRITES, &SCRIPTS)?;
-    }
-    if ask_replay(rt, WRITES, JOURNAL)? {
-        ask_replay(rt, WRITES, JOURNAL)?;
+/// Runs the first script in a thread.
+fn run_in_a_thread<R: Threads + Wait + Sync>(threads: &R, rt: &HostRuntime) -> io::Result<()> {
+    if ask_threads(threads, rt, WRITES, SCRIPTS[0])? {
+        ask_threads(threads, rt, WRITES, SCRIPTS[0])?;
     }
     Ok(())
 }
 
-/// The number in the first word, 0 where there is none.
-fn number(env: &impl Env) -> u32 {
+/// The number in a word of the command line, 0 where there is none.
+fn number(env: &impl Env, place: usize) -> u32 {
     let mut word = [0u8; 4];
-    if env.arg(1, &mut word).is_err() {
+    if env.arg(place, &mut word).is_err() {
         return 0;
     }
     let mut number = 0u32;
@@ -88,17 +90,49 @@ fn pass_over(alloc: Global, count: u32) {
     }
 }
 
+/// Asks what has to do with starts.
+fn ask_starts(rt: &HostRuntime, call: u32) -> io::Result<()> {
+    if is_wanted(call, 1) && ask_read(rt, EACH)? {
+        ask_read(rt, EACH)?;
+    }
+    if is_wanted(call, 2) && ask_standard(rt)? {
+        ask_standard(rt)?;
+    }
+    if is_wanted(call, 3) && ask_check(rt, LEAST)? {
+        ask_check(rt, LEAST)?;
+    }
+    Ok(())
+}
+
+/// Runs the scripts, and replays their journal.
+fn ask_runs(rt: &HostRuntime, call: u32) -> io::Result<()> {
+    if is_wanted(call, 5) && ask_run(rt, WRITES, &SCRIPTS)? {
+        ask_run(rt, WRITES, &SCRIPTS)?;
+    }
+    if is_wanted(call, 6) && ask_replay(rt, WRITES, JOURNAL)? {
+        ask_replay(rt, WRITES, JOURNAL)?;
+    }
+    Ok(())
+}
+
+/// Whether a call is to be made: the one that the words name, or each where they name none.
+fn is_wanted(named: u32, call: u32) -> bool {
+    named == 0 || named == call
+}
+
 fn main(rt: HostRuntime) -> io::Result<()> {
-    pass_over(rt.alloc(), number(&rt));
-    if ask_read(&rt, EACH)? {
-        ask_read(&rt, EACH)?;
+    pass_over(rt.alloc(), number(&rt, 1));
+    let call = number(&rt, 2);
+    ask_starts(&rt, call)?;
+    if is_wanted(call, 4) {
+        write_both(&rt)?;
     }
-    if ask_standard(&rt)? {
-        ask_standard(&rt)?;
+    ask_runs(&rt, call)?;
+    if is_wanted(call, 7) {
+        run_in_a_thread(&rt, &rt)?;
     }
-    if ask_check(&rt, LEAST)? {
-        ask_check(&rt, LEAST)?;
+    if is_wanted(call, 8) {
+        ask_office(&rt, &rt, WRITES)?;
     }
-    write_both(&rt)?;
-    run_and_replay(&rt)
+    Ok(())
 }

@@ -9,7 +9,7 @@ use crate::boxed_monitor::BoxedMonitor;
 use crate::closing::take_home;
 use crate::gate::FREE;
 use crate::gate_table::{Charter, GateSeat, GateTable};
-use crate::limits::MAX_SESSIONS;
+use crate::limits::{LOOKS, MAX_SESSIONS};
 use crate::office_fault::{CloseFault, OfficeFault, OfficeFaultKind};
 use crate::opening::{give_all, settle};
 use crate::session::Session;
@@ -24,6 +24,8 @@ use std::marker::Model;
 #[derive(Drop)]
 pub struct Office {
     pub(crate) table: GateTable,
+    /// How often a session looks at a held gate before it sleeps.
+    pub(crate) looks: u32,
     count: u32,
     base: u64,
 }
@@ -98,7 +100,13 @@ impl Office {
         };
         settle(&table.shared, &mut seat, boxed);
         give_all(&table.shared, &mut seat, &mut sessions, count, base);
-        Ok((Office { table, count, base }, sessions))
+        let office = Office {
+            table,
+            looks: LOOKS,
+            count,
+            base,
+        };
+        Ok((office, sessions))
     }
 
     /// The length of the journal when the office was opened. Every session's history begins with those entries.
@@ -129,6 +137,7 @@ impl Office {
         }
         let Office {
             table,
+            looks: _,
             count: _,
             base: _,
         } = self;

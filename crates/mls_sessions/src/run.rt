@@ -81,7 +81,7 @@ fn attend_all<R: Threads + Wait + Sync, F: Feed + Send + Drop>(
 
 /// Asks all feeds in the office that was opened for them, and closes it.
 #[tactic(auto, using(crate::proofs::Runs::returned_ascending, crate::proofs::Runs::grew))]
-fn run_open<R: Threads + Wait + Sync, F: Feed + Send + Drop>(
+pub fn run_open<R: Threads + Wait + Sync, F: Feed + Send + Drop>(
     rt: &R,
     opened: (Office, Vec<Session>),
     feeds: Vec<F>,

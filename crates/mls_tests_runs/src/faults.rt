@@ -7,7 +7,8 @@ use std::alloc::Global;
 /// A fault of the file `j.txt`, its line, and the status.
 type Row = (CommandFault, &'static str, u8);
 
-const ROWS: [Row; 9] = [
+const ROWS: [Row; 10] = [
+    (CommandFault::Thread, "mls: thread\n", 1),
     (
         CommandFault::Entry {
             line: 1,

@@ -6,8 +6,12 @@ mod changes;
 #[cfg(test)]
 mod faults;
 #[cfg(test)]
+mod feeds;
+#[cfg(test)]
 mod replays;
 #[cfg(test)]
 mod runs;
+#[cfg(test)]
+mod threads;
 #[cfg(test)]
 mod worked;

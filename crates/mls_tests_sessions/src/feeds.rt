@@ -80,6 +80,16 @@ fn make_feeds(alloc: Global, feeds: usize, each: u64) -> Result<Vec<Releases>, A
     Ok(all)
 }
 
+/// Feeds that ask nothing, as many as there can be beside one that asks so often.
+#[tactic(auto, using(crate::proofs::Lists::at_snoc))]
+fn make_beside(alloc: Global, each: u64) -> Result<Vec<Releases>, AllocError>
+    ensures { IfOk result (λ v. AllAt (λ f. f.stage) Stage.Ready v.items) }
+{
+    let mut all = make_feeds(alloc, MAX_SESSIONS as usize - 1, 0)?;
+    all.push(Releases::new(each))?;
+    Ok(all)
+}
+
 /// What a run left.
 #[derive(Clone, Copy, Debug, PartialEq, Eq)]
 struct Left {
@@ -154,5 +164,34 @@ fn a_run_has_one_to_sixty_four_feeds(rt: HostRuntime) -> Result<(), Fail> {
         };
         assert!(rt; run(&rt, rt.alloc(), feeds, 1)? == left);
     }
+    Ok(())
+}
+
+/// How many entries a run left in which one feed asks so often and the others nothing; none where that feed wasn't told yes so often.
+fn entries_of_one<R: Threads + Wait + Sync>(
+    rt: &R,
+    alloc: Global,
+    each: u64,
+) -> Result<usize, AllocError> {
+    let monitor = standard_monitor(alloc)?;
+    let feeds = make_beside(alloc, each)?;
+    let left = match run_sessions(rt, alloc, monitor, feeds) {
+        Ok(run) => {
+            let is_told = run.feeds.last().is_some_and(|feed| feed.yes == each);
+            let entries = run.monitor.entries().len();
+            drop(run);
+            if is_told { entries } else { 0 }
+        }
+        Err(fault) => {
+            drop(fault);
+            0
+        }
+    };
+    Ok(left)
+}
+
+#[test]
+fn one_feed_asks_much_beside_feeds_that_ask_nothing(rt: HostRuntime) -> Result<(), Fail> {
+    assert!(rt; entries_of_one(&rt, rt.alloc(), 100_000)? == 100_000);
     Ok(())
 }

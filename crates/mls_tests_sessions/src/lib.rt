@@ -4,6 +4,8 @@
 #[cfg(test)]
 mod feeds;
 #[cfg(test)]
+mod held;
+#[cfg(test)]
 mod many;
 #[cfg(test)]
 mod pair;

@@ -2,6 +2,7 @@
 ghost use Rattle.mls_sessions.specs.Sessions.{IsOf};
 
 use crate::standard::{ANN, PLANS, get, standard_monitor};
+use mls_monitor::Monitor;
 use mls_requests::Reply;
 use mls_sessions::{MAX_SESSIONS, Office, OfficeFaultKind, Session};
 use mls_tables::Mode;
@@ -56,6 +57,48 @@ fn one_session_is_never_told_busy(rt: HostRuntime) -> Result<(), Fail> {
         panic!(rt; "one session")
     };
     tries(&rt, &office, &mut only);
+    drop(office);
+    Ok(())
+}
+
+/// A monitor that has two entries; none where memory ran out.
+fn begun_monitor(alloc: Global) -> Result<Monitor, AllocError> {
+    let mut monitor = standard_monitor(alloc)?;
+    for session in [7, 9] {
+        if monitor
+            .submit(session, get(ANN, Mode::Read, PLANS))
+            .is_err()
+        {
+            drop(monitor);
+            return Err(AllocError);
+        }
+    }
+    Ok(monitor)
+}
+
+/// The only session has seen what was there before, and goes on with it.
+fn goes_on(rt: &impl Abort, office: &Office, session: &mut Session)
+    requires { IsOf office.now session.old }
+    ensures { IsOf office.now session.new }
+{
+    assert!(rt; office.base() == 2 && session.seen() == 2 && session.made() == 0);
+    assert!(rt; session.try_check(office, ANN, PLANS, Mode::Read) == Ok(true));
+    match session.try_submit(office, get(ANN, Mode::Read, PLANS)) {
+        Ok(entry) => assert!(rt; entry.number == 2 && entry.session == 0),
+        Err(_) => panic!(rt; "nobody else asks"),
+    }
+    assert!(rt; session.seen() == 3 && session.made() == 1);
+}
+
+#[test]
+fn an_office_goes_on_with_a_journal(rt: HostRuntime) -> Result<(), Fail> {
+    let Ok((office, mut sessions)) = Office::open(rt.alloc(), begun_monitor(rt.alloc())?, 1) else {
+        panic!(rt; "out of memory")
+    };
+    let Some(mut only) = sessions.pop() else {
+        panic!(rt; "one session")
+    };
+    goes_on(&rt, &office, &mut only);
     drop(office);
     Ok(())
 }

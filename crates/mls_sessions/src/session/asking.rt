@@ -9,7 +9,7 @@ use crate::gate::{named, win};
 use crate::office::Office;
 use crate::session::Session;
 use crate::try_fault::{Busy, TryFault};
-use crate::turn::{LOOKS, inspect, record, wait};
+use crate::turn::{inspect, record, wait};
 use mls_requests::{Entry, Request};
 use mls_tables::{Mode, ObjectId, SubjectId};
 use std::alloc::AllocError;
@@ -36,7 +36,7 @@ impl Session {
     {
         let gate = &office.table.shared;
         let number = self.number();
-        let monitor = wait(gate, LOOKS, rt, &mut self.seat, number);
+        let monitor = wait(gate, office.looks, rt, &mut self.seat, number);
         record(
             gate,
             &mut self.seat,
@@ -96,7 +96,7 @@ impl Session {
     {
         let gate = &office.table.shared;
         let number = self.number();
-        let taken = wait(gate, LOOKS, rt, &mut self.seat, number);
+        let taken = wait(gate, office.looks, rt, &mut self.seat, number);
         inspect(gate, &mut self.seat, &mut self.counts, taken, s, o, x)
     }
 

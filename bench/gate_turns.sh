@@ -1,0 +1,41 @@
+#!/usr/bin/env bash
+# The cost of a turn at the gate: has 1, 2 and 4 threads do nothing but submit a release, and work between two of them, through the gate
+# and under the toolchain's mutex round the same monitor (crates/mls_turns), and prints nanoseconds by the clock and of processor time a
+# turn, what a run of few turns takes taken off: the least of seven runs each, gate and mutex by turns.
+set -u
+export LC_ALL=C
+cd "$(dirname -- "$0")/.." || exit 1
+program=$PWD/crates/mls_turns/out/mls_turns
+[ -x "$program" ] || { bin/libraries mls_turns && (cd crates/mls_turns && rt run) </dev/null >/dev/null; } || exit 1
+
+python3 - "$program" <<'TIMES'
+import os, resource, subprocess, sys, time
+
+program = sys.argv[1]
+TURNS, FEW = 400_000, 4_000
+print(f"{len(os.sched_getaffinity(0))} processors; nanoseconds a turn by the clock, and of processor time")
+print("| threads | instructions between turns | gate | mutex | clock | processor time |\n|---|---|---|---|---|---|")
+
+
+def spent(how, threads, turns, rounds):
+    """Runs the program, and returns the seconds by the clock and of processor time."""
+    before, begun = resource.getrusage(resource.RUSAGE_CHILDREN), time.monotonic()
+    said = subprocess.run([program, how, *map(str, (threads, turns, rounds))], check=True, capture_output=True, text=True)
+    seconds, after = time.monotonic() - begun, resource.getrusage(resource.RUSAGE_CHILDREN)
+    assert said.stdout == f"{threads * turns} entries\n", said.stdout
+    return seconds, after.ru_utime + after.ru_stime - before.ru_utime - before.ru_stime
+
+
+for rounds, instructions in ((0, 0), (12, 100), (250, 2000)):
+    for threads in (1, 2, 4):
+        turns = TURNS // threads
+        least = {}
+        for _ in range(7):
+            for how in ("gate", "mutex"):
+                many, few = spent(how, threads, turns, rounds), spent(how, threads, FEW // threads, rounds)
+                taken = [(a - b) * 1e9 / (TURNS - FEW) for a, b in zip(many, few)]
+                least[how] = [min(pair) for pair in zip(taken, least.get(how, taken))]
+        (clock, work), (mutex_clock, mutex_work) = least["gate"], least["mutex"]
+        print(f"| {threads} | {instructions} | {clock:.0f}, {work:.0f} | {mutex_clock:.0f}, {mutex_work:.0f} "
+              f"| {clock / mutex_clock:.2f} | {work / mutex_work:.2f} |", flush=True)
+TIMES

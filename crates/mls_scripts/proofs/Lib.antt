@@ -1,0 +1,7 @@
+pub mod HalfSteps
+pub mod Kept
+pub mod LineLemmas
+pub mod Pieces
+pub mod Progress
+pub mod Runs
+pub mod Texts

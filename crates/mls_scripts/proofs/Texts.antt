@@ -1,0 +1,51 @@
+-- What a writer took of a text.
+use Rattle.std.proofs.Common.{◌≡◌, ℕ, ◌-◌, ◌≤◌, arith, List, [], ◌∷◌, ◌++◌, Option, Result, Ok, Err, length, take, drop, sym, ap, ◌∙◌, subst, append_assoc, take-append-drop}
+use Rattle.std.proofs.lemmas.Slice.{between_to_end}
+use Rattle.mls_requests.specs.declared.reason.Reason.{Reason}
+use Rattle.mls_requests.specs.declared.reason.Reason.TheVariants.{Discretionary, Simple, Star, Integrity, Authority, Compatibility, Ceiling, Root, Full}
+use Rattle.mls_requests.specs.ReasonWords.{reason_word}
+use Rattle.mls_lines.specs.declared.fault.LineFault.{LineFault}
+use Rattle.mls_lines.specs.declared.fault.LineFault.TheVariants.{BadForm, UnknownName, BadLabel}
+use Rattle.mls_lines.specs.Fault.{fault_text}
+use Rattle.mls_scripts.specs.Script.{Standing}
+use Rattle.mls_scripts.specs.Serve.{Writes, Replies}
+use Rattle.mls_scripts.specs.declared.serving.ServeFault.{ServeFault}
+use Rattle.mls_scripts.specs.declared.serving.ServeFault.TheVariants.{Read, Write, Memory, TooLong}
+
+-- what was taken from a rest joins what was taken before
+pub taken_more : (text written rest : List ℕ) (n : ℕ) → text ≡ written ++ rest → text ≡ (written ++ take n rest) ++ take (length rest - n) (drop n rest)
+taken_more text written rest n whole =
+    whole ∙ ap (λ r. written ++ r) (sym (ap (λ d. take n rest ++ d) (between_to_end rest n (length rest) (omega arith)) ∙ take-append-drop n rest)) ∙ sym (append_assoc written (take n rest) _)
+
+-- every reason's word has room in a line
+pub reason_fits : (r : Reason) → length (reason_word r) ≤ 40
+reason_fits Discretionary = omega arith
+reason_fits Simple = omega arith
+reason_fits Star = omega arith
+reason_fits Integrity = omega arith
+reason_fits Authority = omega arith
+reason_fits Compatibility = omega arith
+reason_fits Ceiling = omega arith
+reason_fits Root = omega arith
+reason_fits Full = omega arith
+
+-- every fault's text has
+pub fault_fits : (f : LineFault) → length (fault_text f) ≤ 40
+fault_fits BadForm = omega arith
+fault_fits UnknownName = omega arith
+fault_fits BadLabel = omega arith
+
+-- two words that are those of a text
+pub written_pair : {X : Type 0} (held holds : Option (List ℕ)) (first second word told : List ℕ) (result : Result X ServeFault) → first ≡ word → second ≡ told
+    → Writes held holds (first ++ 32 ∷ second ++ 10 ∷ []) result → Writes held holds (word ++ 32 ∷ told ++ 10 ∷ []) result
+written_pair held holds first second word told result same_word same_told w =
+    subst (λ f. Writes held holds (f ++ 32 ∷ told ++ 10 ∷ []) result) same_word (subst (λ s. Writes held holds (first ++ 32 ∷ s ++ 10 ∷ []) result) same_told w)
+
+-- an answer that was written, or broke off, after its line was asked
+pub written_reply : {X : Type 0} (held holds : Option (List ℕ)) (before after next : Standing) (text : List ℕ) (result : Result X ServeFault)
+    → Writes held holds text result → after ≡ next → Replies held holds before after text next result
+written_reply held holds before after next text (Ok x) w stands = (w, stands)
+written_reply held holds before after next text (Err Read) w stands = w
+written_reply held holds before after next text (Err Write) w stands = (w.0, w.1, w.2, w.3, w.4, stands)
+written_reply held holds before after next text (Err Memory) w stands = absurd w
+written_reply held holds before after next text (Err TooLong) w stands = w

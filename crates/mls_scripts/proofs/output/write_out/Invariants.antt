@@ -1,0 +1,13 @@
+use Rattle.std.proofs.Common.{◌≡◌, ℕ, ◌++◌, List, length}
+use Rattle.std.specs.Io.KnownBytes.{Appends}
+use Rattle.mls_scripts.proofs.output.write_out.Given as goal
+
+abbrev pub invariant-loop-rest : goal.invariant-loop-rest
+invariant-loop-rest g l = record {
+  written : List ℕ;
+  whole : l.text ≡ written ++ l.rest;
+  appended : Appends (g.W.Write.contents l.initial.writer) (g.W.Write.contents l.writer) written;
+}
+
+abbrev pub decreases-loop-rest : goal.decreases-loop-rest
+decreases-loop-rest g l = length l.rest

@@ -1,0 +1,6 @@
+pub mod Asking
+pub mod Feed
+pub mod Halves
+pub mod Lines
+pub mod Script
+pub mod Serve

@@ -1,0 +1,219 @@
+//! A script that is fed: it gives what it asks, one after the other, and is told the answers.
+ghost use Rattle.std.specs.Prelude.{◌≡◌, ◌<◌, ◌≤◌, ◌++◌, [], true, false, length, option_map, string_bytes, None, IfSome, IfNone, IfOk, OnOk};
+ghost use Rattle.mls_sessions.specs.declared.feed.Stage.TheVariants as stage;
+ghost use Rattle.mls_scripts.specs.Lines.{lines_of};
+ghost use Rattle.mls_scripts.specs.Halves.{next_of};
+ghost use Rattle.mls_scripts.specs.Asking.{asking};
+ghost use Rattle.mls_scripts.specs.Feed.{asking_of, GoesOn, Hears};
+
+use crate::halves::{Asking, bind_heard, hear, make_room, push_answer, take_line};
+use crate::lines::first_line;
+use mls_lines::{Names, Vars};
+use mls_requests::Ask;
+use mls_sessions::{Answer as Told, Feed, Stage};
+use std::alloc::{AllocError, Global};
+use std::marker::Model;
+
+/// Where a script halts: what it asks, where it doesn't end, and the bytes after that line.
+#[derive(Clone, Copy)]
+struct Halt<'a> {
+    asks: Option<Asking<'a>>,
+    rest: &'a [u8],
+}
+
+/// Goes over lines until one asks, and appends the answers to those on the way.
+///
+/// # Errors
+/// `AllocError` where an allocation failed.
+fn go_over<'a>(
+    names: &Names,
+    vars: &Vars,
+    bytes: &'a [u8],
+    text: &mut Vec<u8>,
+) -> Result<Halt<'a>, AllocError>
+    ensures text { OnOk result (text.new.items ≡ text.old.items ++ (next_of names.now vars.now.bound (lines_of bytes.now)).text) }
+    ensures asks { IfOk result (λ h. option_map asking h.asks ≡ (next_of names.now vars.now.bound (lines_of bytes.now)).asks) }
+    ensures rest { IfOk result (λ h. lines_of h.rest.now ≡ (next_of names.now vars.now.bound (lines_of bytes.now)).rest) }
+    ensures left { IfOk result (λ h. length h.rest.now ≤ length bytes.now) }
+    ensures less { IfOk result (λ h. IfSome h.asks (λ _. length h.rest.now < length bytes.now)) }
+{
+    let mut rest = bytes;
+    while let Some((line, more)) = first_line(rest) {
+        match take_line(names, vars, line, text) {
+            Err(_) => return Err(AllocError),
+            Ok(None) => rest = more,
+            Ok(Some(asks)) => {
+                return Ok(Halt {
+                    asks: Some(asks),
+                    rest: more,
+                });
+            }
+        }
+    }
+    Ok(Halt { asks: None, rest })
+}
+
+/// A script that is fed to a session: over the names of its start it gives what its lines ask, and keeps the answers, those to lines that
+/// ask nothing among them. Each variable that a line binds is bound by what the script was told.
+#[derive(Drop)]
+pub struct ScriptFeed<'a> {
+    names: &'a Names,
+    rest: &'a [u8],
+    vars: Vars,
+    text: Vec<u8>,
+    /// What was asked last and isn't answered yet.
+    asked: Option<Ask>,
+    /// The room for the variable that its line binds, where it has one.
+    room: Option<String>,
+    stage: Stage,
+    has_failed: bool,
+}
+
+impl<'a> Model for ScriptFeed<'a> {
+    ghost use Rattle.std.specs.Prelude.{◌<◌, option_map, string_bytes, IfSome};
+    ghost use Rattle.mls_scripts.specs.Feed.{ScriptFeed, feed_code};
+
+    ghost Value = { ScriptFeed };
+
+    ghost coded = { feed_code };
+
+    ghost view = { λ f. record {
+      names = f.names.now;
+      rest = f.rest.now;
+      vars = f.vars.bound;
+      text = f.text.items;
+      asked = f.asked;
+      binds = option_map string_bytes f.room;
+      stage = f.stage;
+      failed = f.has_failed;
+    } };
+
+    ghost invariant = { λ f. IfSome f.room (λ _. 0 < f.vars.room) };
+}
+
+impl<'a> ScriptFeed<'a> {
+    /// The feed of a script over these names, which begins with no variable bound. It doesn't allocate.
+    pub fn new(alloc: Global, names: &'a Names, script: &'a [u8]) -> ScriptFeed<'a>
+        ensures script { (result.names ≡ names.now) × (result.rest ≡ script.now) }
+        ensures fresh { (result.vars ≡ []) × (result.text ≡ []) × (result.asked ≡ None) × (result.failed ≡ false) }
+        ensures ready { result.stage ≡ stage.Ready }
+    {
+        ScriptFeed {
+            names,
+            rest: script,
+            vars: Vars::new(alloc),
+            text: Vec::new(alloc),
+            asked: None,
+            room: None,
+            stage: Stage::Ready,
+            has_failed: false,
+        }
+    }
+
+    /// The answers so far, as `serve` writes them.
+    pub fn replies(&self) -> &[u8]
+        ensures { result.now ≡ self.now.text }
+    {
+        &self.text
+    }
+
+    /// Whether an allocation failed for its answers or its variables. It then asks nothing more.
+    pub fn failed(&self) -> bool
+        ensures { result ≡ self.now.failed }
+    {
+        self.has_failed
+    }
+
+    /// Goes on to the next ask, and makes the room for the variable that its line binds.
+    fn go_on(&mut self) -> Result<Option<Ask>, AllocError>
+        ensures text { OnOk result (self.new.text ≡ self.old.text ++ (next_of self.old.names self.old.vars (lines_of self.old.rest)).text) }
+        ensures asks { IfOk result (λ given. asking_of given self.new.binds ≡ (next_of self.old.names self.old.vars (lines_of self.old.rest)).asks) }
+        ensures rest { OnOk result (lines_of self.new.rest ≡ (next_of self.old.names self.old.vars (lines_of self.old.rest)).rest) }
+        ensures asked { IfOk result (λ given. self.new.asked ≡ given) }
+        ensures some { IfOk result (λ given. IfSome given (λ _. (length self.new.rest < length self.old.rest) × (self.new.stage ≡ stage.Waiting))) }
+        ensures none { IfOk result (λ given. IfNone given (self.new.stage ≡ stage.Done)) }
+        ensures left { length self.new.rest ≤ length self.old.rest }
+        ensures same { (self.new.names ≡ self.old.names) × (self.new.vars ≡ self.old.vars) × (self.new.failed ≡ self.old.failed) }
+    {
+        self.room = None;
+        let Ok(halt) = go_over(self.names, &self.vars, self.rest, &mut self.text) else {
+            return Err(AllocError);
+        };
+        self.rest = halt.rest;
+        let Some(asks) = halt.asks else {
+            self.asked = None;
+            self.stage = Stage::Done;
+            return Ok(None);
+        };
+        self.room = make_room(&mut self.vars, asks.bind)?;
+        self.asked = Some(asks.ask);
+        self.stage = Stage::Waiting;
+        Ok(self.asked)
+    }
+}
+
+impl<'a> Feed for ScriptFeed<'a> {
+    ghost asks_left = { λ f. length f.rest };
+
+    ghost stands_at = { λ f. f.stage };
+
+    fn left(&self) -> u64 {
+        self.rest.len() as u64
+    }
+
+    fn stage(&self) -> Stage {
+        self.stage
+    }
+
+    /// What the next line asks that asks something. The answers to the lines before it are kept. Nothing comes at the end of the script,
+    /// or once an allocation failed.
+    fn next(&mut self) -> Option<Ask>
+        ensures some { IfSome result (λ _. (length self.new.rest < length self.old.rest) × (self.new.stage ≡ stage.Waiting)) }
+        ensures none { IfNone result ((length self.new.rest ≤ length self.old.rest) × (self.new.stage ≡ stage.Done)) }
+        ensures step { self.new.failed ≡ false → GoesOn self.old result self.new }
+        ensures failed { self.new.failed ≡ true → result ≡ None }
+        ensures kept { self.old.failed ≡ true → self.new.failed ≡ true }
+        ensures same { (self.new.names ≡ self.old.names) × (self.new.vars ≡ self.old.vars) }
+    {
+        if self.has_failed {
+            self.asked = None;
+            self.stage = Stage::Done;
+            return None;
+        }
+        match self.go_on() {
+            Ok(asked) => asked,
+            Err(_) => {
+                self.has_failed = true;
+                self.asked = None;
+                self.stage = Stage::Done;
+                None
+            }
+        }
+    }
+
+    /// Keeps the answer, and binds the variable of the line that asked. An answer of another kind than the ask is none.
+    fn told(&mut self, answer: &Told)
+        ensures left { length self.new.rest ≤ length self.old.rest }
+        ensures ready { self.new.stage ≡ stage.Ready }
+        ensures step { self.new.failed ≡ false → Hears self.old answer.now self.new }
+        ensures kept { self.old.failed ≡ true → self.new.failed ≡ true }
+        ensures names { self.new.names ≡ self.old.names }
+    {
+        let heard = hear(self.asked, answer);
+        let room = self.room.take();
+        bind_heard(&mut self.vars, room, &heard);
+        if push_answer(&mut self.text, heard).is_err() {
+            self.has_failed = true;
+        }
+        self.asked = None;
+        self.stage = Stage::Ready;
+    }
+
+    /// Nothing is kept and nothing bound: the script is asked nothing more.
+    fn stopped(&mut self)
+        requires { self.old.stage ≡ stage.Waiting }
+        ensures left { length self.new.rest ≤ length self.old.rest }
+        ensures waits { self.new.stage ≡ stage.Waiting }
+        ensures same { self.new ≡ self.old }
+    {}
+}

@@ -1,0 +1,16 @@
+//! What a script does with a monitor: its lines are cut out, answered, and the answers written; and what it asks when it is fed.
+#![tactic(auto)]
+
+mod answer;
+mod answering;
+mod feed;
+mod halves;
+mod laws;
+mod lines;
+mod output;
+mod served;
+mod serving;
+
+pub use feed::ScriptFeed;
+pub use laws::scripts_are_served_by_halves;
+pub use serving::{SCRIPT_LIMIT, ServeFault, serve};

@@ -1,0 +1,79 @@
+//! A session tries while another holds the gate.
+ghost use Rattle.mls_sessions.specs.Sessions.{IsOf};
+
+use crate::counts::Counts;
+use crate::gate::{named, win};
+use crate::office::Office;
+use crate::session::Session;
+use crate::tests::small::{get_read, small_monitor};
+use crate::try_fault::{Busy, TryFault};
+use crate::turn::inspect;
+use mls_requests::Reply;
+use mls_tables::{Mode, ObjectId, SubjectId};
+use std::process::Abort;
+use std::test::Fail;
+
+/// The second session is told that the gate is busy, and has seen and made what it had.
+fn is_busy(rt: &impl Abort, office: &Office, second: &mut Session)
+    requires { IsOf office.now second.old }
+    ensures { IsOf office.now second.new }
+{
+    let before = (second.made(), second.seen());
+    assert!(rt; second.try_submit(office, get_read()) == Err(TryFault::Busy));
+    assert!(rt; second.try_check(office, SubjectId(0), ObjectId(0), Mode::Read) == Err(Busy));
+    assert!(rt; (second.made(), second.seen()) == before);
+}
+
+/// The second session gets its answer.
+fn is_answered(rt: &impl Abort, office: &Office, second: &mut Session)
+    requires { IsOf office.now second.old }
+{
+    match second.try_submit(office, get_read()) {
+        Ok(entry) => assert!(rt; entry.number == 0 && entry.reply == Reply::Yes),
+        Err(_) => panic!(rt; "the gate is free"),
+    }
+    assert!(rt; second.try_check(office, SubjectId(0), ObjectId(0), Mode::Read) == Ok(true));
+    assert!(rt; second.made() == 1 && second.seen() == 1);
+}
+
+/// The first session takes the monitor out, and puts it home once the second has tried.
+fn holds_and_puts_home(rt: &impl Abort, office: &Office, first: Session, second: &mut Session)
+    requires { IsOf office.now first × IsOf office.now second.old }
+{
+    let gate = &office.table.shared;
+    let number = first.number();
+    let mut seat = first.into_seat();
+    let Ok(monitor) = win(gate, &mut seat, named(number)) else {
+        panic!(rt; "the gate is free")
+    };
+    is_busy(rt, office, second);
+    let mut counts = Counts { made: 0, seen: 0 };
+    let is_held = inspect(
+        gate,
+        &mut seat,
+        &mut counts,
+        monitor,
+        SubjectId(0),
+        ObjectId(0),
+        Mode::Read,
+    );
+    assert!(rt; !is_held && counts.seen == 0);
+    is_answered(rt, office, second);
+}
+
+#[test]
+fn a_held_gate_is_busy(rt: HostRuntime) -> Result<(), Fail> {
+    let Ok((office, mut sessions)) = Office::open(rt.alloc(), small_monitor(rt.alloc())?, 2) else {
+        panic!(rt; "out of memory")
+    };
+    let Some(mut second) = sessions.pop() else {
+        panic!(rt; "two sessions")
+    };
+    let Some(first) = sessions.pop() else {
+        panic!(rt; "two sessions")
+    };
+    holds_and_puts_home(&rt, &office, first, &mut second);
+    drop(second);
+    drop(office);
+    Ok(())
+}

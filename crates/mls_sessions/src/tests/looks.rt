@@ -1,0 +1,129 @@
+//! Sessions that look at a held gate never, once or often before they sleep: all threads come to their end.
+ghost use Rattle.std.specs.Prelude.{◌≡◌, length, vec_len, IfOk, IsTrue};
+ghost use Rattle.mls_sessions.specs.Runs.{AllAt};
+ghost use Rattle.mls_sessions.specs.Sessions.{Ascending};
+
+use crate::asked::Asked;
+use crate::feed::{Answer, Feed, Stage};
+use crate::office::Office;
+use crate::run::run_open;
+use crate::session::Session;
+use crate::tests::small::{get_read, small_monitor};
+use mls_requests::Ask;
+use std::alloc::{AllocError, Global};
+use std::sync::Wait;
+use std::test::Fail;
+use std::thread::Threads;
+
+/// Asks for the same so often.
+#[derive(Drop)]
+struct Gets {
+    left: u64,
+    stage: Stage,
+}
+
+impl Gets {
+    fn new(left: u64) -> Gets
+        ensures { result.stage ≡ Stage.Ready }
+    {
+        Gets {
+            left,
+            stage: Stage::Ready,
+        }
+    }
+}
+
+impl Feed for Gets {
+    ghost asks_left = { λ f. f.left };
+
+    ghost stands_at = { λ f. f.stage };
+
+    fn left(&self) -> u64 {
+        self.left
+    }
+
+    fn stage(&self) -> Stage {
+        self.stage
+    }
+
+    fn next(&mut self) -> Option<Ask> {
+        if self.left == 0 {
+            self.stage = Stage::Done;
+            return None;
+        }
+        self.left -= 1;
+        self.stage = Stage::Waiting;
+        Some(Ask::Submit(get_read()))
+    }
+
+    fn told(&mut self, _answer: &Answer) {
+        self.stage = Stage::Ready;
+    }
+
+    fn stopped(&mut self) {}
+}
+
+/// A feed for each of so many sessions.
+#[tactic(auto, using(crate::proofs::Laws::at_snoc))]
+fn make_feeds(alloc: Global, sessions: &[Session], each: u64) -> Result<Vec<Gets>, AllocError>
+    ensures ready { IfOk result (λ v. AllAt (λ f. f.stage) Stage.Ready v.items) }
+    ensures count { IfOk result (λ v. vec_len v ≡ length sessions.now) }
+{
+    let mut all = Vec::new(alloc);
+    for _session in sessions {
+        all.push(Gets::new(each))?;
+    }
+    Ok(all)
+}
+
+/// The same office, whose sessions look so often.
+fn looking(mut office: Office, looks: u32) -> Office
+    ensures { result ≡ office }
+{
+    office.looks = looks;
+    office
+}
+
+/// Asks all feeds, and says how many entries that left; none where a feed wasn't asked to its end.
+fn ask_all<R: Threads + Wait + Sync>(
+    rt: &R,
+    alloc: Global,
+    opened: (Office, Vec<Session>),
+    feeds: Vec<Gets>,
+) -> Result<usize, AllocError>
+    requires sessions { Ascending opened.0 0 opened.1.items }
+    requires ready { AllAt (λ f. f.stage) Stage.Ready feeds.items }
+    requires counts { (vec_len feeds ≡ vec_len opened.1) × (vec_len opened.1 ≡ opened.0.charter.count) }
+{
+    let back = Vec::with_capacity(alloc, feeds.len())?;
+    let fed = Vec::with_capacity(alloc, feeds.len())?;
+    let (monitor, feeds, asked) = run_open(rt, opened, feeds, back, fed);
+    let count = monitor.entries().len();
+    drop(monitor);
+    drop(feeds);
+    Ok(if asked == Asked::ToTheEnd { count } else { 0 })
+}
+
+/// Has so many sessions that look so often each ask so often, and says how many entries that left.
+fn entries_left<R: Threads + Wait + Sync>(
+    rt: &R,
+    alloc: Global,
+    looks: u32,
+    count: u16,
+    each: u64,
+) -> Result<usize, AllocError> {
+    let Ok((office, sessions)) = Office::open(alloc, small_monitor(alloc)?, count) else {
+        return Err(AllocError);
+    };
+    let feeds = make_feeds(alloc, &sessions, each)?;
+    ask_all(rt, alloc, (looking(office, looks), sessions), feeds)
+}
+
+#[test]
+fn waits_end_however_often_they_look(rt: HostRuntime) -> Result<(), Fail> {
+    for looks in [0, 1, 10_000] {
+        assert!(rt; entries_left(&rt, rt.alloc(), looks, 4, 1000)? == 4000);
+        assert!(rt; entries_left(&rt, rt.alloc(), looks, 64, 50)? == 3200);
+    }
+    Ok(())
+}

@@ -1,0 +1,37 @@
+//! A start that tests open a monitor over.
+use mls_builder::{Start, StartBuilder};
+use mls_labels::{Bounds, CatSet, IntLabel, Label, SecLabel};
+use mls_monitor::Monitor;
+use mls_requests::{Action, Request};
+use mls_tables::{Mode, ObjectId, SubjectId};
+use std::alloc::{AllocError, Global};
+
+/// A start with one subject, which may read the root.
+fn small_start(alloc: Global) -> Result<Start, AllocError> {
+    let label = Label::new(0, CatSet::empty());
+    let (security, integrity) = (SecLabel::of(label), IntLabel::of(label));
+    let bounds = Bounds::new(1, 0);
+    let mut builder = StartBuilder::new(alloc, bounds, bounds, security, integrity);
+    builder.subject(security, security, integrity, false)?;
+    builder.allow(SubjectId(0), ObjectId(0), Mode::Read)?;
+    match builder.build() {
+        Ok(start) => Ok(start),
+        Err(_) => Err(AllocError),
+    }
+}
+
+/// A monitor over it.
+pub fn small_monitor(alloc: Global) -> Result<Monitor, AllocError> {
+    match Monitor::open(alloc, small_start(alloc)?) {
+        Ok(monitor) => Ok(monitor),
+        Err(_) => Err(AllocError),
+    }
+}
+
+/// That subject asks to read the root.
+pub fn get_read() -> Request {
+    Request {
+        subject: SubjectId(0),
+        action: Action::Get(Mode::Read, ObjectId(0)),
+    }
+}
