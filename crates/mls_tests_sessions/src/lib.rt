@@ -6,6 +6,8 @@ mod feeds;
 #[cfg(test)]
 mod held;
 #[cfg(test)]
+mod kept;
+#[cfg(test)]
 mod many;
 #[cfg(test)]
 mod pair;
