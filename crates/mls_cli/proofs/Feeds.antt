@@ -10,7 +10,8 @@ use Rattle.mls_sessions.specs.Journals.{AllBelow}
 use Rattle.mls_sessions.specs.Runs.{Grew}
 use Rattle.mls_starts.specs.Says.{SaysStart}
 use Rattle.mls_starts.specs.Ties.{Loaded}
-use Rattle.mls_cli.specs.Run.{heading, fed_texts, journal_text, IsJournalFrom, IsJournalOf}
+use Rattle.mls_journal.specs.EntryText.{journal_text}
+use Rattle.mls_cli.specs.Run.{heading, fed_texts, IsJournalFrom, IsJournalOf}
 
 -- no feed prints nothing
 pub fed_none : (k : ℕ) → fed_texts k [] ≡ []

@@ -4,7 +4,8 @@ ghost use Rattle.mls_sessions.specs.declared.feed.Stage.TheVariants as stage;
 ghost use Rattle.mls_monitor.specs.Journal.{IsLegal};
 ghost use Rattle.mls_sessions.specs.Runs.{AllAt};
 ghost use Rattle.mls_cli.specs.Commands.{run_fault};
-ghost use Rattle.mls_cli.specs.Run.{journal_text, ending, fed_texts, IsJournalFrom, IsJournalOf};
+ghost use Rattle.mls_journal.specs.EntryText.{journal_text};
+ghost use Rattle.mls_cli.specs.Run.{ending, fed_texts, IsJournalFrom, IsJournalOf};
 
 use crate::command::CommandFault;
 use crate::running::{MAX_SCRIPTS, RunText, push_ending, push_heading, with_journal};
