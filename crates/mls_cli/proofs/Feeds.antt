@@ -1,10 +1,9 @@
 -- Feeds in their order, and what they print.
-use Rattle.std.proofs.Common.{◌≡◌, ◌<◌, ◌+◌, ℕ, suc, take, length, get_or, List, [], ◌∷◌, ◌++◌, refl, sym, ap, ◌∙◌, arith, subst, Option, Some, None, IfSome, IfOk, Result, Ok, Err, drop}
+use Rattle.std.proofs.Common.{◌≡◌, ◌<◌, ◌+◌, ℕ, take, length, get_or, List, [], ◌∷◌, ◌++◌, refl, sym, ap, ◌∙◌, arith, subst, Option, Some, None, IfSome, IfOk, Result, Ok, Err, drop}
 use Rattle.std.proofs.lemmas.List.{append_assoc, append-nil, take_more, length-take-le}
 pub use Rattle.mls_sessions.proofs.Laws.{at_snoc}
 use Rattle.mls_scripts.specs.Feed.{ScriptFeed}
 use Rattle.mls_state.specs.State.{State}
-use Rattle.mls_requests.specs.declared.entry.Entry.{Entry}
 use Rattle.mls_monitor.specs.Journal.{Monitor, IsLegal}
 use Rattle.mls_sessions.specs.Journals.{AllBelow}
 use Rattle.mls_sessions.specs.Runs.{Grew}

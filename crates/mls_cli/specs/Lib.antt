@@ -1,2 +1,3 @@
 pub mod Commands
+pub mod Replayed
 pub mod Run

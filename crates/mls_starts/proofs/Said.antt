@@ -14,6 +14,7 @@ use Rattle.mls_starts.specs.Loading.{refused_by, needing, start_of, start_labell
 use Rattle.mls_starts.specs.Looking.{IsReadAs}
 use Rattle.mls_starts.specs.Naming.{schemes_fault, names_fit, names_fault, names_of}
 use Rattle.mls_starts.specs.Placing.{rows_of}
+use Rattle.mls_starts.specs.Says.{RefusesStart}
 use Rattle.mls_starts.specs.Texts.{SaidFile, file_of}
 use Rattle.mls_starts.specs.Ties.{Loaded}
 use Rattle.mls_starts.specs.declared.load_fault.LoadFault.{LoadFault}
@@ -67,6 +68,24 @@ at_err (Err fault) not is = let same : fault ≡ Json = cc in not same
 -- what a tree says is never that it isn't JSON
 pub not_json : (d : Data) → load_of d ≡ Err Json → ⊥
 not_json d = at_err (load_of d) (load_not d)
+
+-- bytes that are read as a tree that is refused are refused
+tree_refuses : (bytes : List ℕ) (d : Data) (fault : LoadFault) → IsReadAs bytes d → (fault ≢ Memory → load_of d ≡ Err fault) → fault ≢ Memory
+    → RefusesStart bytes fault
+tree_refuses bytes d Json read why other = absurd (not_json d (why other))
+tree_refuses bytes d Members read why other = (d, read, why other)
+tree_refuses bytes d (Scheme cause) read why other = (d, read, why other)
+tree_refuses bytes d Name read why other = (d, read, why other)
+tree_refuses bytes d Label read why other = (d, read, why other)
+tree_refuses bytes d Unknown read why other = (d, read, why other)
+tree_refuses bytes d (Start cause) read why other = (d, read, why other)
+tree_refuses bytes d Memory read why other = other refl
+
+-- so is a load of them
+pub load_refuses : (bytes : List ℕ) (d : Data) (result : Result Loaded LoadFault) → IsReadAs bytes d
+    → IfErr result (λ fault. fault ≢ Memory → load_of d ≡ Err fault) → IfErr result (λ fault. fault ≢ Memory → RefusesStart bytes fault)
+load_refuses bytes d (Ok loaded) read why = tt
+load_refuses bytes d (Err fault) read why = tree_refuses bytes d fault read why
 
 -- bytes are read as one tree
 pub one_tree : (bytes : List ℕ) (d e : Data) → IsReadAs bytes d → IsReadAs bytes e → d ≡ e

@@ -8,6 +8,7 @@ ghost use Rattle.mls_starts.specs.LabelViews.{labels_view};
 ghost use Rattle.mls_starts.specs.Loading.{start_labelled, start_named, load_of_file, load_of};
 ghost use Rattle.mls_starts.specs.NameViews.{names_view};
 ghost use Rattle.mls_starts.specs.Looking.{IsReadAs};
+ghost use Rattle.mls_starts.specs.Says.{RefusesStart};
 ghost use Rattle.mls_starts.specs.Ties.{AreTied};
 ghost use Rattle.mls_starts.specs.Views.{file_view};
 
@@ -106,6 +107,7 @@ pub fn read_start(alloc: Global, bytes: &[u8]) -> Result<Loaded, LoadFault>
     ensures ok { IfOk result (λ loaded. (d : Data) × IsReadAs bytes.now d × (load_of d ≡ Ok loaded)) }
     ensures json { result ≡ Err LoadFault.Json → (d : Data) → ¬ IsReadAs bytes.now d }
     ensures fault { IfErr result (λ fault. fault ≢ LoadFault.Memory → fault ≢ LoadFault.Json → (d : Data) × IsReadAs bytes.now d × (load_of d ≡ Err fault)) }
+    ensures refused { IfErr result (λ fault. fault ≢ LoadFault.Memory → RefusesStart bytes.now fault) }
     ensures read { (d : Data) → IsReadAs bytes.now d → result ≢ Err LoadFault.Memory → result ≡ load_of d }
     ensures unread { ((d : Data) → ¬ IsReadAs bytes.now d) → result ≢ Err LoadFault.Memory → result ≡ Err LoadFault.Json }
 {

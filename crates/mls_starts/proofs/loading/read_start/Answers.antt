@@ -4,7 +4,7 @@ use Rattle.serde_json.specs.View.{view}
 use Rattle.mls_starts.specs.Loading.{load_of}
 use Rattle.mls_starts.specs.declared.load_fault.LoadFault.{LoadFault}
 use Rattle.mls_starts.specs.declared.load_fault.LoadFault.TheVariants.{Memory}
-use Rattle.mls_starts.proofs.Said.{not_json}
+use Rattle.mls_starts.proofs.Said.{load_refuses, not_json}
 use Rattle.mls_starts.proofs.loading.read_start.Goals as goal
 
 pub returns-clause-json : goal.returns-clause-json
@@ -13,3 +13,6 @@ returns-clause-json c = λ is d read.
 
 pub returns-clause-unread : goal.returns-clause-unread
 returns-clause-unread c = λ none other. absurd (none (view c.in_ok-tree.tree) c.in_ok-tree.ensures.ok)
+
+pub returns-clause-refused : goal.returns-clause-refused
+returns-clause-refused c = load_refuses c.args.bytes.now (view c.in_ok-tree.tree) c.load_tree-loaded.result c.in_ok-tree.ensures.ok c.load_tree-loaded.ensures.fault
