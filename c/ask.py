@@ -1,5 +1,5 @@
 #!/usr/bin/env python3
-"""Uses the library from Python, by ctypes: a monitor is opened and asked, and its journal printed.
+"""Uses the library from Python, by ctypes: a monitor is opened and asked, and its journal is printed, kept and resumed.
 
     ask.py LIBRARY START
 """
@@ -32,14 +32,15 @@ GET, RELEASE, READ = 0, 1, 1
 
 
 class Monitor:
-    """A monitor of a start."""
+    """A monitor of a start, with the entries of a journal's text."""
 
-    def __init__(self, library, start):
+    def __init__(self, library, start, journal=b""):
         self.library = ctypes.CDLL(library)
         self.library.mls_entries.restype = ctypes.c_uint64
         self.handle = Handle()
         fault = Fault()
-        status = self.library.mls_open(ctypes.byref(self.handle), start, ctypes.c_size_t(len(start)), ctypes.byref(fault))
+        status = self.library.mls_resume(ctypes.byref(self.handle), start, ctypes.c_size_t(len(start)), journal,
+                                         ctypes.c_size_t(len(journal)), ctypes.byref(fault))
         if status:
             raise ValueError(f"status {status}: {fault.kind} {fault.number} at {fault.place}")
 
@@ -84,12 +85,18 @@ def main(library, start):
     print("ann reads plans:", monitor.submit(7, GET, ann, READ, plans), monitor.check(ann, plans, READ))
     print("bob reads plans:", monitor.submit(8, GET, bob, READ, plans), monitor.check(bob, plans, READ))
     print("ann releases plans:", monitor.submit(7, RELEASE, ann, READ, plans), monitor.check(ann, plans, READ))
-    sys.stdout.write(monitor.journal().decode())
+    kept = monitor.journal()
+    sys.stdout.write(kept.decode())
     monitor.close()
-    try:
-        Monitor(library, b"{}")
-    except ValueError as fault:
-        print("another start:", fault)
+    resumed = Monitor(library, start, kept)
+    print("ann reads plans again:", resumed.submit(7, GET, ann, READ, plans), resumed.check(ann, plans, READ))
+    sys.stdout.write(resumed.line(3).decode())
+    resumed.close()
+    for what, other, journal in ("another start", b"{}", kept), ("another journal", start, kept.replace(b"discretionary", b"star")):
+        try:
+            Monitor(library, other, journal)
+        except ValueError as fault:
+            print(f"{what}: {fault}")
 
 
 if __name__ == "__main__":

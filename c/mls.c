@@ -13,6 +13,7 @@ static char nowhere;
 static char *room(char *at, size_t cap) { return at || cap ? at : &nowhere; }
 
 int mls_open_bytes(mls_t *m, const uint8_t *start, size_t len, mls_fault_t *fault);
+int mls_resume_bytes(mls_t *m, const uint8_t *start, size_t len, const uint8_t *journal, size_t journal_len, mls_fault_t *fault);
 int mls_entry_bytes(mls_t *m, uint64_t n, char *buf, size_t cap, size_t *len);
 int mls_subject_bytes(mls_t *m, const uint8_t *name, size_t len, uint16_t *subject);
 int mls_object_bytes(mls_t *m, const uint8_t *name, size_t len, uint16_t *object);
@@ -21,6 +22,10 @@ int mls_write_label_bytes(mls_t *m, uint32_t kind, const mls_label_t *label, cha
 
 int mls_open(mls_t *m, const uint8_t *start, size_t len, mls_fault_t *fault) {
     return mls_open_bytes(m, bytes(start, len), len, fault);
+}
+
+int mls_resume(mls_t *m, const uint8_t *start, size_t len, const uint8_t *journal, size_t journal_len, mls_fault_t *fault) {
+    return mls_resume_bytes(m, bytes(start, len), len, bytes(journal, journal_len), journal_len, fault);
 }
 
 int mls_entry_text(mls_t *m, uint64_t n, char *buf, size_t cap, size_t *len) {

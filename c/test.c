@@ -1,5 +1,5 @@
 /* Tests the library from C: each call and each status, a handle closed twice and used after, each allocation refused in turn,
- * many submits, and the text of a journal.
+ * many submits, the text of a journal, and a journal that is resumed.
  *
  *     test START [SUBMITS]
  *
@@ -339,6 +339,71 @@ static void refused_openings(void) {
     }
 }
 
+/* Resumes a closed handle from the standard start and a journal that is refused: the handle stays closed. */
+static void refused_journal(const char *text, int status, uint16_t kind, uint16_t number, uint64_t place) {
+    mls_t m = MLS_INIT;
+    mls_fault_t f = no_fault;
+    CHECK(mls_resume(&m, start, start_len, (const uint8_t *)text, strlen(text), &f) == status);
+    CHECK(f.kind == kind && f.number == number && f.place == place);
+    is_closed(&m);
+}
+
+static void refused_journals(void) {
+    refused_journal("0 5 0 get-read 1 yes\n\n", MLS_EJOURNAL, 1, 0, 1);
+    refused_journal("0 5 0 get-read 1 yes\n1 5 1 get-read 2 no star", MLS_EJOURNAL, 1, 0, 1);
+    refused_journal("\xff 5 0 get-read 1 yes\n", MLS_EJOURNAL, 1, 0, 0);
+    refused_journal("00 5 0 get-read 1 yes\n", MLS_EJOURNAL, 2, 0, 0);
+    refused_journal("0 5 0 level 1:2,1 yes\n", MLS_EJOURNAL, 3, 0, 0);
+    refused_journal("0 5 0 get-read 1 yes\r\n", MLS_EJOURNAL, 4, 0, 0);
+    refused_journal("0 5 0 get-read 1 yes\n0 5 0 get-read 1 yes\n", MLS_EREPLAY, 1, 0, 1);
+    refused_journal("0 5 0 get-read 1 no star\n", MLS_EREPLAY, 2, MLS_YES, 0);
+    refused_journal("0 5 0 get-read 1 yes\n1 5 1 get-read 2 yes\n", MLS_EREPLAY, 2, MLS_DENIED + MLS_STAR, 1);
+    /* a line that is refused comes before an entry that is wrong */
+    refused_journal("0 5 0 get-read 1 no star\nx\n", MLS_EJOURNAL, 1, 0, 1);
+}
+
+static void resuming(void) {
+    mls_t m = MLS_INIT;
+    mls_fault_t f = no_fault;
+    const char *kept = "0 5 0 get-read 1 yes\n1 5 1 get-read 2 no star\n";
+    size_t len;
+    char *text;
+    CHECK(mls_resume(&m, NULL, 0, (const uint8_t *)"x", 1, &f) == MLS_ESTART && f.kind == 1 && m.held == 0);
+    f = no_fault;
+    CHECK(mls_resume(&m, start, start_len, (const uint8_t *)kept, strlen(kept), &f) == MLS_OK && same_fault(&f, &no_fault));
+    CHECK(mls_entries(&m) == 2 && mls_check(&m, ANN, PLANS, MLS_READ) == 1 && mls_check(&m, BOB, MEMO, MLS_READ) == 0);
+    CHECK(asked(&m, request(MLS_RELEASE, ANN, MLS_READ, PLANS)) == MLS_YES);
+    text = journal_of(&m, &len);
+    CHECK(len > strlen(kept) && memcmp(text, kept, strlen(kept)) == 0);
+    CHECK(mls_resume(&m, start, start_len, NULL, 0, &f) == MLS_EOPEN && same_fault(&f, &no_fault) && mls_entries(&m) == 3);
+    mls_close(&m);
+    CHECK(mls_resume(&m, start, start_len, (const uint8_t *)text, len, &f) == MLS_OK);
+    CHECK(mls_entries(&m) == 3 && mls_check(&m, ANN, PLANS, MLS_READ) == 0);
+    mls_close(&m);
+    CHECK(mls_resume(&m, start, start_len, NULL, 0, &f) == MLS_OK && mls_entries(&m) == 0);
+    mls_close(&m);
+    free(text);
+}
+
+/* Each allocation of resuming is refused in turn: the handle stays closed and nothing leaks. */
+static void refused_resumings(void) {
+    const char *kept = "0 5 0 get-read 1 yes\n1 5 1 get-read 2 no star\n";
+    long k, before = live;
+    int status = MLS_ENOMEM;
+    for (k = 0; status != MLS_OK && k < 10000; k++) {
+        mls_t m = MLS_INIT;
+        mls_fault_t f = no_fault;
+        left = k;
+        status = mls_resume(&m, start, start_len, (const uint8_t *)kept, strlen(kept), &f);
+        left = -1;
+        CHECK(status == MLS_OK || (status == MLS_ENOMEM && m.held == 0));
+        CHECK(same_fault(&f, &no_fault));
+        if (status == MLS_OK) CHECK(mls_entries(&m) == 2 && k > 20);
+        mls_close(&m);
+        CHECK(live == before);
+    }
+}
+
 /* Each submit is refused its memory once: nothing changes, and the same submit again is answered. */
 static void refused_submits(void) {
     mls_t m = MLS_INIT;
@@ -409,7 +474,10 @@ int main(int argc, char **argv) {
     tell("bad numbers", bad_numbers);
     tell("names and labels", names_and_labels);
     tell("the text of a journal", keeping);
+    tell("resuming", resuming);
+    tell("journals that are refused", refused_journals);
     tell("openings without memory", refused_openings);
+    tell("resuming without memory", refused_resumings);
     tell("submits without memory", refused_submits);
     tell("many submits", many_submits);
     tell("words", words);

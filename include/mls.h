@@ -30,6 +30,8 @@ enum {
     MLS_ENOMEM = -3,    /* an allocation failed */
     MLS_EINVAL = -4,    /* the numbers are no request, no label or no kind of labels, or the text is no label */
     MLS_ESTART = -5,    /* the start is refused: the fault says why */
+    MLS_EJOURNAL = -6,  /* a line of the journal is no entry's: the fault says which and why */
+    MLS_EREPLAY = -7,   /* the journal isn't one of its start: the fault says where and why */
     MLS_ERANGE = -8,    /* the buffer is too short */
     MLS_ENOTFOUND = -9  /* no such entry, or no such name */
 };
@@ -105,6 +107,11 @@ typedef struct {
 /* Opens a closed handle from the bytes of a start file, with an empty journal.
  * MLS_EOPEN, MLS_ESTART, MLS_ENOMEM. The fault is written where the status is MLS_ESTART, and else left alone. */
 int mls_open(mls_t *m, const uint8_t *start, size_t len, mls_fault_t *fault);
+
+/* Opens a closed handle from the bytes of a start file and the text of a journal, whose numbers and replies are computed anew.
+ * The first fault decides: of the start, then of the journal's lines, then of the entries. MLS_EOPEN, MLS_ESTART,
+ * MLS_EJOURNAL, MLS_EREPLAY, MLS_ENOMEM. The fault is written where the start or the journal is refused, and else left alone. */
+int mls_resume(mls_t *m, const uint8_t *start, size_t len, const uint8_t *journal, size_t journal_len, mls_fault_t *fault);
 
 /* Answers a request by the rules, changes the state as they say, and adds just its entry to the journal. The session is
  * written into the entry and means nothing else. MLS_ECLOSED, MLS_EINVAL, MLS_ENOMEM; nothing is changed or written then. */

@@ -1,5 +1,6 @@
 pub mod Blocks
 pub mod Openings
 pub mod Pointers
+pub mod Resumings
 pub mod Utf8
 pub mod Words

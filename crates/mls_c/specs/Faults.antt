@@ -1,15 +1,12 @@
 -- Why a start or a journal is refused, in numbers.
-use Rattle.std.specs.Prelude.{◌≡◌, ℕ, ℤ, ◌⊎◌, List, [], Option, Some, None, Err}
-use Rattle.serde_json.specs.Data.{Data}
+use Rattle.std.specs.Prelude.{◌≡◌, ℕ, ℤ, ◌⊎◌, List, [], Option, Some, None}
 use Rattle.mls_labels.specs.declared.scheme_fault.SchemeFault.{SchemeFault}
 use Rattle.mls_labels.specs.declared.scheme_fault.SchemeFault.TheVariants as scheme
 use Rattle.mls_builder.specs.declared.start_fault.StartFault.{StartFault}
 use Rattle.mls_builder.specs.declared.start_fault.StartFault.TheVariants as rows
 use Rattle.mls_starts.specs.declared.load_fault.LoadFault.{LoadFault}
 use Rattle.mls_starts.specs.declared.load_fault.LoadFault.TheVariants.{Json, Members, Scheme, Name, Label, Unknown, Start, Memory}
-use Rattle.mls_starts.specs.Loading.{load_of}
-use Rattle.mls_starts.specs.Looking.{IsReadAs}
-use Rattle.mls_starts.specs.Says.{SaysStart}
+use Rattle.mls_starts.specs.Says.{SaysStart, RefusesStart}
 use Rattle.mls_starts.specs.Ties.{Loaded}
 use Rattle.mls_c.specs.Opened.{Opened, opened_with}
 use Rattle.mls_c.specs.declared.fault.FaultNumbers.{FaultNumbers}
@@ -46,17 +43,6 @@ start_fault_numbers Label = record { kind = 5; number = 0; place = 0 }
 start_fault_numbers Unknown = record { kind = 6; number = 0; place = 0 }
 start_fault_numbers (Start cause) = record { kind = 7; number = number_of_start_fault cause; place = 0 }
 start_fault_numbers Memory = record { kind = 8; number = 0; place = 0 }
-
--- The bytes are refused as a start file for this fault: they are no JSON, or what they are read as has it. (own)
-abbrev pub RefusesStart : List ℕ → LoadFault → Type 0
-RefusesStart bytes Json = (d : Data) → ¬ IsReadAs bytes d
-RefusesStart bytes Members = (d : Data) × IsReadAs bytes d × (load_of d ≡ Err Members)
-RefusesStart bytes (Scheme cause) = (d : Data) × IsReadAs bytes d × (load_of d ≡ Err (Scheme cause))
-RefusesStart bytes Name = (d : Data) × IsReadAs bytes d × (load_of d ≡ Err Name)
-RefusesStart bytes Label = (d : Data) × IsReadAs bytes d × (load_of d ≡ Err Label)
-RefusesStart bytes Unknown = (d : Data) × IsReadAs bytes d × (load_of d ≡ Err Unknown)
-RefusesStart bytes (Start cause) = (d : Data) × IsReadAs bytes d × (load_of d ≡ Err (Start cause))
-RefusesStart bytes Memory = ⊥
 
 -- The bytes are refused as a start file for a fault of these numbers. (own)
 abbrev pub HasStartFault : List ℕ → FaultNumbers → Type 0

@@ -4,4 +4,5 @@ pub mod Handle
 pub mod Labels
 pub mod Opened
 pub mod Requests
+pub mod Resumed
 pub mod Texts

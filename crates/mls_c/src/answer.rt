@@ -44,7 +44,7 @@ fn number_of_reason(reason: Reason) -> u16
 }
 
 /// The number of a reply.
-fn number_of_reply(reply: &Reply) -> u16
+pub(crate) fn number_of_reply(reply: &Reply) -> u16
     ensures { result ≡ number_of_reply reply.now }
 {
     match reply {

@@ -1,8 +1,10 @@
 //! Why a start or a journal is refused, in numbers.
 ghost use Rattle.std.specs.Prelude.{◌≡◌};
 ghost use Rattle.mls_c.specs.Faults.{number_of_scheme_fault, number_of_start_fault, start_fault_numbers};
+ghost use Rattle.mls_c.specs.Resumed.{number_of_entry_fault, line_fault_numbers};
 
 use mls_builder::StartFault;
+use mls_journal::EntryFault;
 use mls_labels::SchemeFault;
 use mls_starts::LoadFault;
 
@@ -46,6 +48,18 @@ fn number_of_start_fault(fault: StartFault) -> u16
     }
 }
 
+/// The number of the fault of a journal's line.
+fn number_of_entry_fault(fault: EntryFault) -> u16
+    ensures { result ≡ number_of_entry_fault fault }
+{
+    match fault {
+        EntryFault::BadForm => 1,
+        EntryFault::BadNumber => 2,
+        EntryFault::BadLabel => 3,
+        EntryFault::BadReply => 4,
+    }
+}
+
 impl FaultNumbers {
     /// A start file's fault in numbers.
     pub(crate) fn of_start(fault: LoadFault) -> FaultNumbers
@@ -65,6 +79,17 @@ impl FaultNumbers {
             kind,
             number,
             place: 0,
+        }
+    }
+
+    /// The fault of the line of a journal that stands after so many others, in numbers.
+    pub(crate) fn of_line(place: u64, fault: EntryFault) -> FaultNumbers
+        ensures { result ≡ line_fault_numbers place fault }
+    {
+        FaultNumbers {
+            kind: number_of_entry_fault(fault),
+            number: 0,
+            place,
         }
     }
 }

@@ -15,6 +15,8 @@ mod names;
 mod opened;
 mod opening;
 mod request;
+mod resume_fault;
+mod resuming;
 mod status;
 mod text;
 
@@ -31,3 +33,4 @@ pub use names::{mls_object_bytes, mls_subject_bytes};
 pub use opened::Opened;
 pub use opening::mls_open_bytes;
 pub use request::RequestNumbers;
+pub use resuming::mls_resume_bytes;

@@ -1,6 +1,7 @@
 //! Opening a monitor from a start file.
 ghost use Rattle.std.specs.Prelude.{◌≡◌, ◌≢◌, [], Some, IfOk, IfErr};
-ghost use Rattle.mls_c.specs.Faults.{RefusesStart, HasStartFault, Opens, OpenStatus};
+ghost use Rattle.mls_starts.specs.Says.{SaysStart, RefusesStart};
+ghost use Rattle.mls_c.specs.Faults.{HasStartFault, Opens, OpenStatus};
 ghost use Rattle.mls_c.specs.Opened.{opened_with};
 ghost use Rattle.mls_c.specs.declared.status.TheConstants.{OK, ESTART};
 
@@ -11,6 +12,14 @@ use crate::status::{ENOMEM, EOPEN, ESTART, OK};
 use mls_monitor::Monitor;
 use mls_starts::{LoadFault, Loaded, read_start};
 use std::alloc::{AllocError, Global};
+
+/// The start that the bytes of a start file say, with its names.
+pub(crate) fn load(alloc: Global, start: &[u8]) -> Result<Loaded, LoadFault>
+    ensures ok { IfOk result (λ loaded. SaysStart start.now loaded) }
+    ensures fault { IfErr result (λ fault. fault ≢ LoadFault.Memory → RefusesStart start.now fault) }
+{
+    read_start(alloc, start)
+}
 
 /// Boxes an open monitor.
 pub(crate) fn boxed(alloc: Global, opened: Opened) -> Result<Box<Opened, Global>, AllocError>
@@ -38,7 +47,7 @@ fn open_bytes(alloc: Global, start: &[u8]) -> Result<Box<Opened, Global>, LoadFa
     ensures ok { IfOk result (λ b. Opens start.now (Some b.value)) }
     ensures fault { IfErr result (λ fault. fault ≢ LoadFault.Memory → RefusesStart start.now fault) }
 {
-    let loaded = read_start(alloc, start)?;
+    let loaded = load(alloc, start)?;
     Ok(open_loaded(alloc, loaded)?)
 }
 
