@@ -1,3 +1,4 @@
 pub mod Feeds
 pub mod JournalTexts
 pub mod Replayings
+pub mod Starts

@@ -1,3 +1,4 @@
+pub mod Checked
 pub mod Commands
 pub mod Replayed
 pub mod Run

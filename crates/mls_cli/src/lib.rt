@@ -7,6 +7,7 @@ mod ending;
 mod fault_line;
 mod replaying;
 mod running;
+mod start_file;
 mod threading;
 
 pub use checking::{START_LIMIT, check_start};
