@@ -27,7 +27,10 @@ pub(crate) fn boxed(alloc: Global, opened: Opened) -> Result<Box<Opened, Global>
 {
     match Box::new(alloc, opened) {
         Ok(opened) => Ok(opened),
-        Err(_) => Err(AllocError),
+        Err(refused) => {
+            drop(refused);
+            Err(AllocError)
+        }
     }
 }
 
@@ -38,7 +41,11 @@ fn open_loaded(alloc: Global, loaded: Loaded) -> Result<Box<Opened, Global>, All
     let (names, start) = loaded.into_parts();
     match Monitor::open(alloc, start) {
         Ok(monitor) => boxed(alloc, Opened::of(names, monitor)),
-        Err(_) => Err(AllocError),
+        Err(refused) => {
+            drop(refused);
+            drop(names);
+            Err(AllocError)
+        }
     }
 }
 
