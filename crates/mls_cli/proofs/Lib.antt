@@ -1,4 +1,5 @@
 pub mod Feeds
 pub mod JournalTexts
 pub mod Replayings
+pub mod Runs
 pub mod Starts

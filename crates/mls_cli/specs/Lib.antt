@@ -1,4 +1,5 @@
 pub mod Checked
 pub mod Commands
+pub mod FaultLines
 pub mod Replayed
 pub mod Run

@@ -1,5 +1,5 @@
--- What a script of a run prints, and the journal that it leaves.
-use Rattle.std.specs.Prelude.{◌≡◌, ℕ, ◌+◌, List, [], ◌∷◌, ◌++◌, codes}
+-- What the scripts of a run print, and the journal that they leave.
+use Rattle.std.specs.Prelude.{◌≡◌, ℕ, ◌+◌, ◌-◌, ◌^◌, min, Bool, List, [], ◌∷◌, ◌++◌, length, codes, Option, Some, None, if◌then◌else◌}
 use Rattle.std.specs.Fmt.{decimal}
 use Rattle.mls_state.specs.State.{State}
 use Rattle.mls_requests.specs.declared.entry.Entry.{Entry}
@@ -32,6 +32,38 @@ script_text names session start entries script = heading session ++ answers name
 -- How a command says that a monitor stands at its end: how many entries it has, and that its state is secure. (own)
 abbrev pub ending : ℕ → List ℕ
 ending count = codes "entries " ++ decimal count ++ codes "\nsecure yes\n"
+
+-- The session of the script before which so many others are run: their number, as far as sessions have numbers. (own)
+abbrev pub session_after : ℕ → ℕ
+session_after k = min k (2 ^ 32 - 1)
+
+-- The journal that scripts leave which are run one after the other, the first of these as the session after k others. (own)
+unfoldable pub scripts_left : Names → State → ℕ → List Entry → List (List ℕ) → List Entry
+scripts_left names start k entries [] = entries
+scripts_left names start k entries (script ∷ scripts) =
+    scripts_left names start (k + 1) (left_entries names (session_after k) start entries script) scripts
+
+-- What scripts print which are run one after the other: each its heading and its answers, over the journal that those before it left. (own)
+unfoldable pub scripts_text : Names → State → ℕ → List Entry → List (List ℕ) → List ℕ
+scripts_text names start k entries [] = []
+scripts_text names start k entries (script ∷ scripts) =
+    script_text names (session_after k) start entries script
+    ++ scripts_text names start (k + 1) (left_entries names (session_after k) start entries script) scripts
+
+-- The journal of a run of scripts, one after the other, over a start. (own)
+abbrev pub run_entries : Names → State → List (List ℕ) → List Entry
+run_entries names start scripts = scripts_left names start 0 [] scripts
+
+-- What a run of scripts prints, one after the other, over a start: what each prints, and how the monitor stands at the end. (own)
+abbrev pub run_text : Names → State → List (List ℕ) → List ℕ
+run_text names start scripts = scripts_text names start 0 [] scripts ++ ending (length (run_entries names start scripts))
+
+-- A start file says a start and its names, and a run of scripts over it, one after the other, prints this and leaves a journal of this text, where
+-- that was asked for. (own)
+abbrev pub RunsOver : List ℕ → List (List ℕ) → Bool → List ℕ → Option (List ℕ) → Type 0
+RunsOver bytes scripts asked output journal =
+    (loaded : Loaded) × SaysStart bytes loaded × (output ≡ run_text loaded.names loaded.start scripts)
+    × (journal ≡ (if asked then Some (journal_text (run_entries loaded.names loaded.start scripts)) else None))
 
 -- What the scripts of a run in threads print, the first of these as session k: each its heading and its answers. (own)
 unfoldable pub fed_texts : ℕ → List ScriptFeed → List ℕ

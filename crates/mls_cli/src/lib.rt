@@ -5,6 +5,7 @@ mod checking;
 mod command;
 mod ending;
 mod fault_line;
+mod fault_words;
 mod replaying;
 mod running;
 mod start_file;
