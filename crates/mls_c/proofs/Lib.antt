@@ -1,6 +1,7 @@
 pub mod Blocks
 pub mod Openings
 pub mod Pointers
+pub mod ReadBack
 pub mod Resumings
 pub mod Utf8
 pub mod Words

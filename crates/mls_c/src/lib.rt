@@ -10,6 +10,7 @@ mod journal;
 mod kept;
 mod label;
 mod label_text;
+mod laws;
 mod lines;
 mod names;
 mod opened;
@@ -28,6 +29,10 @@ pub use journal::{mls_entries, mls_entry};
 pub use kept::Kept;
 pub use label::LabelNumbers;
 pub use label_text::{mls_read_label_bytes, mls_write_label_bytes};
+pub use laws::{
+    entries_have_their_numbers, labels_have_their_numbers, replies_have_their_numbers,
+    requests_have_their_numbers,
+};
 pub use lines::mls_entry_bytes;
 pub use names::{mls_object_bytes, mls_subject_bytes};
 pub use opened::Opened;
