@@ -6,6 +6,8 @@ mod labels;
 #[cfg(test)]
 mod requests;
 #[cfg(test)]
+mod seen;
+#[cfg(test)]
 mod tables;
 #[cfg(test)]
 mod tree;

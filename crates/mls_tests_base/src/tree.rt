@@ -1,10 +1,14 @@
 //! The worked tree, a chain of all numbers, and each allocation failing in turn.
+use crate::seen::sees;
 use mls_tables::ObjectId;
 use mls_tree::{Tree, TreeFault, inferiors_reach};
+use refused::made;
 use refusing::Refusing;
 use std::alloc::{AllocError, Allocator, Global};
 use std::process::Abort;
 use std::test::Fail;
+
+mod refused;
 
 /// Adds an object below an active one, and again where allocation failed, and returns its number.
 fn add_below<A: Allocator>(
@@ -13,22 +17,25 @@ fn add_below<A: Allocator>(
     parent: u16,
 ) -> Result<u16, TreeFault> {
     let parent = ObjectId(parent);
-    assert!(rt; tree.is_active(parent));
+    sees(rt, tree.is_active(parent), "an active parent");
     let next = tree.next();
-    match tree.add(parent) {
-        Err(TreeFault::Memory) => {
-            assert!(rt; tree.next() == next && !tree.is_active(ObjectId(next)));
-            Ok(tree.add(parent)?.number())
-        }
-        reply => Ok(reply?.number()),
+    let mut added = tree.add(parent);
+    if added == Err(TreeFault::Memory) {
+        sees(
+            rt,
+            tree.next() == next && !tree.is_active(ObjectId(next)),
+            "nothing added",
+        );
+        added = tree.add(parent);
     }
+    Ok(added?.number())
 }
 
 /// Asserts that each object is added below its parent with the number that is wanted.
 fn add_all<A: Allocator>(rt: &impl Abort, tree: &mut Tree<A>, rows: &[(u16, u16)]) {
     for (parent, wanted) in rows {
         let added = add_below(rt, tree, *parent);
-        assert!(rt; added == Ok(*wanted), "below {parent}");
+        sees(rt, added == Ok(*wanted), "a number");
     }
 }
 
@@ -39,7 +46,7 @@ fn group<A: Allocator>(
     alloc: A,
     top: u16,
 ) -> Result<Vec<ObjectId, A>, AllocError> {
-    assert!(rt; tree.is_active(ObjectId(top)));
+    sees(rt, tree.is_active(ObjectId(top)), "an active object");
     tree.inferiors(alloc, ObjectId(top))
 }
 
@@ -52,8 +59,8 @@ fn remove<A: Allocator>(
 ) -> Result<(), AllocError> {
     let top = ObjectId(top);
     let is_root = top.number() == 0;
-    assert!(rt; !is_root);
-    assert!(rt; tree.is_active(top));
+    sees(rt, !is_root, "not the root");
+    sees(rt, tree.is_active(top), "an active object");
     let group = tree.inferiors(alloc, top)?;
     tree.remove_group(&group);
     drop(group);
@@ -62,8 +69,8 @@ fn remove<A: Allocator>(
 
 /// Asserts which objects stand below an active one.
 fn has_children<A: Allocator>(rt: &impl Abort, tree: &Tree<A>, o: u16, children: &[ObjectId]) {
-    assert!(rt; tree.is_active(ObjectId(o)));
-    assert!(rt; tree.children(ObjectId(o)) == children);
+    sees(rt, tree.is_active(ObjectId(o)), "an active object");
+    sees(rt, tree.children(ObjectId(o)) == children, "children");
 }
 
 /// Asserts what an object and all below it are.
@@ -77,17 +84,34 @@ fn lists(
     let group = group(rt, tree, alloc, top)?;
     let is_right = group.as_slice() == wanted;
     drop(group);
-    assert!(rt; is_right, "below {top}");
+    sees(rt, is_right, "a group");
     Ok(())
+}
+
+/// Asserts that an object is active, the last that was added, and stands below another.
+fn is_last<A: Allocator>(rt: &impl Abort, tree: &Tree<A>, o: u16, parent: u16) {
+    sees(
+        rt,
+        Some(tree.next()) == o.checked_add(1) && tree.is_active(ObjectId(o)),
+        "the last object",
+    );
+    sees(
+        rt,
+        tree.parent(ObjectId(o)) == Some(ObjectId(parent)),
+        "a parent",
+    );
 }
 
 /// Asserts that the objects below 1 are gone, and that their numbers aren't given out again.
 fn is_cut<A: Allocator>(rt: &impl Abort, tree: &mut Tree<A>) {
-    assert!(rt; !tree.is_active(ObjectId(1)) && !tree.is_active(ObjectId(2)));
+    sees(
+        rt,
+        !tree.is_active(ObjectId(1)) && !tree.is_active(ObjectId(2)),
+        "objects gone",
+    );
     has_children(rt, tree, 0, &[ObjectId(4)]);
-    assert!(rt; add_below(rt, tree, 0) == Ok(5));
-    assert!(rt; tree.next() == 6 && tree.is_active(ObjectId(5)));
-    assert!(rt; tree.parent(ObjectId(5)) == Some(ObjectId(0)));
+    sees(rt, add_below(rt, tree, 0) == Ok(5), "a new number");
+    is_last(rt, tree, 5, 0);
 }
 
 /// Fills the worked tree, takes out an object with those below it, and asserts that a copy from before keeps them.
@@ -117,18 +141,26 @@ fn the_worked_tree(rt: HostRuntime) -> Result<(), Fail> {
 fn fill_a_chain<A: Allocator>(rt: &impl Abort, tree: &mut Tree<A>) {
     for n in 0..4095u16 {
         let added = add_below(rt, tree, n);
-        assert!(rt; added == Ok(n + 1), "below {n}");
+        sees(rt, added == Ok(n + 1), "a number");
     }
-    assert!(rt; tree.next() == 4096 && tree.is_active(ObjectId(4095)));
-    assert!(rt; tree.parent(ObjectId(4095)) == Some(ObjectId(4094)));
-    assert!(rt; add_below(rt, tree, 4095) == Err(TreeFault::Full));
+}
+
+/// Fills a tree with a chain, and asserts that it takes no more.
+fn is_full<A: Allocator>(rt: &impl Abort, tree: &mut Tree<A>) {
+    fill_a_chain(rt, tree);
+    is_last(rt, tree, 4095, 4094);
+    sees(
+        rt,
+        add_below(rt, tree, 4095) == Err(TreeFault::Full),
+        "a full tree",
+    );
 }
 
 /// Asserts that the objects are those of the chain below the root.
 fn are_the_chain(rt: &impl Abort, objects: &[ObjectId]) {
-    assert!(rt; objects.len() == 4095);
+    sees(rt, objects.len() == 4095, "how many");
     for (k, o) in objects.iter().enumerate() {
-        assert!(rt; o.number() as usize == k + 1, "at {k}");
+        sees(rt, o.number() as usize == k + 1, "the order");
     }
 }
 
@@ -138,95 +170,60 @@ fn cut_the_chain(
     alloc: Global,
     tree: &mut Tree<Global>,
 ) -> Result<(), AllocError> {
+    lists_the_chain(rt, alloc, tree)?;
+    remove(rt, tree, alloc, 1)?;
+    is_cut_off(rt, tree);
+    Ok(())
+}
+
+/// Asserts that the objects below the root are those of the chain.
+fn lists_the_chain(rt: &impl Abort, alloc: Global, tree: &Tree<Global>) -> Result<(), AllocError> {
     let chain = group(rt, tree, alloc, 1)?;
     are_the_chain(rt, &chain);
     drop(chain);
-    remove(rt, tree, alloc, 1)?;
-    assert!(rt; !tree.is_active(ObjectId(1)) && !tree.is_active(ObjectId(4095)));
-    has_children(rt, tree, 0, &[]);
-    assert!(rt; add_below(rt, tree, 0) == Err(TreeFault::Full));
     Ok(())
+}
+
+/// Asserts that nothing stands below the root, and that nothing can be added.
+fn is_cut_off(rt: &impl Abort, tree: &mut Tree<Global>) {
+    sees(
+        rt,
+        !tree.is_active(ObjectId(1)) && !tree.is_active(ObjectId(4095)),
+        "the chain gone",
+    );
+    has_children(rt, tree, 0, &[]);
+    sees(
+        rt,
+        add_below(rt, tree, 0) == Err(TreeFault::Full),
+        "a full tree",
+    );
 }
 
 #[test]
 fn a_chain_of_all_numbers(rt: HostRuntime) -> Result<(), Fail> {
     let mut tree = Tree::new(rt.alloc())?;
-    fill_a_chain(&rt, &mut tree);
+    is_full(&rt, &mut tree);
     let cut = cut_the_chain(&rt, rt.alloc(), &mut tree);
     drop(tree);
     cut?;
     Ok(())
 }
 
-/// A new tree; where an allocation failed it is made again.
-fn planted(heap: &Refusing<Global>) -> Result<Tree<&Refusing<Global>>, AllocError> {
-    match Tree::new(heap) {
-        Ok(tree) => Ok(tree),
-        Err(_) => Tree::new(heap),
-    }
-}
-
-/// A copy; where an allocation failed it is made again.
-fn copied<'a>(
-    tree: &Tree<&'a Refusing<Global>>,
-    heap: &'a Refusing<Global>,
-) -> Result<Tree<&'a Refusing<Global>>, AllocError> {
-    match tree.duplicate(heap) {
-        Ok(copy) => Ok(copy),
-        Err(_) => tree.duplicate(heap),
-    }
-}
-
-/// Takes out an object with those below it, again where an allocation failed.
-fn cut<'a>(
-    rt: &impl Abort,
-    tree: &mut Tree<&'a Refusing<Global>>,
-    heap: &'a Refusing<Global>,
-) -> Result<(), AllocError> {
-    if remove(rt, tree, heap, 1).is_err() {
-        assert!(rt; tree.is_active(ObjectId(6)));
-        remove(rt, tree, heap, 1)?;
-    }
-    assert!(rt; tree.next() == 8 && !tree.is_active(ObjectId(1)) && !tree.is_active(ObjectId(6)));
-    has_children(rt, tree, 0, &[ObjectId(2), ObjectId(4)]);
-    Ok(())
-}
-
-/// Fills a tree, and takes out an object with those below it from a copy.
-fn cut_copy<'a>(
-    rt: &impl Abort,
-    tree: &mut Tree<&'a Refusing<Global>>,
-    heap: &'a Refusing<Global>,
-) -> Result<(), AllocError> {
-    add_all(
-        rt,
-        tree,
-        &[(0, 1), (0, 2), (1, 3), (0, 4), (1, 5), (3, 6), (1, 7)],
-    );
-    let mut copy = copied(tree, heap)?;
-    let done = cut(rt, &mut copy, heap);
-    drop(copy);
-    done
-}
-
-/// Makes a tree, copies it, lists inferiors and takes them out; a call whose allocation failed is made again.
-fn made(rt: &impl Abort, heap: &Refusing<Global>) -> Result<(), AllocError> {
-    let mut tree = planted(heap)?;
-    let done = cut_copy(rt, &mut tree, heap);
-    drop(tree);
-    done
+/// The same where the allocation of a number is refused, and whether it was.
+fn is_refused(rt: &impl Abort, alloc: Global, number: u64) -> Result<bool, AllocError> {
+    let heap = Refusing::new(alloc, number);
+    made(rt, &heap)?;
+    Ok(heap.has_refused())
 }
 
 #[test]
 fn each_allocation_is_refused_once(rt: HostRuntime) -> Result<(), Fail> {
     for number in 1..100 {
-        let heap = Refusing::new(rt.alloc(), number);
-        made(&rt, &heap)?;
-        if !heap.has_refused() {
-            assert!(rt; number > 6, "only {number}");
+        if !is_refused(&rt, rt.alloc(), number)? {
+            sees(&rt, number > 6, "how many allocations");
             return Ok(());
         }
     }
-    assert!(rt; false, "every run met a refusal");
+    sees(&rt, false, "a run without a refusal");
     Ok(())
 }
