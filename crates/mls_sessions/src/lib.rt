@@ -3,6 +3,7 @@
 
 mod asked;
 mod attend;
+mod backoff;
 mod boxed_monitor;
 mod closing;
 mod counts;

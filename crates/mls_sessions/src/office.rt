@@ -5,11 +5,12 @@ ghost use Rattle.mls_sessions.specs.Journals.{journal_of};
 ghost use Rattle.mls_sessions.specs.Rule.{begun, base, base_length};
 ghost use Rattle.mls_sessions.specs.Sessions.{is_count, newcomers, Ascending, Leaves};
 
+use crate::backoff::Backoff;
 use crate::boxed_monitor::BoxedMonitor;
 use crate::closing::take_home;
 use crate::gate::FREE;
 use crate::gate_table::{Charter, GateSeat, GateTable};
-use crate::limits::{LOOKS, MAX_SESSIONS};
+use crate::limits::MAX_SESSIONS;
 use crate::office_fault::{CloseFault, OfficeFault, OfficeFaultKind};
 use crate::opening::{give_all, settle};
 use crate::session::Session;
@@ -24,8 +25,7 @@ use std::marker::Model;
 #[derive(Drop)]
 pub struct Office {
     pub(crate) table: GateTable,
-    /// How often a session looks at a held gate before it sleeps.
-    pub(crate) looks: u32,
+    pub(crate) backoff: Backoff,
     count: u32,
     base: u64,
 }
@@ -102,7 +102,7 @@ impl Office {
         give_all(&table.shared, &mut seat, &mut sessions, count, base);
         let office = Office {
             table,
-            looks: LOOKS,
+            backoff: Backoff::standard(),
             count,
             base,
         };
@@ -137,7 +137,7 @@ impl Office {
         }
         let Office {
             table,
-            looks: _,
+            backoff: _,
             count: _,
             base: _,
         } = self;

@@ -36,7 +36,7 @@ impl Session {
     {
         let gate = &office.table.shared;
         let number = self.number();
-        let monitor = wait(gate, office.looks, rt, &mut self.seat, number);
+        let monitor = wait(gate, office.backoff, rt, &mut self.seat, number);
         record(
             gate,
             &mut self.seat,
@@ -96,7 +96,7 @@ impl Session {
     {
         let gate = &office.table.shared;
         let number = self.number();
-        let taken = wait(gate, office.looks, rt, &mut self.seat, number);
+        let taken = wait(gate, office.backoff, rt, &mut self.seat, number);
         inspect(gate, &mut self.seat, &mut self.counts, taken, s, o, x)
     }
 

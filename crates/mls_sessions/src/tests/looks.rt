@@ -1,9 +1,10 @@
-//! Sessions that look at a held gate never, once or often before they sleep: all threads come to their end.
+//! Sessions that look at a held gate never, once or often before they nap or sleep: all threads come to their end.
 ghost use Rattle.std.specs.Prelude.{◌≡◌, length, vec_len, IfOk, IsTrue};
 ghost use Rattle.mls_sessions.specs.Runs.{AllAt};
 ghost use Rattle.mls_sessions.specs.Sessions.{Ascending};
 
 use crate::asked::Asked;
+use crate::backoff::Backoff;
 use crate::feed::{Answer, Feed, Stage};
 use crate::office::Office;
 use crate::run::run_open;
@@ -11,6 +12,7 @@ use crate::session::Session;
 use crate::tests::small::{get_read, small_monitor};
 use mls_requests::Ask;
 use std::alloc::{AllocError, Global};
+use std::process::Abort;
 use std::sync::Wait;
 use std::test::Fail;
 use std::thread::Threads;
@@ -76,11 +78,11 @@ fn make_feeds(alloc: Global, sessions: &[Session], each: u64) -> Result<Vec<Gets
     Ok(all)
 }
 
-/// The same office, whose sessions look so often.
-fn looking(mut office: Office, looks: u32) -> Office
+/// The same office, whose sessions back off so.
+fn backing_off(mut office: Office, backoff: Backoff) -> Office
     ensures { result ≡ office }
 {
-    office.looks = looks;
+    office.backoff = backoff;
     office
 }
 
@@ -104,11 +106,11 @@ fn ask_all<R: Threads + Wait + Sync>(
     Ok(if asked == Asked::ToTheEnd { count } else { 0 })
 }
 
-/// Has so many sessions that look so often each ask so often, and says how many entries that left.
+/// Has so many sessions that back off so each ask so often, and says how many entries that left.
 fn entries_left<R: Threads + Wait + Sync>(
     rt: &R,
     alloc: Global,
-    looks: u32,
+    backoff: Backoff,
     count: u16,
     each: u64,
 ) -> Result<usize, AllocError> {
@@ -116,14 +118,35 @@ fn entries_left<R: Threads + Wait + Sync>(
         return Err(AllocError);
     };
     let feeds = make_feeds(alloc, &sessions, each)?;
-    ask_all(rt, alloc, (looking(office, looks), sessions), feeds)
+    ask_all(rt, alloc, (backing_off(office, backoff), sessions), feeds)
+}
+
+/// Four sessions and 64 come to their end.
+fn all_end<R: Threads + Wait + Sync + Abort>(
+    rt: &R,
+    alloc: Global,
+    backoff: Backoff,
+) -> Result<(), AllocError> {
+    assert!(rt; entries_left(rt, alloc, backoff, 4, 1000)? == 4000);
+    assert!(rt; entries_left(rt, alloc, backoff, 64, 50)? == 3200);
+    Ok(())
 }
 
 #[test]
 fn waits_end_however_often_they_look(rt: HostRuntime) -> Result<(), Fail> {
     for looks in [0, 1, 10_000] {
-        assert!(rt; entries_left(&rt, rt.alloc(), looks, 4, 1000)? == 4000);
-        assert!(rt; entries_left(&rt, rt.alloc(), looks, 64, 50)? == 3200);
+        for naps in [0, 1] {
+            all_end(
+                &rt,
+                rt.alloc(),
+                Backoff {
+                    looks,
+                    races: 0,
+                    naps,
+                },
+            )?;
+        }
     }
+    all_end(&rt, rt.alloc(), Backoff::standard())?;
     Ok(())
 }
