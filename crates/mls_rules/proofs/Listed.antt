@@ -2,13 +2,7 @@
 use Rattle.std.proofs.Common.{◌≡◌, ℕ, Bool, true, List, [], ◌∷◌, ◌||◌, ◌⊎◌, inl, inr, refl, sym, ap, subst, ◌∙◌, eqb, Some}
 use Rattle.std.specs.List.{list_any, list_all}
 use Rattle.std.specs.FinMap as map
-use Rattle.std.specs.FinSet as set
 use Rattle.std.proofs.lemmas.Bool.{eqb-true, eq-eqb, or_cases, and_parts, and_from, or_right}
-use Rattle.std.specs.Cmp.{both_ways}
-use Rattle.mls_facts.specs.Each.{each}
-use Rattle.mls_facts.proofs.Each.{each-contains, contains-each}
-use Rattle.mls_tables.specs.Triples.{Triple, TripleSet, triple_cmp}
-use Rattle.mls_tables.proofs.Laws.{triples_total, same_triple}
 use Rattle.mls_tree.specs.Tree as tree
 use Rattle.mls_tree.specs.Tree.{Hierarchy, children}
 use Rattle.mls_tree.proofs.Laws.{is_active-tree, list_any-children, parent_from_child, child_from_parent}

@@ -1,130 +1,41 @@
 //! The rules that change levels: what they look at, and the replies to them.
-ghost use Rattle.std.specs.Prelude.{◌≡◌, ◌==◌, ◌||◌, not, IsTrue, Some};
+ghost use Rattle.std.specs.Prelude.{◌≡◌, IsTrue, Some};
 ghost use Rattle.std.specs.FinMap as map;
 ghost use Rattle.mls_requests.specs.declared.action.Action.{Action};
 ghost use Rattle.mls_tables.specs.Held.{each_mode};
 ghost use Rattle.mls_state.specs.State.{is_subject, is_active, is_above};
-ghost use Rattle.mls_state.specs.Properties.{simple_holds, star_holds};
-ghost use Rattle.mls_state.specs.Changes.{with_current, with_object_label};
 ghost use Rattle.mls_rules.specs.Levels.{each_of_subject, each_of_object, each_child, label_fits};
 ghost use Rattle.mls_rules.specs.Rules.{verdict};
 
 use crate::authority::may_relabel;
+use crate::demand::{Demand, SimpleAtLabel, StarAtLabel, StarAtLevel};
 use mls_labels::SecLabel;
 use mls_requests::{Reason, Reply};
-use mls_state::{State, star_between};
+use mls_state::State;
 use mls_tables::{Mode, ObjectId, SubjectId};
 use std::alloc::Allocator;
 
-/// Whether an access of the subject `s` meets star with the current label `l`; for another subject's it is true.
-fn star_at_level<A: Allocator>(
-    state: &State<A>,
-    t: (SubjectId, ObjectId, Mode),
-    s: SubjectId,
-    l: SecLabel,
-) -> bool
-    requires subject { IsTrue (is_subject state.now t.0) }
-    requires object { IsTrue (is_active state.now t.1) }
-    ensures { result ≡ (not (t.0 == s) || star_holds (with_current state.now s l) t) }
-{
-    let own = t.0 == s;
-    if !own {
-        return true;
-    }
-    state.is_trusted(t.0) || star_between(l, state.object_label(t.1), t.2)
-}
-
-/// Whether an access to the object `o` meets simple security with the label `l`; for one to another object it is true.
-fn simple_at_label<A: Allocator>(
-    state: &State<A>,
-    t: (SubjectId, ObjectId, Mode),
-    o: ObjectId,
-    l: SecLabel,
-) -> bool
-    requires { IsTrue (is_subject state.now t.0) }
-    ensures { result ≡ (not (t.1 == o) || simple_holds (with_object_label state.now o l) t) }
-{
-    let held = t.1 == o;
-    if !held {
-        return true;
-    }
-    !t.2.observes() || state.maximum(t.0).dominates(&l)
-}
-
-/// Whether an access to the object `o` meets star with the label `l`; for one to another object it is true.
-fn star_at_label<A: Allocator>(
-    state: &State<A>,
-    t: (SubjectId, ObjectId, Mode),
-    o: ObjectId,
-    l: SecLabel,
-) -> bool
-    requires { IsTrue (is_subject state.now t.0) }
-    ensures { result ≡ (not (t.1 == o) || star_holds (with_object_label state.now o l) t) }
-{
-    let held = t.1 == o;
-    if !held {
-        return true;
-    }
-    state.is_trusted(t.0) || star_between(state.current(t.0), l, t.2)
-}
-
-/// Whether the accesses of a subject to an object meet star with its current label `l`.
-fn cell_star_at_level<A: Allocator>(
+/// Whether the accesses of a subject to an object meet the demand.
+fn cell_meets<A: Allocator, D: Demand>(
     state: &State<A>,
     s: SubjectId,
     o: ObjectId,
-    l: SecLabel,
+    demand: D,
 ) -> bool
     requires subject { IsTrue (is_subject state.now s) }
     requires object { IsTrue (is_active state.now o) }
-    ensures { result ≡ each_mode state.now.accesses s o (λ t. not (t.0 == s) || star_holds (with_current state.now s l) t) }
+    ensures { result ≡ each_mode state.now.accesses s o (D.asked demand state.now) }
 {
     let modes = state.accesses(s, o);
-    (!modes.has(Mode::Execute) || star_at_level(state, (s, o, Mode::Execute), s, l))
-        && ((!modes.has(Mode::Read) || star_at_level(state, (s, o, Mode::Read), s, l))
-            && ((!modes.has(Mode::Append) || star_at_level(state, (s, o, Mode::Append), s, l))
-                && (!modes.has(Mode::Write) || star_at_level(state, (s, o, Mode::Write), s, l))))
+    (!modes.has(Mode::Execute) || demand.is_met(state, s, o, Mode::Execute))
+        && ((!modes.has(Mode::Read) || demand.is_met(state, s, o, Mode::Read))
+            && ((!modes.has(Mode::Append) || demand.is_met(state, s, o, Mode::Append))
+                && (!modes.has(Mode::Write) || demand.is_met(state, s, o, Mode::Write))))
 }
 
-/// Whether the accesses of a subject to an object meet simple security with the label `l`.
-fn cell_simple_at_label<A: Allocator>(
-    state: &State<A>,
-    s: SubjectId,
-    o: ObjectId,
-    l: SecLabel,
-) -> bool
-    requires subject { IsTrue (is_subject state.now s) }
-    requires object { IsTrue (is_active state.now o) }
-    ensures { result ≡ each_mode state.now.accesses s o (λ t. not (t.1 == o) || simple_holds (with_object_label state.now o l) t) }
-{
-    let modes = state.accesses(s, o);
-    (!modes.has(Mode::Execute) || simple_at_label(state, (s, o, Mode::Execute), o, l))
-        && ((!modes.has(Mode::Read) || simple_at_label(state, (s, o, Mode::Read), o, l))
-            && ((!modes.has(Mode::Append) || simple_at_label(state, (s, o, Mode::Append), o, l))
-                && (!modes.has(Mode::Write) || simple_at_label(state, (s, o, Mode::Write), o, l))))
-}
-
-/// Whether the accesses of a subject to an object meet star with the label `l`.
-fn cell_star_at_label<A: Allocator>(
-    state: &State<A>,
-    s: SubjectId,
-    o: ObjectId,
-    l: SecLabel,
-) -> bool
-    requires subject { IsTrue (is_subject state.now s) }
-    requires object { IsTrue (is_active state.now o) }
-    ensures { result ≡ each_mode state.now.accesses s o (λ t. not (t.1 == o) || star_holds (with_object_label state.now o l) t) }
-{
-    let modes = state.accesses(s, o);
-    (!modes.has(Mode::Execute) || star_at_label(state, (s, o, Mode::Execute), o, l))
-        && ((!modes.has(Mode::Read) || star_at_label(state, (s, o, Mode::Read), o, l))
-            && ((!modes.has(Mode::Append) || star_at_label(state, (s, o, Mode::Append), o, l))
-                && (!modes.has(Mode::Write) || star_at_label(state, (s, o, Mode::Write), o, l))))
-}
-
-/// Whether all accesses of the subject meet star with this current label.
-fn keeps_star_of_subject<A: Allocator>(state: &State<A>, s: SubjectId, l: SecLabel) -> bool
-    ensures { result ≡ each_of_subject state.now s (star_holds (with_current state.now s l)) }
+/// Whether all accesses of the subject meet the demand.
+fn subject_meets<A: Allocator, D: Demand>(state: &State<A>, s: SubjectId, demand: D) -> bool
+    ensures { result ≡ each_of_subject state.now s (D.asked demand state.now) }
 {
     // that accesses name known subjects
     let _ = state.next();
@@ -132,16 +43,16 @@ fn keeps_star_of_subject<A: Allocator>(state: &State<A>, s: SubjectId, l: SecLab
         return true;
     }
     for o in state.objects_of(s) {
-        if !cell_star_at_level(state, s, *o, l) {
+        if !cell_meets(state, s, *o, demand) {
             return false;
         }
     }
     true
 }
 
-/// Whether all accesses to the object meet simple security with this label.
-fn keeps_simple_of_object<A: Allocator>(state: &State<A>, o: ObjectId, l: SecLabel) -> bool
-    ensures { result ≡ each_of_object state.now o (simple_holds (with_object_label state.now o l)) }
+/// Whether all accesses to the object meet the demand.
+fn object_meets<A: Allocator, D: Demand>(state: &State<A>, o: ObjectId, demand: D) -> bool
+    ensures { result ≡ each_of_object state.now o (D.asked demand state.now) }
 {
     // that accesses name active objects
     let _ = state.next();
@@ -149,24 +60,7 @@ fn keeps_simple_of_object<A: Allocator>(state: &State<A>, o: ObjectId, l: SecLab
         return true;
     }
     for s in state.subjects_of(o) {
-        if !cell_simple_at_label(state, *s, o, l) {
-            return false;
-        }
-    }
-    true
-}
-
-/// Whether all accesses to the object meet star with this label.
-fn keeps_star_of_object<A: Allocator>(state: &State<A>, o: ObjectId, l: SecLabel) -> bool
-    ensures { result ≡ each_of_object state.now o (star_holds (with_object_label state.now o l)) }
-{
-    // that accesses name active objects
-    let _ = state.next();
-    if !state.is_active(o) {
-        return true;
-    }
-    for s in state.subjects_of(o) {
-        if !cell_star_at_label(state, *s, o, l) {
+        if !cell_meets(state, *s, o, demand) {
             return false;
         }
     }
@@ -207,7 +101,11 @@ pub fn decide_subject_level<A: Allocator>(state: &State<A>, s: SubjectId, l: Sec
     if !state.maximum(s).dominates(&l) {
         return Reply::No(Reason::Ceiling);
     }
-    if !keeps_star_of_subject(state, s, l) {
+    let star = StarAtLevel {
+        subject: s,
+        level: l,
+    };
+    if !subject_meets(state, s, star) {
         return Reply::No(Reason::Star);
     }
     Reply::Yes
@@ -230,10 +128,18 @@ pub fn decide_object_level<A: Allocator>(
     if !label_fits(state, o, l) {
         return Reply::No(Reason::Compatibility);
     }
-    if !keeps_simple_of_object(state, o, l) {
+    let simple = SimpleAtLabel {
+        object: o,
+        label: l,
+    };
+    if !object_meets(state, o, simple) {
         return Reply::No(Reason::Simple);
     }
-    if !keeps_star_of_object(state, o, l) {
+    let star = StarAtLabel {
+        object: o,
+        label: l,
+    };
+    if !object_meets(state, o, star) {
         return Reply::No(Reason::Star);
     }
     Reply::Yes

@@ -4,6 +4,7 @@
 mod applying;
 mod authority;
 mod deciding;
+mod demand;
 mod levels;
 mod theorems;
 
