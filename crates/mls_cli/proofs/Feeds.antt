@@ -1,5 +1,7 @@
 -- Feeds in their order, and what they print.
-use Rattle.std.proofs.Common.{◌≡◌, ◌<◌, ◌+◌, ℕ, take, length, get_or, List, [], ◌∷◌, ◌++◌, refl, sym, ap, ◌∙◌, arith, subst, Option, Some, None, IfSome, IfOk, Result, Ok, Err, drop}
+use Rattle.std.proofs.Common.{◌≡◌, ◌<◌, ◌+◌, ℕ, take, length, get_or, List, [], ◌∷◌, ◌++◌, refl, sym, ap, ◌∙◌, arith, subst, Option, Some, None, IfSome, IfOk, IfErr, Result, Ok, Err, drop}
+use Rattle.std.specs.Prelude.{Bool, option_map, is_some, vec_len}
+use Rattle.std.specs.declared.vec.Vec.{Vec}
 use Rattle.std.proofs.lemmas.List.{append_assoc, append-nil, take_more, length-take-le}
 pub use Rattle.mls_sessions.proofs.Laws.{at_snoc}
 use Rattle.mls_scripts.specs.Feed.{ScriptFeed}
@@ -10,7 +12,14 @@ use Rattle.mls_sessions.specs.Runs.{Grew}
 use Rattle.mls_starts.specs.Says.{SaysStart}
 use Rattle.mls_starts.specs.Ties.{Loaded}
 use Rattle.mls_journal.specs.EntryText.{journal_text}
-use Rattle.mls_cli.specs.Run.{heading, fed_texts, IsJournalFrom, IsJournalOf}
+use Rattle.mls_sessions.specs.declared.run_fault.RunFaultKind.{RunFaultKind}
+use Rattle.mls_sessions.specs.declared.run_fault.RunFaultKind.TheVariants as kinds
+use Rattle.mls_cli.specs.declared.command.CommandFault.{CommandFault}
+use Rattle.mls_cli.specs.declared.command.CommandFault.TheVariants as faults
+use Rattle.mls_cli.specs.Checked.{RefusesLoad, IsRunFault, RefusesRun}
+use Rattle.mls_cli.specs.Commands.{run_fault}
+use Rattle.mls_cli.specs.Run.{heading, ending, fed_texts, LeavesInThreads, RunsInThreads}
+use Rattle.mls_cli.proofs.Runs.{journal_asked}
 
 -- no feed prints nothing
 pub fed_none : (k : ℕ) → fed_texts k [] ≡ []
@@ -44,37 +53,61 @@ fed_more begun now headed new said feeds i k d within is so_far head grown says 
     ∙ ap (λ t. t ++ last) (append_assoc begun front (heading k)) ∙ append_assoc begun (front ++ heading k) last
     ∙ ap (λ t. begun ++ t) (sym (fed_taken feeds i k d within is))
 
--- the journal of a monitor that grew from an empty journal
-pub journal_from : (old new : Monitor) (n : ℕ) (text : List ℕ) → old.entries ≡ [] → Grew old.start old.entries n new → IsLegal new.start new.entries → text ≡ journal_text new.entries
-    → IsJournalFrom old.start n text
-journal_from old new n text fresh grew legal is = (
+-- what a run in threads left, of a monitor that grew from an empty journal
+pub left_in_threads : {X : Type 0} (bytes : X → List ℕ) (old new : Monitor) (n : ℕ) (asked : Bool) (feeds : List ScriptFeed) (output : List ℕ) (journal : Option X)
+    → old.entries ≡ [] → Grew old.start old.entries n new → IsLegal new.start new.entries → length feeds ≡ n
+    → output ≡ fed_texts 0 feeds ++ ending (length new.entries) → IfSome journal (λ text. bytes text ≡ journal_text new.entries) → is_some journal ≡ asked
+    → LeavesInThreads old.start n asked output (option_map bytes journal)
+left_in_threads bytes old new n asked feeds output journal fresh grew legal many printed left there = (
   new.entries,
-  is,
+  feeds,
   subst (λ s. IsLegal s new.entries) grew.start legal,
   subst (λ js. AllBelow n (drop (length js) new.entries)) fresh grew.below,
+  many,
+  printed,
+  journal_asked bytes journal asked _ there left,
 )
 
--- the same, where there is one
-pub journal_in : {X : Type 0} (bytes : X → List ℕ) (journal : Option X) (old new : Monitor) (n : ℕ) → old.entries ≡ [] → Grew old.start old.entries n new → IsLegal new.start new.entries
-    → IfSome journal (λ text. bytes text ≡ journal_text new.entries) → IfSome journal (λ text. IsJournalFrom old.start n (bytes text))
-journal_in bytes None old new n fresh grew legal is = is
-journal_in bytes (Some text) old new n fresh grew legal is = journal_from old new n (bytes text) fresh grew legal is
-
 -- the same of what a run returns
-pub journal_run : {T E X : Type 0} (result : Result T E) (journal_of : T → Option X) (bytes : X → List ℕ) (old new : Monitor) (n : ℕ) → old.entries ≡ [] → Grew old.start old.entries n new
-    → IsLegal new.start new.entries → IfOk result (λ run. IfSome (journal_of run) (λ text. bytes text ≡ journal_text new.entries))
-    → IfOk result (λ run. IfSome (journal_of run) (λ text. IsJournalFrom old.start n (bytes text)))
-journal_run (Ok run) journal_of bytes old new n fresh grew legal is = journal_in bytes (journal_of run) old new n fresh grew legal is
-journal_run (Err e) journal_of bytes old new n fresh grew legal is = is
+pub run_left : {T E X Z : Type 0} (result : Result T E) (output_of : T → List ℕ) (journal_of : T → Option X) (bytes : X → List ℕ) (old new : Monitor) (n : ℕ) (asked : Bool)
+    (feeds : Vec ScriptFeed Z) → old.entries ≡ [] → Grew old.start old.entries n new → IsLegal new.start new.entries → vec_len feeds ≡ n
+    → IfOk result (λ run. output_of run ≡ fed_texts 0 feeds.items ++ ending (length new.entries))
+    → IfOk result (λ run. IfSome (journal_of run) (λ text. bytes text ≡ journal_text new.entries)) → IfOk result (λ run. is_some (journal_of run) ≡ asked)
+    → IfOk result (λ run. LeavesInThreads old.start n asked (output_of run) (option_map bytes (journal_of run)))
+run_left (Ok run) output_of journal_of bytes old new n asked feeds fresh grew legal many printed left there =
+    left_in_threads bytes old new n asked feeds.items (output_of run) (journal_of run) fresh grew legal (sym feeds.ok.0 ∙ many) printed left there
+run_left (Err e) output_of journal_of bytes old new n asked feeds fresh grew legal many printed left there = left
 
--- the journal of a start that a file says
-says_in : {X : Type 0} (bytes : X → List ℕ) (journal : Option X) (file : List ℕ) (n : ℕ) (begun : State) (loaded : Loaded) → SaysStart file loaded → begun ≡ loaded.start
-    → IfSome journal (λ text. IsJournalFrom begun n (bytes text)) → IfSome journal (λ text. IsJournalOf file n (bytes text))
-says_in bytes None file n begun loaded says same is = is
-says_in bytes (Some text) file n begun loaded says same is = (loaded, says, subst (λ s. IsJournalFrom s n (bytes text)) same is)
+-- what a run left over the start that a file says
+pub run_says : {T E : Type 0} (result : Result T E) (output_of : T → List ℕ) (journal_of : T → Option (List ℕ)) (file : List ℕ) (n : ℕ) (asked : Bool) (begun : State) (loaded : Loaded)
+    → SaysStart file loaded → begun ≡ loaded.start → IfOk result (λ run. LeavesInThreads begun n asked (output_of run) (journal_of run))
+    → IfOk result (λ run. RunsInThreads file n asked (output_of run) (journal_of run))
+run_says (Ok run) output_of journal_of file n asked begun loaded says same is =
+    (loaded, says, subst (λ s. LeavesInThreads s n asked (output_of run) (journal_of run)) same is)
+run_says (Err e) output_of journal_of file n asked begun loaded says same is = is
 
-pub journal_says : {T E X : Type 0} (result : Result T E) (journal_of : T → Option X) (bytes : X → List ℕ) (file : List ℕ) (n : ℕ) (begun : State) (loaded : Loaded) → SaysStart file loaded
-    → begun ≡ loaded.start → IfOk result (λ run. IfSome (journal_of run) (λ text. IsJournalFrom begun n (bytes text)))
-    → IfOk result (λ run. IfSome (journal_of run) (λ text. IsJournalOf file n (bytes text)))
-journal_says (Ok run) journal_of bytes file n begun loaded says same is = says_in bytes (journal_of run) file n begun loaded says same is
-journal_says (Err e) journal_of bytes file n begun loaded says same is = is
+-- why a run in threads isn't done
+pub run_stops : (kind : RunFaultKind) → IsRunFault (run_fault kind)
+run_stops kinds.BadCount = tt
+run_stops kinds.Memory = tt
+run_stops kinds.Thread = tt
+
+-- what stops a run over a start stops one over a start file
+stops : (bytes : List ℕ) (fault : CommandFault) → IsRunFault fault → RefusesRun bytes fault
+stops bytes (faults.Load cause) is = absurd is
+stops bytes (faults.Entry line cause) is = absurd is
+stops bytes (faults.Replay fault) is = absurd is
+stops bytes faults.Thread is = tt
+stops bytes faults.Memory is = tt
+
+pub run_refuses : {T : Type 0} (result : Result T CommandFault) (bytes : List ℕ) → IfErr result IsRunFault → IfErr result (λ fault. RefusesRun bytes fault)
+run_refuses (Ok run) bytes is = tt
+run_refuses (Err fault) bytes is = stops bytes fault is
+
+-- a start file that isn't loaded is run in no threads
+pub load_stops_run : (bytes : List ℕ) (fault : CommandFault) → RefusesLoad bytes fault → RefusesRun bytes fault
+load_stops_run bytes (faults.Load cause) is = is
+load_stops_run bytes (faults.Entry line cause) is = is
+load_stops_run bytes (faults.Replay fault) is = is
+load_stops_run bytes faults.Thread is = absurd is
+load_stops_run bytes faults.Memory is = tt

@@ -20,6 +20,22 @@ RefusesLoad bytes (Replay fault) = ⊥
 RefusesLoad bytes Thread = ⊥
 RefusesLoad bytes Memory = Unit {0}
 
+-- Why a run in threads over a start isn't done: a thread couldn't be started, or memory ran out. (own)
+abbrev pub IsRunFault : CommandFault → Type 0
+IsRunFault (Load cause) = ⊥
+IsRunFault (Entry line cause) = ⊥
+IsRunFault (Replay fault) = ⊥
+IsRunFault Thread = Unit {0}
+IsRunFault Memory = Unit {0}
+
+-- Why a run in threads over a start file isn't done: the file is refused, a thread couldn't be started, or memory ran out. (own)
+abbrev pub RefusesRun : List ℕ → CommandFault → Type 0
+RefusesRun bytes (Load cause) = RefusesStart bytes cause
+RefusesRun bytes (Entry line cause) = ⊥
+RefusesRun bytes (Replay fault) = ⊥
+RefusesRun bytes Thread = Unit {0}
+RefusesRun bytes Memory = Unit {0}
+
 -- A line with a word and a number. (own)
 abbrev pub count_line : List ℕ → ℕ → List ℕ
 count_line word count = word ++ decimal count ++ 10 ∷ []

@@ -70,11 +70,13 @@ unfoldable pub fed_texts : ℕ → List ScriptFeed → List ℕ
 fed_texts k [] = []
 fed_texts k (f ∷ feeds) = heading k ++ f.text ++ fed_texts (k + 1) feeds
 
--- A text is that of a journal which is legal from a start, and whose entries are all of the first n sessions. (own)
-abbrev pub IsJournalFrom : State → ℕ → List ℕ → Type 0
-IsJournalFrom start n text = (entries : List Entry) × (text ≡ journal_text entries) × IsLegal start entries × AllBelow n entries
+-- What a run of n scripts in threads leaves over a start: a journal which is legal from it, with entries of the first n sessions alone; it prints
+-- what n scripts print, in their order, and how many entries that journal has; and the journal's text is there just where it was asked for. (own)
+abbrev pub LeavesInThreads : State → ℕ → Bool → List ℕ → Option (List ℕ) → Type 0
+LeavesInThreads start n asked output journal =
+    (entries : List Entry) × (feeds : List ScriptFeed) × IsLegal start entries × AllBelow n entries × (length feeds ≡ n)
+    × (output ≡ fed_texts 0 feeds ++ ending (length entries)) × (journal ≡ (if asked then Some (journal_text entries) else None))
 
--- A text is that of a journal which is legal from the start that a start file's bytes say, and whose entries are all of the first n
--- sessions. (own)
-abbrev pub IsJournalOf : List ℕ → ℕ → List ℕ → Type 0
-IsJournalOf bytes n text = (loaded : Loaded) × SaysStart bytes loaded × IsJournalFrom loaded.start n text
+-- A start file says a start, and a run of n scripts in threads over it prints this and leaves a journal of this text, where that was asked for. (own)
+abbrev pub RunsInThreads : List ℕ → ℕ → Bool → List ℕ → Option (List ℕ) → Type 0
+RunsInThreads bytes n asked output journal = (loaded : Loaded) × SaysStart bytes loaded × LeavesInThreads loaded.start n asked output journal

@@ -1,131 +1,39 @@
 //! Scripts that are run over a start file, each in a thread of its own.
-ghost use Rattle.std.specs.Prelude.{◌≡◌, ◌<◌, ◌≤◌, ◌++◌, [], length, vec_len, string_bytes, false, All, IfOk, IfSome, OnOk};
+ghost use Rattle.std.specs.Prelude.{◌≡◌, ◌<◌, ◌≤◌, ◌++◌, [], length, vec_len, string_bytes, option_map, is_some, All, IfOk, IfErr, IfSome};
 ghost use Rattle.mls_sessions.specs.declared.feed.Stage.TheVariants as stage;
 ghost use Rattle.mls_monitor.specs.Journal.{IsLegal};
 ghost use Rattle.mls_sessions.specs.Runs.{AllAt};
+ghost use Rattle.mls_cli.specs.Checked.{IsRunFault, RefusesRun};
 ghost use Rattle.mls_cli.specs.Commands.{run_fault};
 ghost use Rattle.mls_journal.specs.EntryText.{journal_text};
-ghost use Rattle.mls_cli.specs.Run.{ending, fed_texts, IsJournalFrom, IsJournalOf};
+ghost use Rattle.mls_cli.specs.Run.{ending, fed_texts, LeavesInThreads, RunsInThreads};
 
 use crate::command::CommandFault;
-use crate::running::{MAX_SCRIPTS, RunText, push_ending, push_heading, with_journal};
+use crate::fed::{done_text, make_feeds};
+use crate::run_text::RunText;
+use crate::running::MAX_SCRIPTS;
 use mls_lines::Names;
 use mls_monitor::Monitor;
 use mls_rules::Start;
 use mls_scripts::{SCRIPT_LIMIT, ScriptFeed};
 use mls_sessions::{RunDone, RunFaultKind, run_sessions};
 use mls_starts::read_start;
-use std::alloc::{AllocError, Global};
+use std::alloc::Global;
 use std::sync::Wait;
 use std::thread::Threads;
 
-/// The feeds of scripts over these names, in their order.
-#[tactic(auto, using(crate::proofs::Feeds::at_snoc))]
-fn make_feeds<'a>(
-    alloc: Global,
-    names: &'a Names,
-    scripts: &[&'a [u8]],
-) -> Result<Vec<ScriptFeed<'a>>, AllocError>
-    ensures ready { IfOk result (λ feeds. AllAt (λ f. f.stage) stage.Ready feeds.items) }
-    ensures count { IfOk result (λ feeds. vec_len feeds ≡ length scripts.now) }
-{
-    let mut feeds = Vec::new(alloc);
-    for script in scripts {
-        feeds.push(ScriptFeed::new(alloc, names, script))?;
-    }
-    Ok(feeds)
-}
-
-/// Whether an allocation failed for some script.
-fn any_failed(feeds: &[ScriptFeed<'_>]) -> bool
-    ensures { result ≡ false → All (λ f. f.failed ≡ false) feeds.now }
-{
-    for feed in feeds {
-        if feed.failed() {
-            return true;
-        }
-    }
-    false
-}
-
-/// Appends the answers of each script under its heading, the first as session 0.
-fn push_texts(feeds: &[ScriptFeed<'_>], output: &mut Vec<u8>) -> Result<(), AllocError>
-    requires { length feeds.now ≤ MAX_SCRIPTS }
-    ensures { OnOk result (output.new.items ≡ output.old.items ++ fed_texts 0 feeds.now) }
-{
-    let mut session = 0u32;
-    for feed in feeds {
-        push_heading(output, session)?;
-        output.extend_from_slice(feed.replies())?;
-        session += 1;
-    }
-    Ok(())
-}
-
-/// What a run prints: the answers of each script under its heading, and how the monitor stands at the end.
-fn print_feeds(
-    alloc: Global,
-    monitor: &Monitor,
-    feeds: &[ScriptFeed<'_>],
-    output: &mut Vec<u8>,
-) -> Result<(), AllocError>
-    requires { length feeds.now ≤ MAX_SCRIPTS }
-    ensures { OnOk result (output.new.items ≡ output.old.items ++ fed_texts 0 feeds.now ++ ending (length monitor.now.entries)) }
-{
-    push_texts(feeds, output)?;
-    push_ending(alloc, monitor, output)
-}
-
-/// The same, as text.
-fn feeds_output(
-    alloc: Global,
-    monitor: &Monitor,
-    feeds: &[ScriptFeed<'_>],
-) -> Result<String, AllocError>
-    requires { length feeds.now ≤ MAX_SCRIPTS }
-    ensures { IfOk result (λ text. string_bytes text ≡ fed_texts 0 feeds.now ++ ending (length monitor.now.entries)) }
-{
-    let mut output = Vec::new(alloc);
-    match print_feeds(alloc, monitor, feeds, &mut output) {
-        Ok(()) => String::from_utf8(output).map_err(|_| AllocError),
-        Err(error) => {
-            drop(output);
-            Err(error)
-        }
-    }
-}
-
-/// What a run came to whose scripts were all asked to their end.
-fn done_text(
-    alloc: Global,
-    monitor: &Monitor,
-    feeds: &[ScriptFeed<'_>],
-    journal: bool,
-) -> Result<RunText, AllocError>
-    requires { length feeds.now ≤ MAX_SCRIPTS }
-    ensures journal { IfOk result (λ run. IfSome run.journal (λ text. string_bytes text ≡ journal_text monitor.now.entries)) }
-    ensures output { IfOk result (λ run. string_bytes run.output ≡ fed_texts 0 feeds.now ++ ending (length monitor.now.entries)) }
-    ensures whole { OnOk result (All (λ f. f.failed ≡ false) feeds.now) }
-    ensures legal { IsLegal monitor.now.start monitor.now.entries }
-{
-    // that its journal is legal
-    let _ = monitor.entries();
-    if any_failed(feeds) {
-        return Err(AllocError);
-    }
-    let output = feeds_output(alloc, monitor, feeds)?;
-    with_journal(alloc, monitor, output, journal)
-}
-
-/// The same of a run, which is dropped.
+/// What a run came to whose scripts were all asked to their end. The run is dropped.
 fn finish(
     alloc: Global,
     left: RunDone<ScriptFeed<'_>>,
     journal: bool,
 ) -> Result<RunText, CommandFault>
     requires { vec_len left.feeds ≤ MAX_SCRIPTS }
+    ensures output { IfOk result (λ run. string_bytes run.output ≡ fed_texts 0 left.entry.feeds.items ++ ending (length left.entry.monitor.entries)) }
     ensures journal { IfOk result (λ run. IfSome run.journal (λ text. string_bytes text ≡ journal_text left.entry.monitor.entries)) }
+    ensures asked { IfOk result (λ run. is_some run.journal ≡ journal) }
     ensures legal { IsLegal left.entry.monitor.start left.entry.monitor.entries }
+    ensures fault { IfErr result IsRunFault }
 {
     let text = done_text(alloc, &left.monitor, &left.feeds, journal);
     drop(left);
@@ -146,6 +54,7 @@ fn fault_of(kind: RunFaultKind) -> CommandFault
 }
 
 /// Runs feeds over a monitor, each in a thread of its own.
+#[tactic(auto, using(crate::proofs::Feeds::run_stops))]
 fn run_feeds<R: Threads + Wait + Sync>(
     rt: &R,
     alloc: Global,
@@ -156,7 +65,8 @@ fn run_feeds<R: Threads + Wait + Sync>(
     requires ready { AllAt (λ f. f.stage) stage.Ready feeds.items }
     requires count { vec_len feeds ≤ MAX_SCRIPTS }
     requires fresh { monitor.entries ≡ [] }
-    ensures { IfOk result (λ run. IfSome run.journal (λ text. IsJournalFrom monitor.start (vec_len feeds.entry) (string_bytes text))) }
+    ensures ok { IfOk result (λ run. LeavesInThreads monitor.start (vec_len feeds.entry) journal (string_bytes run.output) (option_map (λ text. string_bytes text) run.journal)) }
+    ensures fault { IfErr result IsRunFault }
 {
     match run_sessions(rt, alloc, monitor, feeds) {
         Ok(run) => finish(alloc, run, journal),
@@ -179,7 +89,8 @@ fn run_over<R: Threads + Wait + Sync>(
 ) -> Result<RunText, CommandFault>
     requires count { (0 < length scripts.now) × (length scripts.now ≤ MAX_SCRIPTS) }
     requires fresh { monitor.entries ≡ [] }
-    ensures { IfOk result (λ run. IfSome run.journal (λ text. IsJournalFrom monitor.start (length scripts.now) (string_bytes text))) }
+    ensures ok { IfOk result (λ run. LeavesInThreads monitor.start (length scripts.now) journal (string_bytes run.output) (option_map (λ text. string_bytes text) run.journal)) }
+    ensures fault { IfErr result IsRunFault }
 {
     let Ok(feeds) = make_feeds(alloc, names, scripts) else {
         drop(monitor);
@@ -198,7 +109,8 @@ fn run_start<R: Threads + Wait + Sync>(
     journal: bool,
 ) -> Result<RunText, CommandFault>
     requires { (0 < length scripts.now) × (length scripts.now ≤ MAX_SCRIPTS) }
-    ensures { IfOk result (λ run. IfSome run.journal (λ text. IsJournalFrom start (length scripts.now) (string_bytes text))) }
+    ensures ok { IfOk result (λ run. LeavesInThreads start (length scripts.now) journal (string_bytes run.output) (option_map (λ text. string_bytes text) run.journal)) }
+    ensures fault { IfErr result IsRunFault }
 {
     let Ok(monitor) = Monitor::open(alloc, start) else {
         return Err(CommandFault::Memory);
@@ -222,7 +134,8 @@ pub fn run_threads<R: Threads + Wait + Sync>(
 ) -> Result<RunText, CommandFault>
     requires count { (0 < length scripts.now) × (length scripts.now ≤ MAX_SCRIPTS) }
     requires limit { All (λ script. length script.now ≤ SCRIPT_LIMIT) scripts.now }
-    ensures journal { IfOk result (λ run. IfSome run.journal (λ text. IsJournalOf start.now (length scripts.now) (string_bytes text))) }
+    ensures ok { IfOk result (λ run. RunsInThreads start.now (length scripts.now) journal (string_bytes run.output) (option_map (λ text. string_bytes text) run.journal)) }
+    ensures fault { IfErr result (λ fault. RefusesRun start.now fault) }
 {
     let (names, start) = read_start(alloc, start)?.into_parts();
     let run = run_start(rt, alloc, &names, start, scripts, journal);

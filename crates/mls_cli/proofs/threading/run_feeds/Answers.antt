@@ -1,7 +1,8 @@
 use Rattle.std.proofs.Common.{string_bytes}
-use Rattle.mls_cli.proofs.Feeds.{journal_run}
+use Rattle.mls_cli.proofs.Feeds.{run_left}
 use Rattle.mls_cli.proofs.threading.run_feeds.Goals as goal
 
-pub returns-in-Ok : goal.returns-in-Ok
-returns-in-Ok g c =
-    journal_run c.finish.result (λ run. run.journal) (λ text. string_bytes text) c.args.monitor _ _ c.requires.fresh c.in-Ok.ensures.ok c.finish.ensures.legal c.finish.ensures.journal
+pub returns-in-Ok-clause-ok : goal.returns-in-Ok-clause-ok
+returns-in-Ok-clause-ok g c =
+    run_left c.finish.result (λ run. string_bytes run.output) (λ run. run.journal) (λ text. string_bytes text) c.args.monitor _ _ c.args.journal c.in-Ok.run'.feeds c.requires.fresh
+    c.in-Ok.ensures.ok c.finish.ensures.legal c.in-Ok.ensures.feeds c.finish.ensures.output c.finish.ensures.journal c.finish.ensures.asked

@@ -1,7 +1,9 @@
-use Rattle.std.proofs.Common.{string_bytes, subst, IfOk, IfSome}
-use Rattle.mls_cli.specs.Run.{IsJournalFrom}
+use Rattle.std.proofs.Common.{string_bytes, subst, IfOk}
+use Rattle.std.specs.Prelude.{option_map}
+use Rattle.mls_cli.specs.Run.{LeavesInThreads}
 use Rattle.mls_cli.proofs.threading.run_over.Goals as goal
 
-pub returns : goal.returns
-returns g c =
-    subst (λ n. IfOk c.run_feeds.result (λ run. IfSome run.journal (λ text. IsJournalFrom c.args.monitor.start n (string_bytes text)))) c.in-Ok.ensures.count c.run_feeds.ensures
+pub returns-clause-ok : goal.returns-clause-ok
+returns-clause-ok g c =
+    subst (λ n. IfOk c.run_feeds.result (λ run. LeavesInThreads c.args.monitor.start n c.args.journal (string_bytes run.output) (option_map (λ text. string_bytes text) run.journal)))
+    c.in-Ok.ensures.count c.run_feeds.ensures.ok

@@ -1,7 +1,7 @@
 use Rattle.std.proofs.Common.{◌≡◌, vec_len}
 use Rattle.mls_sessions.specs.declared.feed.Stage.TheVariants.{Ready}
 use Rattle.mls_sessions.specs.Runs.{AllAt}
-use Rattle.mls_cli.proofs.threading.make_feeds.Given as goal
+use Rattle.mls_cli.proofs.fed.make_feeds.Given as goal
 
 abbrev pub invariant-loop-script : goal.invariant-loop-script
 invariant-loop-script l = record { ready : AllAt (λ f. f.stage) Ready l.feeds.items; count : vec_len l.feeds ≡ l.script-index }

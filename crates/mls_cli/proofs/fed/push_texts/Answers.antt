@@ -1,6 +1,6 @@
 use Rattle.std.proofs.Common.{refl, sym, ap, ◌∙◌, ◌+◌, ◌++◌, append-nil, arith}
 use Rattle.mls_cli.proofs.Feeds.{fed_none, fed_more}
-use Rattle.mls_cli.proofs.threading.push_texts.Goals as goal
+use Rattle.mls_cli.proofs.fed.push_texts.Goals as goal
 
 pub loop-feed-init : goal.loop-feed-init
 loop-feed-init c = record { text = sym (ap (λ t. c.args.output.now.items ++ t) (fed_none 0) ∙ append-nil c.args.output.now.items); session = refl }
