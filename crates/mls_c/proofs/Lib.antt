@@ -1,4 +1,4 @@
-pub mod Blocks
+pub mod Boxes
 pub mod Openings
 pub mod Pointers
 pub mod ReadBack

@@ -2,7 +2,6 @@
 ghost use Rattle.std.specs.Prelude.{◌≡◌, Some, None, IfSome, IfNone};
 ghost use Rattle.mls_c.specs.Handle.{Told};
 
-use crate::block::Block;
 use crate::kept::Kept;
 use crate::opened::Opened;
 use std::alloc::Global;
@@ -32,14 +31,14 @@ impl Mls {
         }
         self.held = 0;
         let monitor = std::mem::replace(&mut self.monitor, Kept::none());
-        Some(monitor.into_block(alloc).into_box())
+        Some(monitor.into_box(alloc))
     }
 
     /// Puts an open monitor into the handle.
     pub(crate) fn put(&mut self, opened: Box<Opened, Global>)
         ensures { self.new.monitor.value ≡ Some opened.value }
     {
-        self.monitor = Kept::of(Block::of(opened));
+        self.monitor = Kept::of(opened);
         self.held = 1;
     }
 }

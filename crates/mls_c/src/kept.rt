@@ -4,7 +4,6 @@ ghost use Rattle.std.specs.Coded.{coded_option};
 ghost use Rattle.mls_c.specs.Handle.{owns_opened};
 ghost use Rattle.mls_c.specs.Opened.{Opened, opened_code};
 
-use crate::block::Block;
 use crate::opened::Opened;
 use std::alloc::Global;
 use std::marker::Model;
@@ -34,23 +33,20 @@ impl Kept {
         }
     }
 
-    /// The monitor in a block.
-    pub(crate) fn of(block: Block<Opened, Global>) -> Kept
-        ensures { result.value ≡ Some block.value }
+    /// The monitor in a box.
+    pub(crate) fn of(boxed: Box<Opened, Global>) -> Kept
+        ensures { result.value ≡ Some boxed.value }
     {
-        let Block { at, alloc: _ } = block;
-        Kept { at: at.cast() }
+        Kept {
+            at: Box::into_raw(boxed).cast(),
+        }
     }
 
-    /// The block of the monitor, which goes back to the heap.
-    pub(crate) fn into_block(self, alloc: Global) -> Block<Opened, Global>
+    /// The box of the monitor, whose block goes back to the heap.
+    pub(crate) fn into_box(self, alloc: Global) -> Box<Opened, Global>
         requires { IsSome self.value }
         ensures { Some result.value ≡ self.value }
     {
-        let Kept { at } = self;
-        Block {
-            at: at.cast(),
-            alloc,
-        }
+        unsafe { Box::from_raw(alloc, self.at.cast()) }
     }
 }

@@ -3,7 +3,6 @@
 
 mod answer;
 mod asking;
-mod block;
 mod fault;
 mod handle;
 mod journal;
