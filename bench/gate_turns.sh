@@ -1,7 +1,8 @@
 #!/usr/bin/env bash
 # The cost of a turn at the gate: has 1, 2 and 4 threads do nothing but submit a release, and work between two of them, through the gate
 # and under the toolchain's mutex round the same monitor (crates/mls_turns), and prints nanoseconds by the clock and of processor time a
-# turn, what a run of few turns takes taken off: the least of seven runs each, gate and mutex by turns.
+# turn, what a run of few turns takes taken off: the least of seven runs of each kind, gate and mutex by turns. (A run of few turns may
+# have a nap in it that is longer than all of them, so many and few are not compared run by run.)
 set -u
 export LC_ALL=C
 cd "$(dirname -- "$0")/.." || exit 1
@@ -32,10 +33,11 @@ for rounds, instructions in ((0, 0), (12, 100), (250, 2000)):
         least = {}
         for _ in range(7):
             for how in ("gate", "mutex"):
-                many, few = spent(how, threads, turns, rounds), spent(how, threads, FEW // threads, rounds)
-                taken = [(a - b) * 1e9 / (TURNS - FEW) for a, b in zip(many, few)]
-                least[how] = [min(pair) for pair in zip(taken, least.get(how, taken))]
-        (clock, work), (mutex_clock, mutex_work) = least["gate"], least["mutex"]
+                for each in (turns, FEW // threads):
+                    took = spent(how, threads, each, rounds)
+                    least[how, each] = [min(pair) for pair in zip(took, least.get((how, each), took))]
+        taken = {how: [(a - b) * 1e9 / (TURNS - FEW) for a, b in zip(least[how, turns], least[how, FEW // threads])] for how in ("gate", "mutex")}
+        (clock, work), (mutex_clock, mutex_work) = taken["gate"], taken["mutex"]
         print(f"| {threads} | {instructions} | {clock:.0f}, {work:.0f} | {mutex_clock:.0f}, {mutex_work:.0f} "
               f"| {clock / mutex_clock:.2f} | {work / mutex_work:.2f} |", flush=True)
 TIMES
