@@ -27,7 +27,7 @@ pub enum Job<'a> {
 }
 
 /// The version, and the toolchain's line.
-const VERSION: &str = "0.1.0, proved with rattle-kit-13f logic dac8208d650f15bf";
+const VERSION: &str = "0.1.0, proved with rattle-kit-13b logic dac8208d650f15bf";
 
 const ABOUT: &str =
     "A reference monitor for multilevel security. Without a command it answers the script on \
