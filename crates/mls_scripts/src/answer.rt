@@ -24,7 +24,7 @@ pub enum Answer {
     Replied(Reply),
 }
 
-/// A script that is being answered: the names that its lines may use, and the session that it asks in.
+/// A script that is answered line by line: the names that its lines may use, and the session that it asks in.
 #[derive(Drop)]
 pub struct Script<'n, N: Allocator> {
     pub names: &'n Names<N>,
@@ -32,10 +32,10 @@ pub struct Script<'n, N: Allocator> {
 }
 
 impl<N: Allocator> Script<'_, N> {
-    /// Asks what a line asks.
+    /// Asks what a line asks, and binds the line's variable, where it has one, to the object that was made.
     ///
     /// # Errors
-    /// `AllocError` where an allocation failed: the variables and the monitor stay as they were.
+    /// `AllocError` where an allocation failed. The variables and the monitor are then as they were.
     pub fn answer<A: Allocator, V: Allocator + Copy>(
         &self,
         vars: &mut Vars<V>,
@@ -89,6 +89,3 @@ impl<N: Allocator> Script<'_, N> {
         Ok(reply)
     }
 }
-
-#[cfg(test)]
-mod tests;

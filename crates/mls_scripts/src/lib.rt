@@ -11,6 +11,7 @@ mod output;
 mod served;
 mod serving;
 
+pub use answer::{Answer, Script};
 pub use feed::ScriptFeed;
 pub use laws::scripts_are_served_by_halves;
 pub use serving::{SCRIPT_LIMIT, ServeFault, serve};

@@ -8,6 +8,8 @@ mod commands;
 #[cfg(test)]
 mod lines;
 #[cfg(test)]
+mod one_line;
+#[cfg(test)]
 mod rows;
 #[cfg(test)]
 mod scripts;

@@ -1,10 +1,9 @@
 //! A variable is bound to the object that its line made, and to nothing else, whatever allocation is refused.
-use crate::answer::{Answer, Script};
-use mls_lines::Vars;
+use mls_cli::{Loaded, Vars, standard_start};
 use mls_monitor::Monitor;
 use mls_requests::{Reason, Reply};
 use mls_rules::Start;
-use mls_starts::{Loaded, standard_start};
+use mls_scripts::{Answer, Script};
 use mls_tables::ObjectId;
 use refusing::Refusing;
 use std::alloc::{AllocError, Allocator, Global};
