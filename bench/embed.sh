@@ -1,6 +1,7 @@
 #!/usr/bin/env bash
 # What the calls of the library for C cost: nanoseconds a call, the least of five runs, and instructions a call (by callgrind, the
-# difference of two counts). `cells` is a C program that looks up the same packed cells with no monitor.
+# difference of two counts). `cells` is a C program that looks up the same packed cells with no monitor. Submits are also timed with the
+# large pages that glibc asks for where it is told to.
 set -u
 export LC_ALL=C
 cd "$(dirname -- "$0")/.." || exit 1
@@ -25,3 +26,5 @@ for row in "cells 100000000" "check 100000000" "decide 20000000" "denied 5000000
   fi
   echo "$what: $(nanoseconds "$what" "$count"), $each"
 done
+export GLIBC_TUNABLES=glibc.malloc.hugetlb=1
+for what in denied granted; do echo "$what, large pages: $(nanoseconds "$what" 5000000)"; done
