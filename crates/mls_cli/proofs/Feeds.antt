@@ -1,12 +1,18 @@
 -- Feeds in their order, and what they print.
-use Rattle.std.proofs.Common.{◌≡◌, ◌<◌, ◌+◌, ℕ, take, length, get_or, List, [], ◌∷◌, ◌++◌, refl, sym, ap, ◌∙◌, arith, subst, Option, Some, None, IfSome, IfOk, IfErr, Result, Ok, Err, drop}
-use Rattle.std.specs.Prelude.{Bool, option_map, is_some, vec_len}
+use Rattle.std.proofs.Common.{◌≡◌, ◌<◌, ◌+◌, ℕ, suc, false, take, map, length, get_or, List, [], ◌∷◌, ◌++◌, refl, sym, ap, ◌∙◌, arith, subst, Option, IfSome, IfOk, IfErr, Result, Ok, Err, drop}
+use Rattle.std.specs.Prelude.{Bool, OnOk, option_map, is_some, vec_len}
 use Rattle.std.specs.declared.vec.Vec.{Vec}
-use Rattle.std.proofs.lemmas.List.{append_assoc, append-nil, take_more, length-take-le}
+use Rattle.std.proofs.lemmas.List.{append_assoc, append-nil, take_more, length-take-le, map-append}
 pub use Rattle.mls_sessions.proofs.Laws.{at_snoc}
 use Rattle.mls_scripts.specs.Feed.{ScriptFeed}
+use Rattle.mls_scripts.specs.Fed.{Gives, Takes, Prints}
+use Rattle.mls_scripts.specs.Lines.{lines_of}
+use Rattle.mls_scripts.proofs.Laws.{fed_prints}
+use Rattle.mls_requests.specs.declared.entry.Entry.{Entry}
+use Rattle.mls_lines.specs.Names.{Names}
 use Rattle.mls_state.specs.State.{State}
 use Rattle.mls_monitor.specs.Journal.{Monitor, IsLegal}
+use Rattle.mls_sessions.specs.Feeds.{Exchange, AllFed}
 use Rattle.mls_sessions.specs.Journals.{AllBelow}
 use Rattle.mls_sessions.specs.Runs.{Grew}
 use Rattle.mls_starts.specs.Says.{SaysStart}
@@ -18,7 +24,8 @@ use Rattle.mls_cli.specs.declared.command.CommandFault.{CommandFault}
 use Rattle.mls_cli.specs.declared.command.CommandFault.TheVariants as faults
 use Rattle.mls_cli.specs.Checked.{RefusesLoad, IsRunFault, RefusesRun}
 use Rattle.mls_cli.specs.Commands.{run_fault}
-use Rattle.mls_cli.specs.Run.{heading, ending, fed_texts, LeavesInThreads, RunsInThreads}
+use Rattle.mls_cli.specs.Run.{heading, ending, ThreadsPrint, LeavesInThreads, RunsInThreads}
+use Rattle.mls_cli.specs.Fed.{IsFeedOf, AreFeedsOf, NoneFailed, LeavesFeeds, fed_texts}
 use Rattle.mls_cli.proofs.Runs.{journal_asked}
 
 -- no feed prints nothing
@@ -53,38 +60,111 @@ fed_more begun now headed new said feeds i k d within is so_far head grown says 
     ∙ ap (λ t. t ++ last) (append_assoc begun front (heading k)) ∙ append_assoc begun (front ++ heading k) last
     ∙ ap (λ t. begun ++ t) (sym (fed_taken feeds i k d within is))
 
--- what a run in threads left, of a monitor that grew from an empty journal
-pub left_in_threads : {X : Type 0} (bytes : X → List ℕ) (old new : Monitor) (n : ℕ) (asked : Bool) (feeds : List ScriptFeed) (output : List ℕ) (journal : Option X)
-    → old.entries ≡ [] → Grew old.start old.entries n new → IsLegal new.start new.entries → length feeds ≡ n
-    → output ≡ fed_texts 0 feeds ++ ending (length new.entries) → IfSome journal (λ text. bytes text ≡ journal_text new.entries) → is_some journal ≡ asked
-    → LeavesInThreads old.start n asked output (option_map bytes journal)
-left_in_threads bytes old new n asked feeds output journal fresh grew legal many printed left there = (
+-- the feeds of one script more
+feeds_more : (names : Names) (scripts : List (List ℕ)) (script : List ℕ) (feeds : List ScriptFeed) (f : ScriptFeed) → AreFeedsOf names scripts feeds → IsFeedOf names script f
+    → AreFeedsOf names (scripts ++ script ∷ []) (feeds ++ f ∷ [])
+feeds_more names [] script [] f are is = (is, tt)
+feeds_more names [] script (g ∷ feeds) f are is = absurd are
+feeds_more names (s ∷ scripts) script [] f are is = absurd are
+feeds_more names (s ∷ scripts) script (g ∷ feeds) f are is = (are.0, feeds_more names scripts script feeds f are.1 is)
+
+-- the same of scripts up to a place
+pub feeds_taken : {X : Type 0} (of : X → List ℕ) (names : Names) (scripts : List X) (i : ℕ) (d : X) (feeds : List ScriptFeed) (f : ScriptFeed) → i < length scripts
+    → AreFeedsOf names (map of (take i scripts)) feeds → IsFeedOf names (of (get_or scripts i d)) f → AreFeedsOf names (map of (take (i + 1) scripts)) (feeds ++ f ∷ [])
+feeds_taken of names scripts i d feeds f within are is =
+    let more : map of (take (i + 1) scripts) ≡ map of (take i scripts) ++ of (get_or scripts i d) ∷ [] =
+    ap (map of) (take_more scripts i d within) ∙ map-append of (take i scripts) (get_or scripts i d ∷ []) in
+    subst (λ ss. AreFeedsOf names ss (feeds ++ f ∷ [])) (sym more) (feeds_more names (map of (take i scripts)) (of (get_or scripts i d)) feeds f are is)
+
+are_many : (names : Names) (scripts : List (List ℕ)) (feeds : List ScriptFeed) → AreFeedsOf names scripts feeds → length feeds ≡ length scripts
+are_many names [] [] are = refl
+are_many names [] (f ∷ feeds) are = absurd are
+are_many names (s ∷ scripts) [] are = absurd are
+are_many names (s ∷ scripts) (f ∷ feeds) are = ap suc (are_many names scripts feeds are.1)
+
+-- one more that didn't fail
+none_more : (feeds : List ScriptFeed) (f : ScriptFeed) → NoneFailed feeds → f.failed ≡ false → NoneFailed (feeds ++ f ∷ [])
+none_more [] f none is = (is, tt)
+none_more (g ∷ feeds) f none is = (none.0, none_more feeds f none.1 is)
+
+pub none_taken : (feeds : List ScriptFeed) (i : ℕ) (d : ScriptFeed) → i < length feeds → NoneFailed (take i feeds) → d ≡ get_or feeds i d → d.failed ≡ false → NoneFailed (take (i + 1) feeds)
+none_taken feeds i d within none here is =
+    subst NoneFailed (sym (take_more feeds i d within)) (none_more (take i feeds) (get_or feeds i d) none (subst (λ f. f.failed ≡ false) here is))
+
+-- what feeds have to say is what their scripts print
+threads_print : (names : Names) (start : State) (entries : List Entry) (k : ℕ) (scripts : List (List ℕ)) (feeds left : List ScriptFeed) → AreFeedsOf names scripts feeds
+    → AllFed Gives Takes start [] entries k feeds left → NoneFailed left → ThreadsPrint names start entries k scripts (fed_texts k left)
+unfolding fed_texts
+threads_print names start entries k [] [] [] are fed none = refl
+threads_print names start entries k [] [] (g ∷ left) are fed none = absurd fed
+threads_print names start entries k [] (f ∷ feeds) left are fed none = absurd are
+threads_print names start entries k (s ∷ scripts) [] left are fed none = absurd are
+threads_print names start entries k (s ∷ scripts) (f ∷ feeds) [] are fed none = absurd fed
+threads_print names start entries k (s ∷ scripts) (f ∷ feeds) (g ∷ left) are fed none =
+    let xs : List Exchange = fed.0.0 in
+    let is : IsFeedOf names s f = are.0 in
+    let printed = fed_prints f g xs fed.0.1 none.0 in
+    let said : List ℕ = printed.0 in
+    let prints : Prints names [] (lines_of s) xs said =
+    subst (λ n. Prints n [] (lines_of s) xs said) is.names_are
+    (subst (λ vs. Prints f.names vs (lines_of s) xs said) is.vars (subst (λ rest. Prints f.names f.vars (lines_of rest) xs said) is.rest printed.2)) in (
+      xs,
+      said,
+      fed_texts (k + 1) left,
+      fed.0.2,
+      prints,
+      ap (λ t. (heading k ++ t) ++ fed_texts (k + 1) left) (printed.1 ∙ ap (λ t. t ++ said) is.text),
+      threads_print names start entries (k + 1) scripts feeds left are.1 fed.1 none.1,
+    )
+
+-- so it is of a run
+pub leaves_in_threads : (names : Names) (start : State) (scripts : List (List ℕ)) (feeds : List ScriptFeed) (asked : Bool) (output : List ℕ) (journal : Option (List ℕ)) → AreFeedsOf names scripts feeds
+    → LeavesFeeds start feeds asked output journal → LeavesInThreads names start scripts asked output journal
+leaves_in_threads names start scripts feeds asked output journal are so = (
+  so.0,
+  fed_texts 0 so.1,
+  so.2,
+  subst (λ n. AllBelow n so.0) (are_many names scripts feeds are) so.3,
+  threads_print names start so.0 0 scripts feeds so.1 are so.4 so.5,
+  so.6,
+  so.7,
+)
+
+-- what a run of feeds left, of a monitor that grew from an empty journal
+left_feeds : {X : Type 0} (bytes : X → List ℕ) (old new : Monitor) (asked : Bool) (feeds left : List ScriptFeed) (output : List ℕ) (journal : Option X)
+    → old.entries ≡ [] → Grew old.start old.entries (length feeds) new → IsLegal new.start new.entries
+    → AllFed Gives Takes old.start old.entries (drop (length old.entries) new.entries) 0 feeds left → NoneFailed left
+    → output ≡ fed_texts 0 left ++ ending (length new.entries) → IfSome journal (λ text. bytes text ≡ journal_text new.entries) → is_some journal ≡ asked
+    → LeavesFeeds old.start feeds asked output (option_map bytes journal)
+left_feeds bytes old new asked feeds left output journal fresh grew legal fed none printed told there = (
   new.entries,
-  feeds,
+  left,
   subst (λ s. IsLegal s new.entries) grew.start legal,
-  subst (λ js. AllBelow n (drop (length js) new.entries)) fresh grew.below,
-  many,
+  subst (λ js. AllBelow (length feeds) (drop (length js) new.entries)) fresh grew.below,
+  subst (λ js. AllFed Gives Takes old.start js (drop (length js) new.entries) 0 feeds left) fresh fed,
+  none,
   printed,
-  journal_asked bytes journal asked _ there left,
+  journal_asked bytes journal asked _ there told,
 )
 
 -- the same of what a run returns
-pub run_left : {T E X Z : Type 0} (result : Result T E) (output_of : T → List ℕ) (journal_of : T → Option X) (bytes : X → List ℕ) (old new : Monitor) (n : ℕ) (asked : Bool)
-    (feeds : Vec ScriptFeed Z) → old.entries ≡ [] → Grew old.start old.entries n new → IsLegal new.start new.entries → vec_len feeds ≡ n
-    → IfOk result (λ run. output_of run ≡ fed_texts 0 feeds.items ++ ending (length new.entries))
+pub run_left : {T E X Z : Type 0} (result : Result T E) (output_of : T → List ℕ) (journal_of : T → Option X) (bytes : X → List ℕ) (old new : Monitor) (asked : Bool)
+    (feeds left : Vec ScriptFeed Z) → old.entries ≡ [] → Grew old.start old.entries (vec_len feeds) new → IsLegal new.start new.entries
+    → AllFed Gives Takes old.start old.entries (drop (length old.entries) new.entries) 0 feeds.items left.items → OnOk result (NoneFailed left.items)
+    → IfOk result (λ run. output_of run ≡ fed_texts 0 left.items ++ ending (length new.entries))
     → IfOk result (λ run. IfSome (journal_of run) (λ text. bytes text ≡ journal_text new.entries)) → IfOk result (λ run. is_some (journal_of run) ≡ asked)
-    → IfOk result (λ run. LeavesInThreads old.start n asked (output_of run) (option_map bytes (journal_of run)))
-run_left (Ok run) output_of journal_of bytes old new n asked feeds fresh grew legal many printed left there =
-    left_in_threads bytes old new n asked feeds.items (output_of run) (journal_of run) fresh grew legal (sym feeds.ok.0 ∙ many) printed left there
-run_left (Err e) output_of journal_of bytes old new n asked feeds fresh grew legal many printed left there = left
+    → IfOk result (λ run. LeavesFeeds old.start feeds.items asked (output_of run) (option_map bytes (journal_of run)))
+run_left (Ok run) output_of journal_of bytes old new asked feeds left fresh grew legal fed none printed told there =
+    left_feeds bytes old new asked feeds.items left.items (output_of run) (journal_of run) fresh (subst (λ n. Grew old.start old.entries n new) feeds.ok.0 grew) legal fed none printed told there
+run_left (Err e) output_of journal_of bytes old new asked feeds left fresh grew legal fed none printed told there = printed
 
 -- what a run left over the start that a file says
-pub run_says : {T E : Type 0} (result : Result T E) (output_of : T → List ℕ) (journal_of : T → Option (List ℕ)) (file : List ℕ) (n : ℕ) (asked : Bool) (begun : State) (loaded : Loaded)
-    → SaysStart file loaded → begun ≡ loaded.start → IfOk result (λ run. LeavesInThreads begun n asked (output_of run) (journal_of run))
-    → IfOk result (λ run. RunsInThreads file n asked (output_of run) (journal_of run))
-run_says (Ok run) output_of journal_of file n asked begun loaded says same is =
-    (loaded, says, subst (λ s. LeavesInThreads s n asked (output_of run) (journal_of run)) same is)
-run_says (Err e) output_of journal_of file n asked begun loaded says same is = is
+pub run_says : {T E : Type 0} (result : Result T E) (output_of : T → List ℕ) (journal_of : T → Option (List ℕ)) (file : List ℕ) (names : Names) (scripts : List (List ℕ)) (asked : Bool) (begun : State)
+    (loaded : Loaded) → SaysStart file loaded → names ≡ loaded.names → begun ≡ loaded.start
+    → IfOk result (λ run. LeavesInThreads names begun scripts asked (output_of run) (journal_of run)) → IfOk result (λ run. RunsInThreads file scripts asked (output_of run) (journal_of run))
+run_says (Ok run) output_of journal_of file names scripts asked begun loaded says called same is =
+    (loaded, says, subst (λ n. LeavesInThreads n loaded.start scripts asked (output_of run) (journal_of run)) called (subst (λ s. LeavesInThreads names s scripts asked (output_of run) (journal_of run)) same is))
+run_says (Err e) output_of journal_of file names scripts asked begun loaded says called same is = is
 
 -- why a run in threads isn't done
 pub run_stops : (kind : RunFaultKind) → IsRunFault (run_fault kind)

@@ -3,3 +3,4 @@ pub mod Commands
 pub mod FaultLines
 pub mod Replayed
 pub mod Run
+pub mod Fed

@@ -1,10 +1,11 @@
 //! The feeds of a run in threads, and what they print.
-ghost use Rattle.std.specs.Prelude.{◌≡◌, ◌≤◌, ◌++◌, length, vec_len, string_bytes, is_some, false, All, IfOk, IfSome, OnOk};
+ghost use Rattle.std.specs.Prelude.{◌≡◌, ◌≤◌, ◌++◌, length, map, vec_len, string_bytes, is_some, false, IfOk, IfSome, OnOk};
 ghost use Rattle.mls_sessions.specs.declared.feed.Stage.TheVariants as stage;
 ghost use Rattle.mls_monitor.specs.Journal.{IsLegal};
 ghost use Rattle.mls_sessions.specs.Runs.{AllAt};
 ghost use Rattle.mls_journal.specs.EntryText.{journal_text};
-ghost use Rattle.mls_cli.specs.Run.{ending, fed_texts};
+ghost use Rattle.mls_cli.specs.Run.{ending};
+ghost use Rattle.mls_cli.specs.Fed.{AreFeedsOf, NoneFailed, fed_texts};
 
 use crate::run_text::{RunText, push_ending, push_heading, with_journal};
 use crate::running::MAX_SCRIPTS;
@@ -14,7 +15,7 @@ use mls_scripts::ScriptFeed;
 use std::alloc::{AllocError, Global};
 
 /// The feeds of scripts over these names, in their order.
-#[tactic(auto, using(crate::proofs::Feeds::at_snoc))]
+#[tactic(auto, using(crate::proofs::Feeds::at_snoc, crate::proofs::Feeds::feeds_taken))]
 pub fn make_feeds<'a>(
     alloc: Global,
     names: &'a Names,
@@ -22,6 +23,7 @@ pub fn make_feeds<'a>(
 ) -> Result<Vec<ScriptFeed<'a>>, AllocError>
     ensures ready { IfOk result (λ feeds. AllAt (λ f. f.stage) stage.Ready feeds.items) }
     ensures count { IfOk result (λ feeds. vec_len feeds ≡ length scripts.now) }
+    ensures feeds { IfOk result (λ feeds. AreFeedsOf names.now (map (λ script. script.now) scripts.now) feeds.items) }
 {
     let mut feeds = Vec::new(alloc);
     for script in scripts {
@@ -32,7 +34,7 @@ pub fn make_feeds<'a>(
 
 /// Whether an allocation failed for some script.
 fn any_failed(feeds: &[ScriptFeed<'_>]) -> bool
-    ensures { result ≡ false → All (λ f. f.failed ≡ false) feeds.now }
+    ensures { result ≡ false → NoneFailed feeds.now }
 {
     for feed in feeds {
         if feed.failed() {
@@ -100,7 +102,7 @@ pub fn done_text(
     ensures journal { IfOk result (λ run. IfSome run.journal (λ text. string_bytes text ≡ journal_text monitor.now.entries)) }
     ensures output { IfOk result (λ run. string_bytes run.output ≡ fed_texts 0 feeds.now ++ ending (length monitor.now.entries)) }
     ensures asked { IfOk result (λ run. is_some run.journal ≡ journal) }
-    ensures whole { OnOk result (All (λ f. f.failed ≡ false) feeds.now) }
+    ensures whole { OnOk result (NoneFailed feeds.now) }
     ensures legal { IsLegal monitor.now.start monitor.now.entries }
 {
     // that its journal is legal

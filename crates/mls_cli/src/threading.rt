@@ -1,12 +1,13 @@
 //! Scripts that are run over a start file, each in a thread of its own.
-ghost use Rattle.std.specs.Prelude.{◌≡◌, ◌<◌, ◌≤◌, ◌++◌, [], length, vec_len, string_bytes, option_map, is_some, All, IfOk, IfErr, IfSome};
+ghost use Rattle.std.specs.Prelude.{◌≡◌, ◌<◌, ◌≤◌, ◌++◌, [], length, map, vec_len, string_bytes, option_map, is_some, All, IfOk, IfErr, IfSome, OnOk};
 ghost use Rattle.mls_sessions.specs.declared.feed.Stage.TheVariants as stage;
 ghost use Rattle.mls_monitor.specs.Journal.{IsLegal};
 ghost use Rattle.mls_sessions.specs.Runs.{AllAt};
 ghost use Rattle.mls_cli.specs.Checked.{IsRunFault, RefusesRun};
 ghost use Rattle.mls_cli.specs.Commands.{run_fault};
 ghost use Rattle.mls_journal.specs.EntryText.{journal_text};
-ghost use Rattle.mls_cli.specs.Run.{ending, fed_texts, LeavesInThreads, RunsInThreads};
+ghost use Rattle.mls_cli.specs.Run.{ending, LeavesInThreads, RunsInThreads};
+ghost use Rattle.mls_cli.specs.Fed.{NoneFailed, LeavesFeeds, fed_texts};
 
 use crate::command::CommandFault;
 use crate::fed::{done_text, make_feeds};
@@ -32,6 +33,7 @@ fn finish(
     ensures output { IfOk result (λ run. string_bytes run.output ≡ fed_texts 0 left.entry.feeds.items ++ ending (length left.entry.monitor.entries)) }
     ensures journal { IfOk result (λ run. IfSome run.journal (λ text. string_bytes text ≡ journal_text left.entry.monitor.entries)) }
     ensures asked { IfOk result (λ run. is_some run.journal ≡ journal) }
+    ensures whole { OnOk result (NoneFailed left.entry.feeds.items) }
     ensures legal { IsLegal left.entry.monitor.start left.entry.monitor.entries }
     ensures fault { IfErr result IsRunFault }
 {
@@ -65,7 +67,7 @@ fn run_feeds<R: Threads + Wait + Sync>(
     requires ready { AllAt (λ f. f.stage) stage.Ready feeds.items }
     requires count { vec_len feeds ≤ MAX_SCRIPTS }
     requires fresh { monitor.entries ≡ [] }
-    ensures ok { IfOk result (λ run. LeavesInThreads monitor.start (vec_len feeds.entry) journal (string_bytes run.output) (option_map (λ text. string_bytes text) run.journal)) }
+    ensures ok { IfOk result (λ run. LeavesFeeds monitor.start feeds.entry.items journal (string_bytes run.output) (option_map (λ text. string_bytes text) run.journal)) }
     ensures fault { IfErr result IsRunFault }
 {
     match run_sessions(rt, alloc, monitor, feeds) {
@@ -89,7 +91,7 @@ fn run_over<R: Threads + Wait + Sync>(
 ) -> Result<RunText, CommandFault>
     requires count { (0 < length scripts.now) × (length scripts.now ≤ MAX_SCRIPTS) }
     requires fresh { monitor.entries ≡ [] }
-    ensures ok { IfOk result (λ run. LeavesInThreads monitor.start (length scripts.now) journal (string_bytes run.output) (option_map (λ text. string_bytes text) run.journal)) }
+    ensures ok { IfOk result (λ run. LeavesInThreads names.now monitor.start (map (λ script. script.now) scripts.now) journal (string_bytes run.output) (option_map (λ text. string_bytes text) run.journal)) }
     ensures fault { IfErr result IsRunFault }
 {
     let Ok(feeds) = make_feeds(alloc, names, scripts) else {
@@ -109,7 +111,7 @@ fn run_start<R: Threads + Wait + Sync>(
     journal: bool,
 ) -> Result<RunText, CommandFault>
     requires { (0 < length scripts.now) × (length scripts.now ≤ MAX_SCRIPTS) }
-    ensures ok { IfOk result (λ run. LeavesInThreads start (length scripts.now) journal (string_bytes run.output) (option_map (λ text. string_bytes text) run.journal)) }
+    ensures ok { IfOk result (λ run. LeavesInThreads names.now start (map (λ script. script.now) scripts.now) journal (string_bytes run.output) (option_map (λ text. string_bytes text) run.journal)) }
     ensures fault { IfErr result IsRunFault }
 {
     let Ok(monitor) = Monitor::open(alloc, start) else {
@@ -134,7 +136,7 @@ pub fn run_threads<R: Threads + Wait + Sync>(
 ) -> Result<RunText, CommandFault>
     requires count { (0 < length scripts.now) × (length scripts.now ≤ MAX_SCRIPTS) }
     requires limit { All (λ script. length script.now ≤ SCRIPT_LIMIT) scripts.now }
-    ensures ok { IfOk result (λ run. RunsInThreads start.now (length scripts.now) journal (string_bytes run.output) (option_map (λ text. string_bytes text) run.journal)) }
+    ensures ok { IfOk result (λ run. RunsInThreads start.now (map (λ script. script.now) scripts.now) journal (string_bytes run.output) (option_map (λ text. string_bytes text) run.journal)) }
     ensures fault { IfErr result (λ fault. RefusesRun start.now fault) }
 {
     let (names, start) = read_start(alloc, start)?.into_parts();

@@ -1,11 +1,10 @@
 -- What serving a script is made of, and going over lines that ask nothing.
-use Rattle.std.proofs.Common.{◌≡◌, ℕ, List, [], ◌∷◌, ◌++◌, Option, Some, None, Result, Ok, Err, refl, sym, ap, ◌∙◌, append_assoc, append-nil, subst}
+use Rattle.std.proofs.Common.{◌≡◌, ℕ, List, [], ◌∷◌, ◌++◌, Some, None, Result, Ok, Err, refl, sym, ap, ◌∙◌, append_assoc, append-nil, subst}
 use Rattle.mls_requests.specs.declared.ask.Ask.TheVariants.{Submit, Check}
 use Rattle.mls_lines.specs.declared.fault.LineFault.{LineFault}
 use Rattle.mls_lines.specs.Names.{Names}
 use Rattle.mls_lines.specs.LineView.{LineView, Blank, Asks}
 use Rattle.mls_lines.specs.ScriptLine.{line_of}
-use Rattle.mls_requests.specs.declared.reply.Reply.TheVariants.{Yes, Created, No, Undefined}
 use Rattle.mls_scripts.specs.Script.{Standing, answer_bytes, said_to, left_by, answer_to, after_line, answers, after_lines}
 use Rattle.mls_scripts.specs.Halves.{Asking, ask_in, aside, Halt, halt_by, next_of, heard_by, vars_told, told_by, after_ask, ByHalves}
 

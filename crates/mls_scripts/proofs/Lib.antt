@@ -5,3 +5,6 @@ pub mod Pieces
 pub mod Progress
 pub mod Runs
 pub mod Texts
+mod Fed
+pub mod Laws
+mod Alone

@@ -1,5 +1,5 @@
 -- A script's step in two halves: what it asks next, and what it makes of the answer. The monitor's own step stands between them.
-use Rattle.std.specs.Prelude.{◌≡◌, ℕ, List, [], ◌∷◌, ◌++◌, Option, Some, None, option_map, Result, Ok, Err}
+use Rattle.std.specs.Prelude.{◌≡◌, ℕ, List, [], ◌∷◌, ◌++◌, Option, Some, None, Result, Ok, Err}
 use Rattle.std.specs.FinSet as set
 use Rattle.mls_requests.specs.declared.ask.Ask.{Ask}
 use Rattle.mls_requests.specs.declared.ask.Ask.TheVariants.{Submit, Check}

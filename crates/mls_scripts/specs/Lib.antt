@@ -4,3 +4,4 @@ pub mod Halves
 pub mod Lines
 pub mod Script
 pub mod Serve
+pub mod Fed

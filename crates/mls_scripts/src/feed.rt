@@ -4,7 +4,8 @@ ghost use Rattle.mls_sessions.specs.declared.feed.Stage.TheVariants as stage;
 ghost use Rattle.mls_scripts.specs.Lines.{lines_of};
 ghost use Rattle.mls_scripts.specs.Halves.{next_of};
 ghost use Rattle.mls_scripts.specs.Asking.{asking};
-ghost use Rattle.mls_scripts.specs.Feed.{asking_of, GoesOn, Hears};
+ghost use Rattle.mls_scripts.specs.Feed.{asking_of};
+ghost use Rattle.mls_scripts.specs.Fed.{Gives, Takes};
 
 use crate::halves::{Asking, bind_heard, hear, make_room, push_answer, take_line};
 use crate::lines::first_line;
@@ -157,6 +158,10 @@ impl<'a> Feed for ScriptFeed<'a> {
 
     ghost stands_at = { λ f. f.stage };
 
+    ghost gives = { Gives };
+
+    ghost hears = { Takes };
+
     fn left(&self) -> u64 {
         self.rest.len() as u64
     }
@@ -170,10 +175,8 @@ impl<'a> Feed for ScriptFeed<'a> {
     fn next(&mut self) -> Option<Ask>
         ensures some { IfSome result (λ _. (length self.new.rest < length self.old.rest) × (self.new.stage ≡ stage.Waiting)) }
         ensures none { IfNone result ((length self.new.rest ≤ length self.old.rest) × (self.new.stage ≡ stage.Done)) }
-        ensures step { self.new.failed ≡ false → GoesOn self.old result self.new }
+        ensures given { Gives self.old result self.new }
         ensures failed { self.new.failed ≡ true → result ≡ None }
-        ensures kept { self.old.failed ≡ true → self.new.failed ≡ true }
-        ensures same { (self.new.names ≡ self.old.names) × (self.new.vars ≡ self.old.vars) }
     {
         if self.has_failed {
             self.asked = None;
@@ -195,9 +198,7 @@ impl<'a> Feed for ScriptFeed<'a> {
     fn told(&mut self, answer: &Told)
         ensures left { length self.new.rest ≤ length self.old.rest }
         ensures ready { self.new.stage ≡ stage.Ready }
-        ensures step { self.new.failed ≡ false → Hears self.old answer.now self.new }
-        ensures kept { self.old.failed ≡ true → self.new.failed ≡ true }
-        ensures names { self.new.names ≡ self.old.names }
+        ensures heard { Takes self.old answer.now self.new }
     {
         let heard = hear(self.asked, answer);
         let room = self.room.take();

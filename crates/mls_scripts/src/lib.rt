@@ -5,13 +5,13 @@ mod answer;
 mod answering;
 mod feed;
 mod halves;
-mod laws;
 mod lines;
 mod output;
 mod served;
 mod serving;
+mod theorems;
 
 pub use answer::{Answer, Script};
 pub use feed::ScriptFeed;
-pub use laws::scripts_are_served_by_halves;
 pub use serving::{SCRIPT_LIMIT, ServeFault, serve};
+pub use theorems::{a_script_alone_is_served, scripts_are_served_by_halves};

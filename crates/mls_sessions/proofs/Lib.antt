@@ -6,3 +6,4 @@ mod Meetings
 mod Lists
 pub mod Laws
 mod Runs
+mod Feeds

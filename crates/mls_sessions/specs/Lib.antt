@@ -3,3 +3,4 @@ pub mod Rule
 pub mod Steps
 pub mod Sessions
 pub mod Runs
+pub mod Feeds

@@ -25,11 +25,18 @@ pub enum Stage {
 
 /// What the thread of a session asks for, one after the other. The gate isn't held during any call of a feed.
 pub trait Feed {
+    ghost use Rattle.std.specs.Prelude.{Option, ⊤};
+    ghost use Rattle.mls_requests.specs.declared.ask.Ask.{Ask};
+    ghost use Rattle.mls_sessions.specs.declared.feed.Answer.{Answer};
     ghost use Rattle.mls_sessions.specs.declared.feed.Stage.{Stage};
 
     ghost asks_left: { Self → ℕ };
 
     ghost stands_at: { Self → Stage };
+
+    ghost gives: { Self → Option Ask → Self → Type 0 } = { λ _ _ _. ⊤ };
+
+    ghost hears: { Self → Answer → Self → Type 0 } = { λ _ _ _. ⊤ };
 
     /// A bound on the asks that still come.
     fn left(&self) -> u64
@@ -43,13 +50,15 @@ pub trait Feed {
     fn next(&mut self) -> Option<Ask>
         requires { stands_at self.old ≡ Stage.Ready }
         ensures some { IfSome result (λ _. (asks_left self.new < asks_left self.old) × (stands_at self.new ≡ Stage.Waiting)) }
-        ensures none { IfNone result ((asks_left self.new ≤ asks_left self.old) × (stands_at self.new ≡ Stage.Done)) };
+        ensures none { IfNone result ((asks_left self.new ≤ asks_left self.old) × (stands_at self.new ≡ Stage.Done)) }
+        ensures given { gives self.old result self.new };
 
     /// The answer to what the feed gave last.
     fn told(&mut self, answer: &Answer)
         requires { stands_at self.old ≡ Stage.Waiting }
         ensures left { asks_left self.new ≤ asks_left self.old }
-        ensures ready { stands_at self.new ≡ Stage.Ready };
+        ensures ready { stands_at self.new ≡ Stage.Ready }
+        ensures heard { hears self.old answer.now self.new };
 
     /// What the feed gave last gets no answer, for want of memory, and nothing is asked any more.
     fn stopped(&mut self)

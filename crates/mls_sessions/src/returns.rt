@@ -19,10 +19,11 @@ pub fn put_last<F: Feed + Drop>(
     requires room { (vec_len back < vec_capacity back) × (vec_len fed < vec_capacity fed) }
     requires done { asked ≡ Asked.ToTheEnd → AllAt F.stands_at Stage.Done fed.items }
     requires last { last.2 ≡ Asked.ToTheEnd → F.stands_at last.1 ≡ Stage.Done }
-    ensures items { result.0.items ≡ back.items ++ last.0 ∷ [] }
+    ensures items { (result.0.items ≡ back.items ++ last.0 ∷ []) × (result.1.items ≡ fed.items ++ last.1 ∷ []) }
     ensures counts { (vec_len result.0 ≡ vec_len back + 1) × (vec_len result.1 ≡ vec_len fed + 1) }
     ensures room { (vec_capacity back ≤ vec_capacity result.0) × (vec_capacity fed ≤ vec_capacity result.1) }
     ensures done { result.2 ≡ Asked.ToTheEnd → AllAt F.stands_at Stage.Done result.1.items }
+    ensures both { result.2 ≡ Asked.ToTheEnd → (asked ≡ Asked.ToTheEnd) × (last.2 ≡ Asked.ToTheEnd) }
 {
     let (session, feed, mine) = last;
     match back.push(session) {
@@ -51,7 +52,7 @@ pub fn pop_session(office: &Office, sessions: &mut Vec<Session>) -> Option<Sessi
 #[tactic(auto, using(crate::proofs::Runs::at_last))]
 pub fn pop_feed<F: Feed>(feeds: &mut Vec<F>) -> Option<F>
     requires { AllAt F.stands_at Stage.Ready feeds.old.items }
-    ensures some { IfSome result (λ f. (F.stands_at f ≡ Stage.Ready) × AllAt F.stands_at Stage.Ready feeds.new.items × (vec_len feeds.new + 1 ≡ vec_len feeds.old)) }
+    ensures some { IfSome result (λ f. (feeds.old.items ≡ feeds.new.items ++ f ∷ []) × (F.stands_at f ≡ Stage.Ready) × AllAt F.stands_at Stage.Ready feeds.new.items × (vec_len feeds.new + 1 ≡ vec_len feeds.old)) }
     ensures none { IfNone result (vec_len feeds.old ≡ 0) }
 {
     feeds.pop()

@@ -1,9 +1,11 @@
 //! A run of feeds: one thread for each session, which asks for what its feed gives.
-ghost use Rattle.std.specs.Prelude.{◌≡◌, ◌≢◌, ◌+◌, ◌<◌, ◌≤◌, ◌∷◌, ◌++◌, [], List, false, IfOk, IfErr, OnOk, IsTrue, vec_len, vec_capacity};
+ghost use Rattle.std.specs.Prelude.{◌≡◌, ◌≢◌, ◌+◌, ◌<◌, ◌≤◌, ◌∷◌, ◌++◌, [], false, length, drop, IfOk, IfErr, OnOk, IsTrue, vec_len, vec_capacity};
 ghost use denote.Param.Send.{IsSync};
-ghost use Rattle.mls_sessions.specs.Sessions.{Session, IsOf, Ascending, number_of, is_count};
-ghost use Rattle.mls_sessions.specs.Rule.{begun, base};
+ghost use Rattle.mls_sessions.specs.Journals.{journal_of};
+ghost use Rattle.mls_sessions.specs.Sessions.{IsOf, Ascending, newcomers, is_count};
+ghost use Rattle.mls_sessions.specs.Rule.{begun, base, news};
 ghost use Rattle.mls_sessions.specs.Runs.{AllAt, Returned, Grew};
+ghost use Rattle.mls_sessions.specs.Feeds.{AllServed, AllFed};
 
 use crate::asked::Asked;
 use crate::attend::{Back, attend_unless};
@@ -16,6 +18,7 @@ use crate::run_fault::{RunDone, RunFault, RunFaultKind};
 use crate::session::Session;
 use mls_monitor::Monitor;
 use std::alloc::Global;
+use std::snapshot::Snapshot;
 use std::sync::Wait;
 use std::sync::atomic::{AtomicBool, Ordering};
 use std::thread;
@@ -23,7 +26,7 @@ use std::thread::Threads;
 
 /// A thread for each session, which come back in their order with their feeds. Where a thread can't be started its closure
 /// comes back, and is called here with the word to leave the feed alone.
-#[tactic(auto, using(crate::proofs::Runs::returned_snoc))]
+#[tactic(auto, using(crate::proofs::Runs::returned_snoc, crate::proofs::Feeds::served_none, crate::proofs::Feeds::served_snoc))]
 fn attend_all<R: Threads + Wait + Sync, F: Feed + Send + Drop>(
     rt: &R,
     office: &Office,
@@ -40,6 +43,7 @@ fn attend_all<R: Threads + Wait + Sync, F: Feed + Send + Drop>(
     ensures counts { (vec_len result.0 ≡ vec_len sessions) × (vec_len result.1 ≡ vec_len sessions) }
     ensures room { (vec_capacity back ≤ vec_capacity result.0) × (vec_capacity fed ≤ vec_capacity result.1) }
     ensures done { result.2 ≡ Asked.ToTheEnd → AllAt F.stands_at Stage.Done result.1.items }
+    ensures served { result.2 ≡ Asked.ToTheEnd → AllServed F.gives F.hears office.now sessions.items feeds.items result.0.items result.1.items }
 {
     let Some(session) = pop_session(office, &mut sessions) else {
         return (back, fed, Asked::ToTheEnd);
@@ -54,13 +58,14 @@ fn attend_all<R: Threads + Wait + Sync, F: Feed + Send + Drop>(
         rt,
         |scope| -> (Vec<Session>, Vec<F>, Asked)
             requires { IsSync R.row × IsOf office.now session × Ascending office.now 0 sessions.items × (F.stands_at feed ≡ Stage.Ready) × AllAt F.stands_at Stage.Ready feeds.items × (vec_len feeds ≡ vec_len sessions) × (back.items ≡ []) × (fed.items ≡ []) × (vec_len sessions < vec_capacity back) × (vec_len sessions < vec_capacity fed) }
-            ensures sessions { (rest : List Session) × (last : Session) × (result.0.items ≡ rest ++ last ∷ []) × Returned office.entry.now sessions.items rest × IsOf office.entry.now last × (number_of last.view ≡ number_of session.view) }
+            ensures sessions { Returned office.entry.now (sessions.items ++ session ∷ []) result.0.items }
             ensures counts { (vec_len result.0 ≡ vec_len sessions + 1) × (vec_len result.1 ≡ vec_len sessions + 1) }
             ensures room { (vec_capacity back ≤ vec_capacity result.0) × (vec_capacity fed ≤ vec_capacity result.1) }
             ensures done { result.2 ≡ Asked.ToTheEnd → AllAt F.stands_at Stage.Done result.1.items }
+            ensures served { result.2 ≡ Asked.ToTheEnd → AllServed F.gives F.hears office.entry.now (sessions.items ++ session ∷ []) (feeds.items ++ feed ∷ []) result.0.items result.1.items }
         {
-            let number = session.number();
-            match scope.spawn_with(Back(office, number), move || {
+            let back_as = Back(office, Snapshot::of(&session), Snapshot::of(&feed));
+            match scope.spawn_with(back_as, move || {
                 attend_unless(rt, flag, office, session, feed)
             }) {
                 Ok(handle) => {
@@ -80,7 +85,7 @@ fn attend_all<R: Threads + Wait + Sync, F: Feed + Send + Drop>(
 }
 
 /// Asks all feeds in the office that was opened for them, and closes it.
-#[tactic(auto, using(crate::proofs::Runs::returned_ascending, crate::proofs::Runs::grew))]
+#[tactic(auto, using(crate::proofs::Runs::returned_ascending, crate::proofs::Runs::grew, crate::proofs::Feeds::all_fed))]
 pub fn run_open<R: Threads + Wait + Sync, F: Feed + Send + Drop>(
     rt: &R,
     opened: (Office, Vec<Session>),
@@ -89,12 +94,14 @@ pub fn run_open<R: Threads + Wait + Sync, F: Feed + Send + Drop>(
     fed: Vec<F>,
 ) -> (Monitor, Vec<F>, Asked)
     requires sessions { Ascending opened.0 0 opened.1.items }
+    requires newcomers { opened.1.items ≡ newcomers opened.0 opened.0.charter.count }
     requires ready { AllAt F.stands_at Stage.Ready feeds.items }
     requires counts { (vec_len feeds ≡ vec_len opened.1) × (vec_len opened.1 ≡ opened.0.charter.count) × (back.items ≡ []) × (fed.items ≡ []) }
     requires room { (vec_len feeds ≤ vec_capacity back) × (vec_len feeds ≤ vec_capacity fed) }
     ensures grew { Grew (begun opened.0.charter) (base opened.0.charter) opened.0.charter.count result.0 }
     ensures count { vec_len result.1 ≡ vec_len feeds }
     ensures done { result.2 ≡ Asked.ToTheEnd → AllAt F.stands_at Stage.Done result.1.items }
+    ensures fed { result.2 ≡ Asked.ToTheEnd → AllFed F.gives F.hears (begun opened.0.charter) (base opened.0.charter) (news opened.0.charter (journal_of result.0)) 0 feeds.items result.1.items }
 {
     let (office, sessions) = opened;
     let (back, fed, asked) = attend_all(rt, &office, sessions, feeds, back, fed);
@@ -146,6 +153,7 @@ pub fn run_sessions<R: Threads + Wait + Sync, F: Feed + Send + Drop>(
     ensures ok { IfOk result (λ run. Grew monitor.start monitor.entries (vec_len feeds) run.monitor) }
     ensures err { IfErr result (λ fault. Grew monitor.start monitor.entries (vec_len feeds) fault.monitor) }
     ensures feeds { IfOk result (λ run. vec_len run.feeds ≡ vec_len feeds) }
+    ensures fed { IfOk result (λ run. AllFed F.gives F.hears monitor.start monitor.entries (drop (length monitor.entries) run.monitor.entries) 0 feeds.items run.feeds.items) }
     ensures back { IfErr result (λ fault. vec_len fault.feeds ≡ vec_len feeds) }
     ensures kind { IfErr result (λ fault. fault.kind ≡ RunFaultKind.BadCount → is_count (vec_len feeds) ≡ false) }
     ensures bad { is_count (vec_len feeds) ≡ false → IfErr result (λ fault. (fault.kind ≡ RunFaultKind.BadCount) × (fault.monitor ≡ monitor) × (fault.feeds.items ≡ feeds.items)) }

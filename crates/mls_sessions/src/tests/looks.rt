@@ -1,7 +1,7 @@
 //! Sessions that look at a held gate never, once or often before they nap or sleep: all threads come to their end.
 ghost use Rattle.std.specs.Prelude.{◌≡◌, length, vec_len, IfOk, IsTrue};
 ghost use Rattle.mls_sessions.specs.Runs.{AllAt};
-ghost use Rattle.mls_sessions.specs.Sessions.{Ascending};
+ghost use Rattle.mls_sessions.specs.Sessions.{Ascending, newcomers};
 
 use crate::asked::Asked;
 use crate::backoff::Backoff;
@@ -94,6 +94,7 @@ fn ask_all<R: Threads + Wait + Sync>(
     feeds: Vec<Gets>,
 ) -> Result<usize, AllocError>
     requires sessions { Ascending opened.0 0 opened.1.items }
+    requires newcomers { opened.1.items ≡ newcomers opened.0 opened.0.charter.count }
     requires ready { AllAt (λ f. f.stage) Stage.Ready feeds.items }
     requires counts { (vec_len feeds ≡ vec_len opened.1) × (vec_len opened.1 ≡ opened.0.charter.count) }
 {

@@ -1,5 +1,5 @@
 use Rattle.std.proofs.Common.{◌≡◌, ◌++◌, take}
-use Rattle.mls_cli.specs.Run.{fed_texts}
+use Rattle.mls_cli.specs.Fed.{fed_texts}
 use Rattle.mls_cli.proofs.fed.push_texts.Given as goal
 
 abbrev pub invariant-loop-feed : goal.invariant-loop-feed

@@ -1,5 +1,5 @@
 use Rattle.mls_scripts.proofs.HalfSteps.{at_end, by_halves}
-use Rattle.mls_scripts.proofs.laws.scripts_are_served_by_halves.Goals as goal
+use Rattle.mls_scripts.proofs.theorems.scripts_are_served_by_halves.Goals as goal
 
 pub returns-clause-ends : goal.returns-clause-ends
 returns-clause-ends c = λ names session s lines none. at_end names session s lines none

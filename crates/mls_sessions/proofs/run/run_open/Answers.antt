@@ -1,0 +1,7 @@
+use Rattle.mls_sessions.specs.Journals.{journal_of}
+use Rattle.mls_sessions.proofs.Feeds.{all_fed}
+use Rattle.mls_sessions.proofs.run.run_open.Goals as goal
+
+pub returns-clause-fed : goal.returns-clause-fed
+returns-clause-fed g c =
+    λ end. all_fed g.F.Feed.gives g.F.Feed.hears _ (journal_of c.in-Ok.monitor) _ _ _ _ c.requires.newcomers (c.attend_all-back.ensures.served end) c.attend_all-back.ensures.sessions c.in-Ok.ensures.ok.all
