@@ -63,7 +63,7 @@ fn exchange<R: Wait, F: Feed>(
     }
 }
 
-/// Asks for all that the feed gives, until an allocation fails.
+/// Asks for all that the feed gives, until an allocation fails, and leaves the gate to the others.
 #[tactic(auto, using(crate::proofs::Feeds::asking_none))]
 fn attend<R: Wait, F: Feed>(
     rt: &R,
@@ -79,9 +79,13 @@ fn attend<R: Wait, F: Feed>(
     while let Some(ask) = feed.next() {
         match exchange(rt, office, &mut session, &mut feed, ask) {
             Ok(()) => {}
-            Err(_) => return (session, feed, Asked::UntilRefused),
+            Err(_) => {
+                office.lobby.leave();
+                return (session, feed, Asked::UntilRefused);
+            }
         }
     }
+    office.lobby.leave();
     (session, feed, Asked::ToTheEnd)
 }
 

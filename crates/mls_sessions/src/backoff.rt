@@ -1,9 +1,6 @@
 //! How a session backs off from a gate that another holds.
 
-use crate::limits::{LOOKS, NAP, NAPS, RACES};
-use std::sync::Wait;
-use std::sync::atomic::AtomicU64;
-use std::time::Duration;
+use crate::limits::{LOOKS, NAPS, RACES};
 
 /// What a session that waits does before it sleeps until it is woken. It may do none of it: then it sleeps at once.
 #[derive(Clone, Copy)]
@@ -12,7 +9,7 @@ pub struct Backoff {
     pub looks: u32,
     /// How often it sees the gate free and comes too late, and looks again at once.
     pub races: u32,
-    /// How many naps it takes, each twice as long as the one before.
+    /// How many naps it takes.
     pub naps: u32,
 }
 
@@ -25,11 +22,4 @@ impl Backoff {
             naps: NAPS,
         }
     }
-}
-
-/// Sleeps on a word of its own, which nobody wakes: [`NAP`] microseconds where no nap was taken yet, else twice as long as
-/// the last time.
-pub fn nap<R: Wait>(rt: &R, taken: u32) {
-    let micros = NAP << taken.min(NAPS);
-    AtomicU64::new(0).park_timeout(rt, 0, Duration::from_micros(micros));
 }

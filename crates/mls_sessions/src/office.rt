@@ -11,6 +11,7 @@ use crate::closing::take_home;
 use crate::gate::FREE;
 use crate::gate_table::{Charter, GateSeat, GateTable};
 use crate::limits::MAX_SESSIONS;
+use crate::lobby::Lobby;
 use crate::office_fault::{CloseFault, OfficeFault, OfficeFaultKind};
 use crate::opening::{give_all, settle};
 use crate::session::Session;
@@ -25,7 +26,7 @@ use std::marker::Model;
 #[derive(Drop)]
 pub struct Office {
     pub(crate) table: GateTable,
-    pub(crate) backoff: Backoff,
+    pub(crate) lobby: Lobby,
     count: u32,
     base: u64,
 }
@@ -102,7 +103,7 @@ impl Office {
         give_all(&table.shared, &mut seat, &mut sessions, count, base);
         let office = Office {
             table,
-            backoff: Backoff::standard(),
+            lobby: Lobby::new(Backoff::standard()),
             count,
             base,
         };
@@ -137,7 +138,7 @@ impl Office {
         }
         let Office {
             table,
-            backoff: _,
+            lobby: _,
             count: _,
             base: _,
         } = self;

@@ -10,6 +10,7 @@ use crate::counts::Counts;
 use crate::gate_table::GateSeat;
 use crate::meeting::meet_at;
 use crate::office::Office;
+use crate::pace::Pace;
 use std::marker::Model;
 
 /// A session of an office. It knows a prefix of the journal, its history, which has just those entries with its number that
@@ -19,6 +20,7 @@ pub struct Session {
     seat: GateSeat,
     index: u32,
     counts: Counts,
+    pace: Pace,
 }
 
 impl Model for Session {
@@ -47,6 +49,7 @@ impl Session {
                 made: 0,
                 seen: base,
             },
+            pace: Pace::new(),
         }
     }
 
@@ -58,6 +61,7 @@ impl Session {
             seat,
             index: _,
             counts: _,
+            pace: _,
         } = self;
         seat
     }

@@ -36,7 +36,14 @@ impl Session {
     {
         let gate = &office.table.shared;
         let number = self.number();
-        let monitor = wait(gate, office.backoff, rt, &mut self.seat, number);
+        let monitor = wait(
+            gate,
+            &office.lobby,
+            rt,
+            &mut self.seat,
+            &mut self.pace,
+            number,
+        );
         record(
             gate,
             &mut self.seat,
@@ -96,7 +103,14 @@ impl Session {
     {
         let gate = &office.table.shared;
         let number = self.number();
-        let taken = wait(gate, office.backoff, rt, &mut self.seat, number);
+        let taken = wait(
+            gate,
+            &office.lobby,
+            rt,
+            &mut self.seat,
+            &mut self.pace,
+            number,
+        );
         inspect(gate, &mut self.seat, &mut self.counts, taken, s, o, x)
     }
 

@@ -82,7 +82,7 @@ fn make_feeds(alloc: Global, sessions: &[Session], each: u64) -> Result<Vec<Gets
 fn backing_off(mut office: Office, backoff: Backoff) -> Office
     ensures { result ≡ office }
 {
-    office.backoff = backoff;
+    office.lobby.backoff = backoff;
     office
 }
 
