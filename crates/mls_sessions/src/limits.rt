@@ -18,9 +18,10 @@ pub const NAPS: u32 = 7;
 /// the turn itself: while the others nap, one thread takes many turns in a row.
 pub const NAP: u64 = 200;
 
-/// How often a nap may be doubled: the longest takes 102.4 milliseconds.
-pub const DOUBLINGS: u32 = 9;
+/// How long the longest nap is for each session of the office, in microseconds: 102.4 milliseconds where there are 64. The more sessions wait,
+/// the longer they nap, so that one of them has the time to find the monitor's tables in its processor's cache.
+pub const LONGEST: u64 = 1_600;
 
 /// A session that naps again within so few turns of its own naps four times as long as before, else half as long. So sessions that do nothing but
-/// take turns nap so long that one of them finds the monitor's tables in its processor's cache; those that seldom do, briefly.
+/// take turns soon nap long, and those that seldom do, briefly.
 pub const SOON: u32 = 120;

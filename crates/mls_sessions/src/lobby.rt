@@ -1,6 +1,8 @@
 //! Where the sessions of an office wait that came too late.
 
 use crate::backoff::Backoff;
+use crate::limits::LONGEST;
+use crate::pace::Pace;
 use std::sync::Wait;
 use std::sync::atomic::AtomicU64;
 use std::time::Duration;
@@ -9,20 +11,24 @@ use std::time::Duration;
 #[derive(Drop)]
 pub struct Lobby {
     pub backoff: Backoff,
+    /// How long they nap at most, in microseconds.
+    longest: u64,
     resting: AtomicU64,
 }
 
 impl Lobby {
-    /// Where sessions back off so.
-    pub fn new(backoff: Backoff) -> Lobby {
+    /// Where so many sessions back off so.
+    pub fn new(backoff: Backoff, count: u16) -> Lobby {
         Lobby {
             backoff,
+            longest: LONGEST * u64::from(count),
             resting: AtomicU64::new(0),
         }
     }
 
-    /// Naps so many microseconds, or until a session leaves.
-    pub fn nap<R: Wait>(&self, rt: &R, micros: u64) {
+    /// Naps at the session's pace, or until another leaves.
+    pub fn nap<R: Wait>(&self, rt: &R, pace: &mut Pace) {
+        let micros = pace.nap(self.longest);
         self.resting
             .park_timeout(rt, 0, Duration::from_micros(micros));
     }

@@ -103,7 +103,7 @@ impl Office {
         give_all(&table.shared, &mut seat, &mut sessions, count, base);
         let office = Office {
             table,
-            lobby: Lobby::new(Backoff::standard()),
+            lobby: Lobby::new(Backoff::standard(), n),
             count,
             base,
         };

@@ -1,12 +1,13 @@
 //! How long a session naps.
 
-use crate::limits::{DOUBLINGS, NAP, SOON};
+use crate::limits::{NAP, SOON};
 
 /// How long a session naps that comes too late at the gate: longer where its last nap was not long ago.
 #[derive(Clone, Copy)]
 pub struct Pace {
-    doublings: u32,
-    /// How many turns it began since its last nap.
+    /// How long its last nap was, in microseconds.
+    micros: u64,
+    /// How many turns it began since.
     turns: u32,
 }
 
@@ -14,7 +15,7 @@ impl Pace {
     /// That of a session that took no nap so far.
     pub fn new() -> Pace {
         Pace {
-            doublings: 0,
+            micros: NAP,
             turns: SOON,
         }
     }
@@ -24,14 +25,14 @@ impl Pace {
         self.turns = self.turns.saturating_add(1);
     }
 
-    /// How long the next nap is, in microseconds. It counts as taken.
-    pub fn nap(&mut self) -> u64 {
-        self.doublings = if self.turns < SOON {
-            self.doublings.saturating_add(2).min(DOUBLINGS)
+    /// How long the next nap is, in microseconds, where none may be longer than that. It counts as taken.
+    pub fn nap(&mut self, longest: u64) -> u64 {
+        self.micros = if self.turns < SOON {
+            self.micros.saturating_mul(4).min(longest)
         } else {
-            self.doublings.saturating_sub(1)
+            (self.micros / 2).max(NAP)
         };
         self.turns = 0;
-        NAP << self.doublings.min(DOUBLINGS)
+        self.micros
     }
 }
