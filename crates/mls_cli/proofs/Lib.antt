@@ -3,3 +3,4 @@ pub mod JournalTexts
 pub mod Replayings
 pub mod Runs
 pub mod Starts
+mod OneScript

@@ -11,6 +11,7 @@ mod replaying;
 mod run_text;
 mod running;
 mod start_file;
+mod theorems;
 mod threading;
 
 pub use checking::{START_LIMIT, check_start};
@@ -26,4 +27,5 @@ pub use mls_starts::{LoadFault, Loaded, read_start, standard_start};
 pub use replaying::{JOURNAL_LIMIT, replay_journal};
 pub use run_text::RunText;
 pub use running::{MAX_SCRIPTS, run_serial};
+pub use theorems::one_script_runs_alike;
 pub use threading::run_threads;
