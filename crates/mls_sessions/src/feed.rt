@@ -24,6 +24,10 @@ pub enum Stage {
 }
 
 /// What the thread of a session asks for, one after the other. The gate isn't held during any call of a feed.
+///
+/// What a kind of feed gives, and what it makes of an answer, its ghost members `gives` and `hears` say: by these
+/// [`run_sessions`](crate::run_sessions) tells which answers its feeds were told. Of a kind that leaves them out a run tells only that its feeds
+/// are done.
 pub trait Feed {
     ghost use Rattle.std.specs.Prelude.{Option, ⊤};
     ghost use Rattle.mls_requests.specs.declared.ask.Ask.{Ask};
