@@ -23,5 +23,5 @@ pub const NAP: u64 = 200;
 pub const LONGEST: u64 = 1_600;
 
 /// A session that naps again within so few turns of its own naps four times as long as before, else half as long. So sessions that do nothing but
-/// take turns soon nap long, and those that seldom do, briefly.
+/// take turns soon nap long.
 pub const SOON: u32 = 120;
