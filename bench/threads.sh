@@ -1,7 +1,7 @@
 #!/usr/bin/env bash
 # The cost of threads: has mls run 1, 4, 16 and 64 scripts of just under a megabyte over a start of 256 subjects and 4,096 objects, the
 # same each time, each in a thread of its own and then one after the other, and prints for both the seconds by the clock and of processor
-# time (the least of five runs each), and how threads stand to serial. Of ten lines some six are checks, the others releases and gets.
+# time (the middle of nine runs each, in turn), and how threads stand to serial. Of ten lines some six are checks, the others releases and gets.
 set -u
 export LC_ALL=C
 cd "$(dirname -- "$0")/.." || exit 1
@@ -28,7 +28,7 @@ script() {
 for n in {1..64}; do script "$n" >"$folder/$n"; done
 
 python3 - "$program" "$folder" <<'TIMES'
-import os, resource, subprocess, sys, time
+import os, resource, statistics, subprocess, sys, time
 
 program, folder = sys.argv[1:]
 print(f"{len(os.sched_getaffinity(0))} processors; seconds by the clock, and of processor time")
@@ -45,9 +45,9 @@ def spent(words):
 
 for count in (1, 4, 16, 64):
     words = [f"{folder}/start.json", *(f"{folder}/{n}" for n in range(1, count + 1))]
-    runs = [(spent(words), spent(["--serial", *words])) for _ in range(5)]
-    least = [[min(run[way][part] for run in runs) for part in (0, 1)] for way in (0, 1)]
-    (clock, work), (serial_clock, serial_work) = least
+    runs = [(spent(words), spent(["--serial", *words])) for _ in range(9)]
+    middle = [[statistics.median(run[way][part] for run in runs) for part in (0, 1)] for way in (0, 1)]
+    (clock, work), (serial_clock, serial_work) = middle
     print(f"| {count} | {clock:.2f}, {work:.2f} | {serial_clock:.2f}, {serial_work:.2f} "
           f"| {clock / serial_clock:.2f} | {work / serial_work:.2f} |", flush=True)
 TIMES

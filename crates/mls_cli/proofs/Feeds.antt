@@ -5,14 +5,14 @@ use Rattle.std.specs.declared.vec.Vec.{Vec}
 use Rattle.std.proofs.lemmas.List.{append_assoc, append-nil, take_more, length-take-le, map-append}
 pub use Rattle.mls_sessions.proofs.Laws.{at_snoc}
 use Rattle.mls_scripts.specs.Feed.{ScriptFeed}
-use Rattle.mls_scripts.specs.Fed.{Gives, Takes, Prints}
+use Rattle.mls_scripts.specs.Fed.{Gives, GivesAhead, Takes, Prints}
 use Rattle.mls_scripts.specs.Lines.{lines_of}
 use Rattle.mls_scripts.proofs.Laws.{fed_prints}
 use Rattle.mls_requests.specs.declared.entry.Entry.{Entry}
 use Rattle.mls_lines.specs.Names.{Names}
 use Rattle.mls_state.specs.State.{State}
 use Rattle.mls_monitor.specs.Journal.{Monitor, IsLegal}
-use Rattle.mls_sessions.specs.Feeds.{Exchange, AllFed}
+use Rattle.mls_sessions.specs.Feeds.{Exchange, in_turns, AllFed}
 use Rattle.mls_sessions.specs.Journals.{AllBelow}
 use Rattle.mls_sessions.specs.Runs.{Grew}
 use Rattle.mls_starts.specs.Says.{SaysStart}
@@ -93,7 +93,7 @@ none_taken feeds i d within none here is =
 
 -- what feeds have to say is what their scripts print
 threads_print : (names : Names) (start : State) (entries : List Entry) (k : ℕ) (scripts : List (List ℕ)) (feeds left : List ScriptFeed) → AreFeedsOf names scripts feeds
-    → AllFed Gives Takes start [] entries k feeds left → NoneFailed left → ThreadsPrint names start entries k scripts (fed_texts k left)
+    → AllFed Gives GivesAhead Takes start [] entries k feeds left → NoneFailed left → ThreadsPrint names start entries k scripts (fed_texts k left)
 unfolding fed_texts
 threads_print names start entries k [] [] [] are fed none = refl
 threads_print names start entries k [] [] (g ∷ left) are fed none = absurd fed
@@ -101,9 +101,9 @@ threads_print names start entries k [] (f ∷ feeds) left are fed none = absurd 
 threads_print names start entries k (s ∷ scripts) [] left are fed none = absurd are
 threads_print names start entries k (s ∷ scripts) (f ∷ feeds) [] are fed none = absurd fed
 threads_print names start entries k (s ∷ scripts) (f ∷ feeds) (g ∷ left) are fed none =
-    let xs : List Exchange = fed.0.0 in
+    let xs : List Exchange = in_turns fed.0.0 in
     let is : IsFeedOf names s f = are.0 in
-    let printed = fed_prints f g xs fed.0.1 none.0 in
+    let printed = fed_prints f g fed.0.0 fed.0.1 none.0 in
     let said : List ℕ = printed.0 in
     let prints : Prints names [] (lines_of s) xs said =
     subst (λ n. Prints n [] (lines_of s) xs said) is.names_are
@@ -133,7 +133,7 @@ leaves_in_threads names start scripts feeds asked output journal are so = (
 -- what a run of feeds left, of a monitor that grew from an empty journal
 left_feeds : {X : Type 0} (bytes : X → List ℕ) (old new : Monitor) (asked : Bool) (feeds left : List ScriptFeed) (output : List ℕ) (journal : Option X)
     → old.entries ≡ [] → Grew old.start old.entries (length feeds) new → IsLegal new.start new.entries
-    → AllFed Gives Takes old.start old.entries (drop (length old.entries) new.entries) 0 feeds left → NoneFailed left
+    → AllFed Gives GivesAhead Takes old.start old.entries (drop (length old.entries) new.entries) 0 feeds left → NoneFailed left
     → output ≡ fed_texts 0 left ++ ending (length new.entries) → IfSome journal (λ text. bytes text ≡ journal_text new.entries) → is_some journal ≡ asked
     → LeavesFeeds old.start feeds asked output (option_map bytes journal)
 left_feeds bytes old new asked feeds left output journal fresh grew legal fed none printed told there = (
@@ -141,7 +141,7 @@ left_feeds bytes old new asked feeds left output journal fresh grew legal fed no
   left,
   subst (λ s. IsLegal s new.entries) grew.start legal,
   subst (λ js. AllBelow (length feeds) (drop (length js) new.entries)) fresh grew.below,
-  subst (λ js. AllFed Gives Takes old.start js (drop (length js) new.entries) 0 feeds left) fresh fed,
+  subst (λ js. AllFed Gives GivesAhead Takes old.start js (drop (length js) new.entries) 0 feeds left) fresh fed,
   none,
   printed,
   journal_asked bytes journal asked _ there told,
@@ -150,7 +150,7 @@ left_feeds bytes old new asked feeds left output journal fresh grew legal fed no
 -- the same of what a run returns
 pub run_left : {T E X Z : Type 0} (result : Result T E) (output_of : T → List ℕ) (journal_of : T → Option X) (bytes : X → List ℕ) (old new : Monitor) (asked : Bool)
     (feeds left : Vec ScriptFeed Z) → old.entries ≡ [] → Grew old.start old.entries (vec_len feeds) new → IsLegal new.start new.entries
-    → AllFed Gives Takes old.start old.entries (drop (length old.entries) new.entries) 0 feeds.items left.items → OnOk result (NoneFailed left.items)
+    → AllFed Gives GivesAhead Takes old.start old.entries (drop (length old.entries) new.entries) 0 feeds.items left.items → OnOk result (NoneFailed left.items)
     → IfOk result (λ run. output_of run ≡ fed_texts 0 left.items ++ ending (length new.entries))
     → IfOk result (λ run. IfSome (journal_of run) (λ text. bytes text ≡ journal_text new.entries)) → IfOk result (λ run. is_some (journal_of run) ≡ asked)
     → IfOk result (λ run. LeavesFeeds old.start feeds.items asked (output_of run) (option_map bytes (journal_of run)))

@@ -7,7 +7,7 @@ use Rattle.mls_lines.specs.Names.{Names}
 use Rattle.mls_monitor.specs.Journal.{IsLegal}
 use Rattle.mls_sessions.specs.Feeds.{AllFed}
 use Rattle.mls_sessions.specs.Journals.{AllBelow}
-use Rattle.mls_scripts.specs.Fed.{Gives, Takes}
+use Rattle.mls_scripts.specs.Fed.{Gives, GivesAhead, Takes}
 use Rattle.mls_scripts.specs.Feed.{ScriptFeed}
 use Rattle.mls_cli.specs.Run.{heading, ending}
 
@@ -39,5 +39,5 @@ NoneFailed (f ∷ feeds) = (f.failed ≡ false) × NoneFailed feeds
 -- journal's text is there just where it was asked for. (own)
 abbrev pub LeavesFeeds : State → List ScriptFeed → Bool → List ℕ → Option (List ℕ) → Type 0
 LeavesFeeds start feeds asked output journal =
-    (entries : List Entry) × (left : List ScriptFeed) × IsLegal start entries × AllBelow (length feeds) entries × AllFed Gives Takes start [] entries 0 feeds left
+    (entries : List Entry) × (left : List ScriptFeed) × IsLegal start entries × AllBelow (length feeds) entries × AllFed Gives GivesAhead Takes start [] entries 0 feeds left
     × NoneFailed left × (output ≡ fed_texts 0 left ++ ending (length entries)) × (journal ≡ (if asked then Some (journal_text entries) else None))

@@ -1,5 +1,6 @@
 -- What serving a script is made of, and going over lines that ask nothing.
-use Rattle.std.proofs.Common.{◌≡◌, ℕ, List, [], ◌∷◌, ◌++◌, Some, None, Result, Ok, Err, refl, sym, ap, ◌∙◌, append_assoc, append-nil, subst}
+use Rattle.std.proofs.Common.{◌≡◌, ℕ, List, [], ◌∷◌, ◌++◌, Option, Some, None, Result, Ok, Err, refl, sym, ap, ◌∙◌, append_assoc, append-nil, subst}
+use Rattle.mls_requests.specs.declared.ask.Ask.{Ask}
 use Rattle.mls_requests.specs.declared.ask.Ask.TheVariants.{Submit, Check}
 use Rattle.mls_lines.specs.declared.fault.LineFault.{LineFault}
 use Rattle.mls_lines.specs.Names.{Names}
@@ -120,3 +121,14 @@ module _ (names : Names) (vars : List (List ℕ × ℕ)) where
   gone_all whole before now lines g none =
       let e : next_of names vars lines ≡ record { text = []; asks = None; rest = [] } = ap (next_of names vars) none in
       (sym (append-nil now) ∙ ap (λ h. now ++ h.text) (sym e) ∙ g.text, ap (λ h. h.asks) (sym e) ∙ sym g.asks, none ∙ ap (λ h. h.rest) (sym e) ∙ sym g.rest)
+
+  -- of lines that a script looks at ahead of an answer: one that is blank
+  pub past_blank : (whole : Halt) (lines more : List (List ℕ)) (line : List ℕ) → whole ≡ next_of names vars lines → lines ≡ line ∷ more → Ok Blank ≡ line_of names vars line → whole ≡ next_of names vars more
+  past_blank whole lines more line so cut blank =
+      so ∙ next_line lines more line cut ∙ ap (λ said. halt_by (ask_in said) (aside said) more (next_of names vars more)) (sym blank)
+
+  -- and one that asks
+  pub at_ask : (whole : Halt) (lines more : List (List ℕ)) (line : List ℕ) (bind : Option (List ℕ)) (a : Ask) → whole ≡ next_of names vars lines → lines ≡ line ∷ more → Ok (Asks bind a) ≡ line_of names vars line
+      → whole ≡ record { text = []; asks = Some (bind, a); rest = more }
+  at_ask whole lines more line bind a so cut asks =
+      so ∙ next_line lines more line cut ∙ ap (λ said. halt_by (ask_in said) (aside said) more (next_of names vars more)) (sym asks)

@@ -4,7 +4,7 @@ use Rattle.mls_requests.specs.declared.ask.Ask.{Ask}
 use Rattle.mls_lines.specs.Names.{Names}
 use Rattle.mls_sessions.specs.Feeds.{Exchange}
 use Rattle.mls_sessions.specs.declared.feed.Answer.{Answer as Told}
-use Rattle.mls_scripts.specs.Feed.{ScriptFeed, GoesOn, Hears}
+use Rattle.mls_scripts.specs.Feed.{ScriptFeed, GoesOn, GoesAhead, Hears}
 use Rattle.mls_scripts.specs.Halves.{next_of, heard_by, vars_told}
 use Rattle.mls_scripts.specs.Script.{answer_bytes}
 
@@ -12,6 +12,13 @@ use Rattle.mls_scripts.specs.Script.{answer_bytes}
 pub record Gives (old : ScriptFeed) (given : Option Ask) (new : ScriptFeed) : Type 0 where
   pub step : new.failed ≡ false → GoesOn old given new
   pub kept : old.failed ≡ true → new.failed ≡ true
+  pub names : new.names ≡ old.names
+  pub vars : new.vars ≡ old.vars
+
+-- What a feed gives ahead: the script goes on, and doesn't fail by it. (own)
+pub record GivesAhead (old : ScriptFeed) (given : Ask) (new : ScriptFeed) : Type 0 where
+  pub step : GoesAhead old given new
+  pub failed : new.failed ≡ old.failed
   pub names : new.names ≡ old.names
   pub vars : new.vars ≡ old.vars
 

@@ -1,18 +1,20 @@
 //! A script that is fed: it gives what it asks, one after the other, and is told the answers.
-ghost use Rattle.std.specs.Prelude.{◌≡◌, ◌<◌, ◌≤◌, ◌++◌, [], true, false, length, option_map, string_bytes, None, IfSome, IfNone, IfOk, OnOk};
+ghost use Rattle.std.specs.Prelude.{◌≡◌, ◌<◌, ◌≤◌, ◌+◌, ◌++◌, ◌∷◌, [], true, false, length, option_map, option_to_list, string_bytes, None, IfSome, IfNone, IfOk, OnOk};
 ghost use Rattle.mls_sessions.specs.declared.feed.Stage.TheVariants as stage;
 ghost use Rattle.mls_scripts.specs.Lines.{lines_of};
 ghost use Rattle.mls_scripts.specs.Halves.{next_of};
 ghost use Rattle.mls_scripts.specs.Asking.{asking};
-ghost use Rattle.mls_scripts.specs.Feed.{asking_of};
-ghost use Rattle.mls_scripts.specs.Fed.{Gives, Takes};
+ghost use Rattle.mls_scripts.specs.Feed.{asking_of, ended};
+ghost use Rattle.mls_scripts.specs.Fed.{Gives, GivesAhead, Takes};
 
 use crate::halves::{Asking, bind_heard, hear, make_room, push_answer, take_line};
 use crate::lines::first_line;
+use crate::looking::{enqueue, look_ahead};
 use mls_lines::{Names, Vars};
 use mls_requests::Ask;
 use mls_sessions::{Answer as Told, Feed, Stage};
 use std::alloc::{AllocError, Global};
+use std::collections::VecDeque;
 use std::marker::Model;
 
 /// Where a script halts: what it asks, where it doesn't end, and the bytes after that line.
@@ -62,16 +64,17 @@ pub struct ScriptFeed<'a> {
     rest: &'a [u8],
     vars: Vars,
     text: Vec<u8>,
-    /// What was asked last and isn't answered yet.
-    asked: Option<Ask>,
-    /// The room for the variable that its line binds, where it has one.
+    /// What was asked and isn't answered yet.
+    asked: VecDeque<Ask>,
+    /// The room for the variable that the line of the last of these binds, where it has one. Those of the others bind none.
     room: Option<String>,
     stage: Stage,
     has_failed: bool,
 }
 
 impl<'a> Model for ScriptFeed<'a> {
-    ghost use Rattle.std.specs.Prelude.{◌<◌, option_map, string_bytes, IfSome};
+    ghost use Rattle.std.specs.Prelude.{◌≡◌, ◌≢◌, ◌<◌, [], option_map, string_bytes, IfSome};
+    ghost use Rattle.mls_sessions.specs.declared.feed.Stage.TheVariants.{Waiting};
     ghost use Rattle.mls_scripts.specs.Feed.{ScriptFeed, feed_code};
 
     ghost Value = { ScriptFeed };
@@ -83,20 +86,20 @@ impl<'a> Model for ScriptFeed<'a> {
       rest = f.rest.now;
       vars = f.vars.bound;
       text = f.text.items;
-      asked = f.asked;
+      asked = f.asked.items;
       binds = option_map string_bytes f.room;
       stage = f.stage;
       failed = f.has_failed;
     } };
 
-    ghost invariant = { λ f. IfSome f.room (λ _. 0 < f.vars.room) };
+    ghost invariant = { λ f. IfSome f.room (λ _. 0 < f.vars.room) × (f.stage ≢ Waiting → f.asked.items ≡ []) };
 }
 
 impl<'a> ScriptFeed<'a> {
     /// The feed of a script over these names, which begins with no variable bound. It doesn't allocate.
     pub fn new(alloc: Global, names: &'a Names, script: &'a [u8]) -> ScriptFeed<'a>
         ensures script { (result.names ≡ names.now) × (result.rest ≡ script.now) }
-        ensures fresh { (result.vars ≡ []) × (result.text ≡ []) × (result.asked ≡ None) × (result.failed ≡ false) }
+        ensures fresh { (result.vars ≡ []) × (result.text ≡ []) × (result.asked ≡ []) × (result.failed ≡ false) }
         ensures ready { result.stage ≡ stage.Ready }
     {
         ScriptFeed {
@@ -104,7 +107,7 @@ impl<'a> ScriptFeed<'a> {
             rest: script,
             vars: Vars::new(alloc),
             text: Vec::new(alloc),
-            asked: None,
+            asked: VecDeque::new(alloc),
             room: None,
             stage: Stage::Ready,
             has_failed: false,
@@ -130,26 +133,36 @@ impl<'a> ScriptFeed<'a> {
         ensures text { OnOk result (self.new.text ≡ self.old.text ++ (next_of self.old.names self.old.vars (lines_of self.old.rest)).text) }
         ensures asks { IfOk result (λ given. asking_of given self.new.binds ≡ (next_of self.old.names self.old.vars (lines_of self.old.rest)).asks) }
         ensures rest { OnOk result (lines_of self.new.rest ≡ (next_of self.old.names self.old.vars (lines_of self.old.rest)).rest) }
-        ensures asked { IfOk result (λ given. self.new.asked ≡ given) }
+        ensures asked { IfOk result (λ given. self.new.asked ≡ option_to_list given) }
         ensures some { IfOk result (λ given. IfSome given (λ _. (length self.new.rest < length self.old.rest) × (self.new.stage ≡ stage.Waiting))) }
         ensures none { IfOk result (λ given. IfNone given (self.new.stage ≡ stage.Done)) }
         ensures left { length self.new.rest ≤ length self.old.rest }
         ensures same { (self.new.names ≡ self.old.names) × (self.new.vars ≡ self.old.vars) × (self.new.failed ≡ self.old.failed) }
     {
         self.room = None;
+        self.asked.clear();
         let Ok(halt) = go_over(self.names, &self.vars, self.rest, &mut self.text) else {
             return Err(AllocError);
         };
         self.rest = halt.rest;
         let Some(asks) = halt.asks else {
-            self.asked = None;
             self.stage = Stage::Done;
             return Ok(None);
         };
-        self.room = make_room(&mut self.vars, asks.bind)?;
-        self.asked = Some(asks.ask);
+        let ask = asks.ask;
+        let room = make_room(&mut self.vars, asks.bind)?;
+        enqueue(&mut self.asked, &ask)?;
+        self.room = room;
         self.stage = Stage::Waiting;
-        Ok(self.asked)
+        Ok(Some(ask))
+    }
+
+    /// Asks nothing more.
+    fn end(&mut self)
+        ensures { self.new ≡ ended self.old }
+    {
+        self.asked.clear();
+        self.stage = Stage::Done;
     }
 }
 
@@ -158,7 +171,11 @@ impl<'a> Feed for ScriptFeed<'a> {
 
     ghost stands_at = { λ f. f.stage };
 
+    ghost waits_for = { λ f. length f.asked };
+
     ghost gives = { Gives };
+
+    ghost gives_ahead = { GivesAhead };
 
     ghost hears = { Takes };
 
@@ -173,41 +190,64 @@ impl<'a> Feed for ScriptFeed<'a> {
     /// What the next line asks that asks something. The answers to the lines before it are kept. Nothing comes at the end of the script,
     /// or once an allocation failed.
     fn next(&mut self) -> Option<Ask>
-        ensures some { IfSome result (λ _. (length self.new.rest < length self.old.rest) × (self.new.stage ≡ stage.Waiting)) }
+        ensures some { IfSome result (λ _. (length self.new.rest < length self.old.rest) × (self.new.stage ≡ stage.Waiting) × (length self.new.asked ≡ 1)) }
         ensures none { IfNone result ((length self.new.rest ≤ length self.old.rest) × (self.new.stage ≡ stage.Done)) }
         ensures given { Gives self.old result self.new }
         ensures failed { self.new.failed ≡ true → result ≡ None }
     {
         if self.has_failed {
-            self.asked = None;
-            self.stage = Stage::Done;
+            self.end();
             return None;
         }
         match self.go_on() {
             Ok(asked) => asked,
             Err(_) => {
                 self.has_failed = true;
-                self.asked = None;
-                self.stage = Stage::Done;
+                self.end();
                 None
             }
         }
     }
 
+    /// What the next line asks that asks something, where no fault stands before it, nor a line that binds a variable: these wait for their turn.
+    fn ahead(&mut self) -> Option<Ask>
+        ensures some { IfSome result (λ ask. (length self.new.rest < length self.old.rest) × (self.new.stage ≡ stage.Waiting) × (length self.new.asked ≡ length self.old.asked + 1) × GivesAhead self.old ask self.new) }
+        ensures none { IfNone result (self.new ≡ self.old) }
+    {
+        if self.stage != Stage::Waiting || self.room.is_some() {
+            return None;
+        }
+        let Some(next) = look_ahead(self.names, &self.vars, self.rest) else {
+            return None;
+        };
+        let ask = next.asks.ask;
+        let Ok(room) = make_room(&mut self.vars, next.asks.bind) else {
+            return None;
+        };
+        if enqueue(&mut self.asked, &ask).is_err() {
+            return None;
+        }
+        self.room = room;
+        self.rest = next.rest;
+        Some(ask)
+    }
+
     /// Keeps the answer, and binds the variable of the line that asked. An answer of another kind than the ask is none.
     fn told(&mut self, answer: &Told)
         ensures left { length self.new.rest ≤ length self.old.rest }
-        ensures ready { self.new.stage ≡ stage.Ready }
+        ensures ready { length self.old.asked ≤ 1 → self.new.stage ≡ stage.Ready }
+        ensures waits { 1 < length self.old.asked → (self.new.stage ≡ stage.Waiting) × (length self.new.asked + 1 ≡ length self.old.asked) }
         ensures heard { Takes self.old answer.now self.new }
     {
-        let heard = hear(self.asked, answer);
-        let room = self.room.take();
-        bind_heard(&mut self.vars, room, &heard);
+        let heard = hear(self.asked.pop_front(), answer);
+        if self.asked.is_empty() {
+            let room = self.room.take();
+            bind_heard(&mut self.vars, room, &heard);
+            self.stage = Stage::Ready;
+        }
         if push_answer(&mut self.text, heard).is_err() {
             self.has_failed = true;
         }
-        self.asked = None;
-        self.stage = Stage::Ready;
     }
 
     /// Nothing is kept and nothing bound: the script is asked nothing more.

@@ -6,6 +6,7 @@ mod answering;
 mod feed;
 mod halves;
 mod lines;
+mod looking;
 mod output;
 mod served;
 mod serving;

@@ -1,87 +1,30 @@
 -- Feeds that sessions ask to their end, and what of it stands in the journal.
-use Rattle.std.proofs.Common.{◌≡◌, ℕ, zero, suc, ◌+◌, Bool, List, [], ◌∷◌, ◌++◌, length, map, refl, sym, ap, ◌∙◌, subst, arith, append-nil, append_assoc, length-append, Option, Some, None, drop}
-use Rattle.std.proofs.lemmas.List.{append_cancel_left, map-append, nil_from_length}
-use Rattle.std.specs.FinSet as set
-use lib.Seq.{drop-append_seam}
-use Rattle.mls_tables.specs.declared.mode.Mode.{Mode}
-use Rattle.mls_state.specs.State.{State}
+use Rattle.std.proofs.Common.{◌≡◌, ℕ, zero, suc, ◌+◌, ◌<◌, List, [], ◌∷◌, ◌++◌, length, map, take, get_or, refl, sym, ap, ◌∙◌, subst, arith, append-nil, append_assoc, length-append, Option, Some, None, drop}
+use Rattle.std.proofs.lemmas.List.{append_cancel_left, map-append, nil_from_length, take_more}
+use lib.Seq.{drop-append_seam, take-length}
+use mathlib.Core.List.{cons≢nil}
 use Rattle.mls_requests.specs.declared.ask.Ask.{Ask}
-use Rattle.mls_requests.specs.declared.ask.Ask.TheVariants.{Submit, Check}
 use Rattle.mls_requests.specs.declared.entry.Entry.{Entry}
-use Rattle.mls_requests.specs.declared.request.Request.{Request}
-use Rattle.mls_monitor.specs.Journal.{fold}
 use Rattle.mls_sessions.specs.Journals.{Journal, of_session}
 use Rattle.mls_sessions.specs.Rule.{begun, base, news, member}
-use Rattle.mls_sessions.specs.Sessions.{Office, Session, session_at, IsOf, HasAll, Submits, Sees, newcomers, history, own, member_of, number_of}
+use Rattle.mls_sessions.specs.Sessions.{Office, Session, session_at, IsOf, HasAll, newcomers, history, member_of, number_of}
 use Rattle.mls_sessions.specs.declared.gate_table.View.TheVariants.{Sessions}
 use Rattle.mls_sessions.specs.Runs.{Returned}
-use Rattle.mls_sessions.specs.Feeds.{Exchange, IsTold, AreTold, Exchanges, Tells, Fed, Serves, AllServe, AllServed, AllFed}
+use Rattle.mls_sessions.specs.Feeds.{Exchange, Turn, asks_of, answers_of, in_turns, AreTold, Learns, GaveAhead, Heard, Gave, Fed, Serves, AllServe, AllServed, AllFed}
 use Rattle.mls_sessions.specs.declared.feed.Answer.{Answer as Told}
-use Rattle.mls_sessions.specs.declared.feed.Answer.TheVariants as told
-use Rattle.mls_sessions.proofs.OwnEntries.{own-append, own-same}
+use Rattle.mls_sessions.proofs.OwnEntries.{own-append}
+use Rattle.mls_sessions.proofs.Exchanges.{told_then, told_longer}
 
-snoc_alone : {A : Type 0} (xs : List A) (a : A) → xs ++ a ∷ [] ≡ a ∷ [] → xs ≡ []
-snoc_alone [] a same = refl
-snoc_alone (x ∷ xs) a same = let l = ap (λ ys. length ys) same in let m = length-append xs (a ∷ []) in absurd (omega arith)
+abbrev head_or : {A : Type 0} → A → List A → A
+head_or d [] = d
+head_or d (x ∷ xs) = x
+
+abbrev tail_of : {A : Type 0} → List A → List A
+tail_of [] = []
+tail_of (x ∷ xs) = xs
 
 history_is : (o : Office) (s : Session) → IsOf o s → history s.view ≡ base o.charter ++ (member_of s.view).later
 history_is o s is = ap history is.1
-
--- of what a session saw more, its own part is what it made
-module _ (o : Office) (s t : Session) (s_is : IsOf o s) (t_is : IsOf o t) (same : number_of t.view ≡ number_of s.view) where
-  later_grew : (since : List Entry) → history t.view ≡ history s.view ++ since → (member_of t.view).later ≡ (member_of s.view).later ++ since
-  later_grew since grew = append_cancel_left (base o.charter) _ _ (sym (history_is o t t_is) ∙ grew ∙ ap (λ es. es ++ since) (history_is o s s_is) ∙ append_assoc (base o.charter) (member_of s.view).later since)
-
-  own_grew : (since : List Entry) → history t.view ≡ history s.view ++ since → own t.view ≡ own s.view ++ of_session (number_of s.view) since
-  own_grew since grew = ap (λ k. of_session k (member_of t.view).later) same ∙ ap (of_session (number_of s.view)) (later_grew since grew) ∙ own-append (number_of s.view) (member_of s.view).later since
-
-  pub checked : (u v : ℕ) (x : Mode) (held : Bool) → Sees o.charter s.view t.view → held ≡ set.contains (fold (begun o.charter) (history t.view)).accesses (u, v, x)
-      → Exchanges o s (Check u v x) (told.Held held) t
-  checked u v x held sees is =
-      let since : List Entry = sees.begins.0 in
-      let grew : history t.view ≡ history s.view ++ since = sym sees.begins.1 in
-      let none : of_session (number_of s.view) since ≡ [] = append_cancel_left (own s.view) _ [] (sym (own_grew since grew) ∙ sees.same ∙ sym (append-nil (own s.view))) in
-      record { since = since; grew = grew; told = (none, is ∙ ap (λ es. set.contains (fold (begun o.charter) es).accesses (u, v, x)) grew) }
-
-  pub submitted : (r : Request) (e : Entry) → Submits o.charter s.view r e t.view → Exchanges o s (Submit r) (told.Entry e) t
-  submitted r e made =
-      let k : ℕ = number_of s.view in
-      let since : List Entry = made.between ++ e ∷ [] in
-      let grew : history t.view ≡ history s.view ++ since = made.ends ∙ append_assoc (history s.view) made.between (e ∷ []) in
-      let mine : of_session k since ≡ of_session k made.between ++ e ∷ [] = own-append k made.between (e ∷ []) ∙ ap (λ es. of_session k made.between ++ es) (own-same k e made.by) in
-      let alone : of_session k made.between ≡ [] = snoc_alone _ e (append_cancel_left (own s.view) _ (e ∷ []) (ap (λ es. own s.view ++ es) (sym mine) ∙ sym (own_grew since grew) ∙ made.adds)) in
-      record { since = since; grew = grew; told = (made.between, refl, alone, made.by, made.asks) }
-
--- exchanges, one after the other
-module _ (start : State) (k : ℕ) where
-  no_more : (xs ys : List Entry) → of_session k xs ≡ [] → of_session k ys ≡ [] → of_session k (xs ++ ys) ≡ []
-  no_more xs ys none nor = own-append k xs ys ∙ ap (λ es. es ++ of_session k ys) none ∙ nor
-
-  -- what others made before it counts to an exchange
-  told_wider : (before since : List Entry) (a : Ask) (t : Told) (more : List Entry) → of_session k since ≡ [] → IsTold start k (before ++ since) a t more → IsTold start k before a t (since ++ more)
-  told_wider before since (Submit r) (told.Entry e) more none is =
-      (since ++ is.0, ap (λ es. since ++ es) is.1 ∙ sym (append_assoc since is.0 (e ∷ [])), no_more since is.0 none is.2, is.3, is.4)
-  told_wider before since (Submit r) (told.Held held) more none is = absurd is
-  told_wider before since (Check u v x) (told.Entry e) more none is = absurd is
-  told_wider before since (Check u v x) (told.Held held) more none is =
-      (no_more since more none is.0, is.1 ∙ ap (λ es. set.contains (fold start es).accesses (u, v, x)) (append_assoc before since more))
-
-  told_more : (before since : List Entry) (xs : List Exchange) (a : Ask) (t : Told) (more : List Entry) → AreTold start k before since xs → IsTold start k (before ++ since) a t more
-      → AreTold start k before (since ++ more) (xs ++ (a, t) ∷ [])
-  told_more before since [] a t more are is = (since ++ more, [], sym (append-nil (since ++ more)), told_wider before since a t more are is, refl)
-  told_more before since (x ∷ xs) a t more are is = (
-    are.0,
-    are.1 ++ more,
-    ap (λ es. es ++ more) are.2 ∙ append_assoc are.0 are.1 more,
-    are.3,
-    told_more (before ++ are.0) are.1 xs a t more are.4 (subst (λ es. IsTold start k es a t more) (ap (λ es. before ++ es) are.2 ∙ sym (append_assoc before are.0 are.1)) is),
-  )
-
-  -- others may go on
-  told_longer : (before since more : List Entry) (xs : List Exchange) → AreTold start k before since xs → of_session k more ≡ [] → AreTold start k before (since ++ more) xs
-  told_longer before since more [] are none = no_more since more are none
-  told_longer before since more (x ∷ xs) are none =
-      (are.0, are.1 ++ more, ap (λ es. es ++ more) are.2 ∙ append_assoc are.0 are.1 more, are.3, told_longer (before ++ are.0) are.1 more xs are.4 none)
 
 -- the first sessions of an office have their places for numbers, and have seen its base
 abbrev Numbered : Office → ℕ → List Session → Type 0
@@ -100,61 +43,112 @@ newcomers_numbered o (suc n) =
     let long = length-append (newcomers o n) (s ∷ []) in
     (numbered_snoc o 0 (newcomers o n) s t.0 (let e : n ≡ 0 + length (newcomers o n) = omega (arith, t.1) in e) (append-nil (base o.charter)), (let e : length (newcomers o n ++ s ∷ []) ≡ suc n = omega (arith, long, t.1) in e))
 
-module _ {F : Type 0} (gives : F → Option Ask → F → Type 0) (hears : F → Told → F → Type 0) where
-  -- the feed gave these asks and was told these answers, and may give more
-  abbrev pub Talks : F → List Exchange → F → Type 0
+-- turns, one after the other
+in_turns-append : (xs ys : List Turn) → in_turns (xs ++ ys) ≡ in_turns xs ++ in_turns ys
+in_turns-append [] ys = refl
+in_turns-append (x ∷ xs) ys = ap (λ zs. x.0 ∷ (x.1 ++ zs)) (in_turns-append xs ys) ∙ ap (λ zs. x.0 ∷ zs) (sym (append_assoc x.1 (in_turns xs) (in_turns ys)))
+
+-- what a feed gave, and heard, and once more
+module _ {F : Type 0} (gives : F → Option Ask → F → Type 0) (gives_ahead : F → Ask → F → Type 0) where
+  ahead_one : (f g h : F) (asks : List Ask) (a : Ask) → GaveAhead gives_ahead f asks g → gives_ahead g a h → GaveAhead gives_ahead f (asks ++ a ∷ []) h
+  ahead_one f g h [] a so given = (h, subst (λ z. gives_ahead z a h) (sym so) given, refl)
+  ahead_one f g h (x ∷ asks) a so given = (so.0, so.1, ahead_one so.0 g h asks a so.2 given)
+
+  pub gave_first : (f g : F) (asks : List Ask) (a : Ask) → gives f (Some a) g → asks ≡ a ∷ [] → Gave gives gives_ahead f asks g
+  gave_first f g asks a given is = record { first = a; more = []; are = is; asked = g; gives_it = given; gave_more = refl }
+
+  pub gave_one : (f g h : F) (asks now : List Ask) (a : Ask) → Gave gives gives_ahead f asks g → gives_ahead g a h → now ≡ asks ++ a ∷ [] → Gave gives gives_ahead f now h
+  gave_one f g h asks now a so given is =
+      record { first = so.first; more = so.more ++ a ∷ []; are = is ∙ ap (λ xs. xs ++ a ∷ []) so.are; asked = so.asked; gives_it = so.gives_it; gave_more = ahead_one so.asked g h so.more a so.gave_more given }
+
+heard_one : {F : Type 0} (hears : F → Told → F → Type 0) (f g h : F) (answers : List Told) (t : Told) → Heard hears f answers g → hears g t h → Heard hears f (answers ++ t ∷ []) h
+heard_one hears f g h [] t so heard = (h, subst (λ z. hears z t h) (sym so) heard, refl)
+heard_one hears f g h (x ∷ answers) t so heard = (so.0, so.1, heard_one hears so.0 g h answers t so.2 heard)
+
+-- the answers so far, and the one at the next place
+pub heard_next : {F : Type 0} (hears : F → Told → F → Type 0) (f g h : F) (answers : List Told) (i : ℕ) (t : Told) → Heard hears f (take i answers) g → i < length answers → t ≡ get_or answers i t → hears g t h
+    → Heard hears f (take (i + 1) answers) h
+heard_next hears f g h answers i t so within is heard =
+    subst (λ ts. Heard hears f ts h) (ap (λ u. take i answers ++ u ∷ []) is ∙ sym (take_more answers i t within)) (heard_one hears f g h (take i answers) t so heard)
+
+module _ {F : Type 0} (gives : F → Option Ask → F → Type 0) (gives_ahead : F → Ask → F → Type 0) (hears : F → Told → F → Type 0) where
+  -- the feed gave these asks and was told these answers, turn by turn, and may give more
+  abbrev pub Talks : F → List Turn → F → Type 0
   Talks f [] g = f ≡ g
-  Talks f (x ∷ xs) g = (asked : F) × (heard : F) × gives f (Some x.0) asked × hears asked x.1 heard × Talks heard xs g
+  Talks f (turn ∷ turns) g =
+      (asked : F) × (full : F) × (heard : F) × gives f (Some turn.0.0) asked × GaveAhead gives_ahead asked (asks_of turn.1) full
+      × Heard hears full (answers_of (turn.0 ∷ turn.1)) heard × Talks heard turns g
 
-  talks_more : (f g h i : F) (xs : List Exchange) (a : Ask) (t : Told) → Talks f xs g → gives g (Some a) h → hears h t i → Talks f (xs ++ (a, t) ∷ []) i
-  talks_more f g h i [] a t so given heard = (h, i, subst (λ z. gives z (Some a) h) (sym so) given, heard, refl)
-  talks_more f g h i (x ∷ xs) a t so given heard = (so.0, so.1, so.2, so.3, talks_more so.1 g h i xs a t so.4 given heard)
+  talks_more : (f g : F) (turns : List Turn) (turn : Turn) (asked full heard : F) → Talks f turns g → gives g (Some turn.0.0) asked → GaveAhead gives_ahead asked (asks_of turn.1) full
+      → Heard hears full (answers_of (turn.0 ∷ turn.1)) heard → Talks f (turns ++ turn ∷ []) heard
+  talks_more f g [] turn asked full heard so given on told = (asked, full, heard, subst (λ z. gives z (Some turn.0.0) asked) (sym so) given, on, told, refl)
+  talks_more f g (x ∷ turns) turn asked full heard so given on told = (so.0, so.1, so.2, so.3, so.4, so.5, talks_more so.2 g turns turn asked full heard so.6 given on told)
 
-  talks_end : (f g h : F) (xs : List Exchange) → Talks f xs g → gives g None h → Fed gives hears f xs h
+  talks_end : (f g h : F) (turns : List Turn) → Talks f turns g → gives g None h → Fed gives gives_ahead hears f turns h
   talks_end f g h [] so given = subst (λ z. gives z None h) (sym so) given
-  talks_end f g h (x ∷ xs) so given = (so.0, so.1, so.2, so.3, talks_end so.1 g h xs so.4 given)
+  talks_end f g h (x ∷ turns) so given = (so.0, so.1, so.2, so.3, so.4, so.5, talks_end so.2 g h turns so.6 given)
 
   -- a session asked for what the feed gave, and told it the answers, so far
   pub record Asking (o : Office) (s : Session) (f : F) (t : Session) (g : F) : Type 0 where
-    pub exchanges : List Exchange
+    pub turns : List Turn
     pub since : List Entry
     pub grew : history t.view ≡ history s.view ++ since
-    pub told : AreTold (begun o.charter) (number_of s.view) (history s.view) since exchanges
-    pub talks : Talks f exchanges g
+    pub told : AreTold (begun o.charter) (number_of s.view) (history s.view) since (in_turns turns)
+    pub talks : Talks f turns g
 
   pub asking_none : (o : Office) (s : Session) (f : F) → Asking o s f s f
-  asking_none o s f = record { exchanges = []; since = []; grew = sym (append-nil (history s.view)); told = refl; talks = refl }
+  asking_none o s f = record { turns = []; since = []; grew = sym (append-nil (history s.view)); told = refl; talks = refl }
 
-  pub asking_more : (o : Office) (s t u : Session) (f g h i : F) (a : Ask) → Asking o s f t g → number_of t.view ≡ number_of s.view → gives g (Some a) h → Tells hears o t h a u i → Asking o s f u i
-  asking_more o s t u f g h i a so same given told =
-      let made = told.exchanges in
-      let here : IsTold (begun o.charter) (number_of s.view) (history s.view ++ so.since) a told.answer made.since =
-      subst (λ es. IsTold (begun o.charter) (number_of s.view) es a told.answer made.since) so.grew (subst (λ k. IsTold (begun o.charter) k (history t.view) a told.answer made.since) same made.told) in
+  -- a turn more, of which these are the exchanges
+  turn_more : (o : Office) (s t u : Session) (f g h i : F) (asks : List Ask) (answers : List Told) (xs : List Exchange) (more : List Entry) → Asking o s f t g → number_of t.view ≡ number_of s.view
+      → Gave gives gives_ahead g asks h → asks ≡ asks_of xs → answers ≡ answers_of xs → Heard hears h answers i → history u.view ≡ history t.view ++ more
+      → AreTold (begun o.charter) (number_of t.view) (history t.view) more xs → Asking o s f u i
+  turn_more o s t u f g h i asks answers [] more so same gave are answered heard grew told = absurd (cons≢nil (sym gave.are ∙ are))
+  turn_more o s t u f g h i asks answers (x ∷ xs) more so same gave are answered heard grew told =
+      let turn : Turn = (x, xs) in
+      let first : gave.first ≡ x.0 = ap (head_or x.0) (sym gave.are ∙ are) in
+      let others : gave.more ≡ asks_of xs = ap tail_of (sym gave.are ∙ are) in
+      let here : AreTold (begun o.charter) (number_of s.view) (history s.view ++ so.since) more (x ∷ xs) =
+      subst (λ es. AreTold (begun o.charter) (number_of s.view) es more (x ∷ xs)) so.grew (subst (λ (k : ℕ). AreTold (begun o.charter) k (history t.view) more (x ∷ xs)) same told) in
+      let all : in_turns (so.turns ++ turn ∷ []) ≡ in_turns so.turns ++ (x ∷ xs) = in_turns-append so.turns (turn ∷ []) ∙ ap (λ ys. in_turns so.turns ++ (x ∷ ys)) (append-nil xs) in
       record {
-        exchanges = so.exchanges ++ (a, told.answer) ∷ [];
-        since = so.since ++ made.since;
-        grew = made.grew ∙ ap (λ es. es ++ made.since) so.grew ∙ append_assoc (history s.view) so.since made.since;
-        told = told_more (begun o.charter) (number_of s.view) (history s.view) so.since so.exchanges a told.answer made.since so.told here;
-        talks = talks_more f g h i so.exchanges a told.answer so.talks given told.hears_it;
+        turns = so.turns ++ turn ∷ [];
+        since = so.since ++ more;
+        grew = grew ∙ ap (λ es. es ++ more) so.grew ∙ append_assoc (history s.view) so.since more;
+        told = subst (AreTold (begun o.charter) (number_of s.view) (history s.view) (so.since ++ more)) (sym all)
+            (told_then (begun o.charter) (number_of s.view) (history s.view) so.since more (in_turns so.turns) (x ∷ xs) so.told here);
+        talks = talks_more f g so.turns turn gave.asked h i so.talks (subst (λ a. gives g (Some a) gave.asked) first gave.gives_it) (subst (λ qs. GaveAhead gives_ahead gave.asked qs h) others gave.gave_more)
+            (subst (λ ts. Heard hears h ts i) answered heard);
       }
 
-  pub asking_end : (o : Office) (s t : Session) (f g h : F) → Asking o s f t g → gives g None h → Serves gives hears o s f t h
-  asking_end o s t f g h so given = record { exchanges = so.exchanges; since = so.since; grew = so.grew; told = so.told; fed = talks_end f g h so.exchanges so.talks given }
+  pub asking_more : (o : Office) (s t u : Session) (f g h i : F) (asks : List Ask) (answers : List Told) → Asking o s f t g → number_of t.view ≡ number_of s.view → Gave gives gives_ahead g asks h
+      → Learns o.charter t.view asks answers u.view → Heard hears h answers i → Asking o s f u i
+  asking_more o s t u f g h i asks answers so same gave learns heard =
+      turn_more o s t u f g h i asks answers learns.exchanges learns.since so same gave learns.asked learns.answered heard learns.grew learns.told
+
+  -- the same, by the lists that hold the asks and the answers
+  pub asking_on : (o : Office) (s t u : Session) (f g h i : F) (asks qs : List Ask) (answers ts : List Told) (n : ℕ) → Asking o s f t g → number_of t.view ≡ number_of s.view → Gave gives gives_ahead g asks h
+      → Learns o.charter t.view (take n qs) answers u.view → n ≡ length qs → qs ≡ asks → ts ≡ answers → Heard hears h ts i → Asking o s f u i
+  asking_on o s t u f g h i asks qs answers ts n so same gave learns all are answered heard =
+      asking_more o s t u f g h i asks answers so same gave (subst (λ zs. Learns o.charter t.view zs answers u.view) (ap (λ m. take m qs) all ∙ take-length qs ∙ are) learns) (subst (λ ys. Heard hears h ys i) answered heard)
+
+  pub asking_end : (o : Office) (s t : Session) (f g h : F) → Asking o s f t g → gives g None h → Serves gives gives_ahead hears o s f t h
+  asking_end o s t f g h so given = record { turns = so.turns; since = so.since; grew = so.grew; told = so.told; fed = talks_end f g h so.turns so.talks given }
 
   -- none, and one more
-  pub served_none : (o : Office) (ss ts : List Session) (fs gs : List F) → length ss ≡ 0 → length fs ≡ 0 → ts ≡ [] → gs ≡ [] → AllServed gives hears o ss fs ts gs
+  pub served_none : (o : Office) (ss ts : List Session) (fs gs : List F) → length ss ≡ 0 → length fs ≡ 0 → ts ≡ [] → gs ≡ [] → AllServed gives gives_ahead hears o ss fs ts gs
   served_none o ss ts fs gs none nor back fed =
       record { rows = []; serve = tt; sessions = nil_from_length ss none; feeds = nil_from_length fs nor; sessions_back = back; feeds_back = fed }
 
-  serve_snoc : (o : Office) (rows : List (Session × F × Session × F)) (row : Session × F × Session × F) → AllServe gives hears o rows → Serves gives hears o row.0 row.1 row.2 row.3 → AllServe gives hears o (rows ++ row ∷ [])
+  serve_snoc : (o : Office) (rows : List (Session × F × Session × F)) (row : Session × F × Session × F) → AllServe gives gives_ahead hears o rows → Serves gives gives_ahead hears o row.0 row.1 row.2 row.3 → AllServe gives gives_ahead hears o (rows ++ row ∷ [])
   serve_snoc o [] row all is = (is, tt)
   serve_snoc o (x ∷ rows) row all is = (all.0, serve_snoc o rows row all.1 is)
 
   column : {A : Type 0} (of : (Session × F × Session × F) → A) (rows : List (Session × F × Session × F)) (row : Session × F × Session × F) (xs : List A) → xs ≡ map of rows → xs ++ of row ∷ [] ≡ map of (rows ++ row ∷ [])
   column of rows row xs is = ap (λ ys. ys ++ of row ∷ []) is ∙ sym (map-append of rows (row ∷ []))
 
-  pub served_snoc : (o : Office) (ss ts : List Session) (fs gs : List F) (s t : Session) (f g : F) → AllServed gives hears o ss fs ts gs → Serves gives hears o s f t g
-      → AllServed gives hears o (ss ++ s ∷ []) (fs ++ f ∷ []) (ts ++ t ∷ []) (gs ++ g ∷ [])
+  pub served_snoc : (o : Office) (ss ts : List Session) (fs gs : List F) (s t : Session) (f g : F) → AllServed gives gives_ahead hears o ss fs ts gs → Serves gives gives_ahead hears o s f t g
+      → AllServed gives gives_ahead hears o (ss ++ s ∷ []) (fs ++ f ∷ []) (ts ++ t ∷ []) (gs ++ g ∷ [])
   served_snoc o ss ts fs gs s t f g all is =
       let row : Session × F × Session × F = (s, f, t, g) in
       record {
@@ -167,9 +161,9 @@ module _ {F : Type 0} (gives : F → Option Ask → F → Type 0) (hears : F →
       }
 
   -- of a closed office: what its sessions asked stands in the journal
-  in_journal : (o : Office) (j : Journal) (k : ℕ) (rows : List (Session × F × Session × F)) → AllServe gives hears o rows → Numbered o k (map (λ r. r.0) rows)
+  in_journal : (o : Office) (j : Journal) (k : ℕ) (rows : List (Session × F × Session × F)) → AllServe gives gives_ahead hears o rows → Numbered o k (map (λ r. r.0) rows)
       → Returned o (map (λ r. r.0) rows) (map (λ r. r.2) rows) → HasAll o j (map (λ r. r.2) rows)
-      → AllFed gives hears (begun o.charter) (base o.charter) (news o.charter j) k (map (λ r. r.1) rows) (map (λ r. r.3) rows)
+      → AllFed gives gives_ahead hears (begun o.charter) (base o.charter) (news o.charter j) k (map (λ r. r.1) rows) (map (λ r. r.3) rows)
   in_journal o j k [] all numbered returned has = tt
   in_journal o j k (row ∷ rows) all numbered returned has =
       let t : Session = row.2 in
@@ -184,18 +178,18 @@ module _ {F : Type 0} (gives : F → Option Ask → F → Type 0) (hears : F →
       let made : of_session k (since ++ more) ≡ of_session k since =
       ap (of_session k) (sym new) ∙ ap (λ n. of_session n (news o.charter j)) (sym number) ∙ has.1 ∙ ap (λ n. of_session n (member_of t.view).later) number ∙ ap (of_session k) knows in
       let none : of_session k more ≡ [] = append_cancel_left (of_session k since) _ [] (sym (own-append k since more) ∙ made ∙ sym (append-nil (of_session k since))) in
-      let are : AreTold (begun o.charter) k (base o.charter) since is.exchanges =
-      subst (λ es. AreTold (begun o.charter) k es since is.exchanges) numbered.1 (subst (λ n. AreTold (begun o.charter) n (history row.0.view) since is.exchanges) numbered.0 is.told) in (
-        (is.exchanges, is.fed, subst (λ es. AreTold (begun o.charter) k (base o.charter) es is.exchanges) (sym new) (told_longer (begun o.charter) k (base o.charter) since more is.exchanges are none)),
+      let are : AreTold (begun o.charter) k (base o.charter) since (in_turns is.turns) =
+      subst (λ es. AreTold (begun o.charter) k es since (in_turns is.turns)) numbered.1 (subst (λ n. AreTold (begun o.charter) n (history row.0.view) since (in_turns is.turns)) numbered.0 is.told) in (
+        (is.turns, is.fed, subst (λ es. AreTold (begun o.charter) k (base o.charter) es (in_turns is.turns)) (sym new) (told_longer (begun o.charter) k (base o.charter) since more (in_turns is.turns) are none)),
         in_journal o j (k + 1) rows all.1 numbered.2 returned.2 has.2,
       )
 
-  pub all_fed : (o : Office) (j : Journal) (ss ts : List Session) (fs gs : List F) → ss ≡ newcomers o o.charter.count → AllServed gives hears o ss fs ts gs → Returned o ss ts → HasAll o j ts
-      → AllFed gives hears (begun o.charter) (base o.charter) (news o.charter j) 0 fs gs
+  pub all_fed : (o : Office) (j : Journal) (ss ts : List Session) (fs gs : List F) → ss ≡ newcomers o o.charter.count → AllServed gives gives_ahead hears o ss fs ts gs → Returned o ss ts → HasAll o j ts
+      → AllFed gives gives_ahead hears (begun o.charter) (base o.charter) (news o.charter j) 0 fs gs
   all_fed o j ss ts fs gs new all returned has =
       let rows : List (Session × F × Session × F) = all.rows in
       let numbered : Numbered o 0 (map (λ r. r.0) rows) = subst (Numbered o 0) (sym new ∙ all.sessions) (newcomers_numbered o o.charter.count).0 in
       let back : Returned o (map (λ r. r.0) rows) (map (λ r. r.2) rows) = subst (λ xs. Returned o xs (map (λ r. r.2) rows)) all.sessions (subst (λ xs. Returned o ss xs) all.sessions_back returned) in
-      subst (λ xs. AllFed gives hears (begun o.charter) (base o.charter) (news o.charter j) 0 xs gs) (sym all.feeds)
-      (subst (λ xs. AllFed gives hears (begun o.charter) (base o.charter) (news o.charter j) 0 (map (λ r. r.1) rows) xs) (sym all.feeds_back)
+      subst (λ xs. AllFed gives gives_ahead hears (begun o.charter) (base o.charter) (news o.charter j) 0 xs gs) (sym all.feeds)
+      (subst (λ xs. AllFed gives gives_ahead hears (begun o.charter) (base o.charter) (news o.charter j) 0 (map (λ r. r.1) rows) xs) (sym all.feeds_back)
       (in_journal o j 0 rows all.serve numbered back (subst (HasAll o j) all.sessions_back has)))

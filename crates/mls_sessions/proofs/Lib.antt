@@ -1,4 +1,5 @@
 mod OwnEntries
+mod Exchanges
 mod StepsKeep
 mod Turns
 mod SeatsKeep

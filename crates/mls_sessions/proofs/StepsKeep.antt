@@ -18,7 +18,8 @@ use Rattle.mls_sessions.specs.declared.gate_table.Member.{Member}
 use Rattle.mls_sessions.specs.declared.gate_table.View.{View}
 use Rattle.mls_sessions.specs.declared.gate_table.View.TheVariants.{Spent, Starting, Filling, Giving, Sessions, Holding}
 use Rattle.mls_sessions.specs.Sessions.{member_of, taken_of, seated}
-use Rattle.mls_sessions.proofs.OwnEntries.{own-append, own-other, below-append, prefix_refl, prefix_more}
+use Rattle.mls_sessions.specs.Feeds.{AllOf}
+use Rattle.mls_sessions.proofs.OwnEntries.{own-append, below-append, prefix_refl, prefix_more, own-none, below-all}
 
 -- a word that names a session isn't free
 pub names_some : (w k : ℕ) → Names w k → 0 < w
@@ -356,16 +357,26 @@ module _ (key : Charter) where
     abbrev t : List Entry
     t = taken_of v
 
+    module _ (m' : Journal) (added : List Entry) (adds : m' ≡ journal m.start (m.entries ++ added)) where
+      pub grown_is : m' ≡ present key (t ++ added)
+      grown_is = adds ∙ (ap (λ (b : Journal). journal b.start (b.entries ++ added)) took ∙ ap (journal (begun key)) (append_assoc (base key) t added))
+
+      pub grows_at : AllOf i.number added → Stands m'.start m'.entries → Allows (Gated key) slots id (v, (0, Some m') ∷ []) 0 (λ _. 0) (λ _. updated (step slots 0 0 0 maybe.none) (v, (0, Some m') ∷ []) 0)
+      grows_at mine legal = subst (λ (w : View). Allows (Gated key) slots id (w, (0, Some m') ∷ []) 0 (λ _. 0) (λ _. updated (step slots 0 0 0 maybe.none) (w, (0, Some m') ∷ []) 0)) (sym is)
+          (updates slots id i t m' legal added grown_is (λ k other. own-none i.number k added mine other) (λ known. below-all n i.number added known mine))
+
+      pub grows_as : (updated_view v ((0, Some m') ∷ []), []) ≡ seated key (member i.number (t ++ added))
+      grows_as = ap (λ (w : View). (updated_view w ((0, Some m') ∷ []), [])) is ∙ ap (λ es. seated key (member i.number es)) (ap (news key) grown_is ∙ drop-append_seam (base key) (t ++ added))
+
     module _ (m' : Journal) (e : Entry) (adds : m' ≡ journal m.start (m.entries ++ e ∷ [])) where
       pub longer_is : m' ≡ present key (t ++ e ∷ [])
-      longer_is = adds ∙ (ap (λ (b : Journal). journal b.start (b.entries ++ e ∷ [])) took ∙ ap (journal (begun key)) (append_assoc (base key) t (e ∷ [])))
+      longer_is = grown_is m' (e ∷ []) adds
 
       pub records_at : e.session ≡ i.number → Stands m'.start m'.entries → Allows (Gated key) slots id (v, (0, Some m') ∷ []) 0 (λ _. 0) (λ _. updated (step slots 0 0 0 maybe.none) (v, (0, Some m') ∷ []) 0)
-      records_at by legal = subst (λ (w : View). Allows (Gated key) slots id (w, (0, Some m') ∷ []) 0 (λ _. 0) (λ _. updated (step slots 0 0 0 maybe.none) (w, (0, Some m') ∷ []) 0)) (sym is)
-          (updates slots id i t m' legal (e ∷ []) longer_is (λ k other. own-other k e (λ same. other (sym same ∙ by))) (λ known. (subst (λ (k : ℕ). k < n) (sym by) known, tt)))
+      records_at by legal = grows_at m' (e ∷ []) adds (by, tt) legal
 
       pub records_as : (updated_view v ((0, Some m') ∷ []), []) ≡ seated key (member i.number (t ++ e ∷ []))
-      records_as = ap (λ (w : View). (updated_view w ((0, Some m') ∷ []), [])) is ∙ ap (λ es. seated key (member i.number es)) (ap (news key) longer_is ∙ drop-append_seam (base key) (t ++ e ∷ []))
+      records_as = grows_as m' (e ∷ []) adds
 
     pub stays_at : Stands m.start m.entries → Allows (Gated key) slots id (v, (0, Some m) ∷ []) 0 (λ _. 0) (λ _. kept (step slots 0 0 0 maybe.none) (v, (0, Some m) ∷ []) 0)
     stays_at legal = subst (λ (w : View). Allows (Gated key) slots id (w, (0, Some m) ∷ []) 0 (λ _. 0) (λ _. kept (step slots 0 0 0 maybe.none) (w, (0, Some m) ∷ []) 0)) (sym is) (keeps_seen slots id i t m legal took)

@@ -6,15 +6,24 @@ use Rattle.mls_requests.specs.declared.ask.Ask.{Ask}
 use Rattle.mls_requests.specs.declared.ask.Ask.TheVariants.{Submit, Check}
 use Rattle.mls_requests.specs.declared.entry.Entry.{Entry}
 use Rattle.mls_monitor.specs.Journal.{fold}
-use Rattle.mls_sessions.specs.Journals.{of_session}
+use Rattle.mls_sessions.specs.Journals.{Charter, Journal, journal, of_session}
 use Rattle.mls_sessions.specs.Rule.{begun}
 use Rattle.mls_sessions.specs.Sessions.{Office, Session, history, number_of}
+use Rattle.mls_sessions.specs.declared.gate_table.View.{View}
 use Rattle.mls_sessions.specs.declared.feed.Answer.{Answer as Told}
 use Rattle.mls_sessions.specs.declared.feed.Answer.TheVariants as told
 
 -- An ask, and the answer to it. (own)
 abbrev pub Exchange : Type 0
 Exchange = Ask × Told
+
+-- What was asked. (own)
+abbrev pub asks_of : List Exchange → List Ask
+asks_of xs = map (λ x. x.0) xs
+
+-- What was answered. (own)
+abbrev pub answers_of : List Exchange → List Told
+answers_of xs = map (λ x. x.1) xs
 
 -- An ask of session k is answered so, where the journal had these entries before and got those since: a request by its entry, which is the last of
 -- them and the only one of the session; a check by the state that the journal then had led to, with no entry of the session. (own)
@@ -31,32 +40,88 @@ AreTold start k before since [] = of_session k since ≡ []
 AreTold start k before since (x ∷ xs) =
     (first : List Entry) × (rest : List Entry) × (since ≡ first ++ rest) × IsTold start k before x.0 x.1 first × AreTold start k (before ++ first) rest xs
 
--- A session asked this and was told that: its history is the old one with what the journal got since. (own)
-pub record Exchanges (o : Office) (s : Session) (a : Ask) (t : Told) (u : Session) : Type 0 where
-  pub since : List Entry
-  pub grew : history u.view ≡ history s.view ++ since
-  pub told : IsTold (begun o.charter) (number_of s.view) (history s.view) a t since
+-- All entries are of session k. (own)
+abbrev pub AllOf : ℕ → List Entry → Type 0
+AllOf k [] = Unit {0}
+AllOf k (e ∷ entries) = (e.session ≡ k) × AllOf k entries
 
--- A session asked this for a feed that hears answers in this way, and told it the answer. (own)
-pub record Tells {F : Type 0} (hears : F → Told → F → Type 0) (o : Office) (s : Session) (f : F) (a : Ask) (t : Session) (g : F) : Type 0 where
+-- A monitor was asked this for session k and answered that: its journal got what it answers by, and no entry of another session. (own)
+pub record Gets (k : ℕ) (old : Journal) (a : Ask) (t : Told) (new : Journal) : Type 0 where
+  pub since : List Entry
+  pub grew : new ≡ journal old.start (old.entries ++ since)
+  pub mine : AllOf k since
+  pub told : IsTold old.start k old.entries a t since
+
+-- The same, with the answer kept behind others. (own)
+pub record GetsMore (k : ℕ) (old : Journal) (a : Ask) (before after : List Told) (new : Journal) : Type 0 where
   pub answer : Told
-  pub exchanges : Exchanges o s a answer t
-  pub hears_it : hears f answer g
+  pub kept : after ≡ before ++ answer ∷ []
+  pub gets : Gets k old a answer new
+
+-- The same of asks, one after the other. (own)
+pub record AllGet (k : ℕ) (old : Journal) (asks : List Ask) (answers : List Told) (new : Journal) : Type 0 where
+  pub exchanges : List Exchange
+  pub since : List Entry
+  pub asked : asks ≡ asks_of exchanges
+  pub answered : answers ≡ answers_of exchanges
+  pub grew : new ≡ journal old.start (old.entries ++ since)
+  pub mine : AllOf k since
+  pub told : AreTold old.start k old.entries since exchanges
+
+-- A session asked this, one after the other, and was told that: its history is the old one with what the journal got since. (own)
+pub record Learns (c : Charter) (old : View) (asks : List Ask) (answers : List Told) (new : View) : Type 0 where
+  pub exchanges : List Exchange
+  pub since : List Entry
+  pub asked : asks ≡ asks_of exchanges
+  pub answered : answers ≡ answers_of exchanges
+  pub grew : history new ≡ history old ++ since
+  pub told : AreTold (begun c) (number_of old) (history old) since exchanges
+
+-- What a feed asked in one turn, and what it was told: of one ask at least. (own)
+abbrev pub Turn : Type 0
+Turn = Exchange × List Exchange
+
+-- What was asked and told in turns. (own)
+abbrev pub in_turns : List Turn → List Exchange
+in_turns [] = []
+in_turns (turn ∷ turns) = turn.0 ∷ (turn.1 ++ in_turns turns)
+
+-- A feed that gives asks ahead in this way gave these, one after the other. (own)
+abbrev pub GaveAhead : {F : Type 0} → (F → Ask → F → Type 0) → F → List Ask → F → Type 0
+GaveAhead gives_ahead f [] g = f ≡ g
+GaveAhead {F} gives_ahead f (a ∷ asks) g = (h : F) × gives_ahead f a h × GaveAhead gives_ahead h asks g
+
+-- A feed that hears answers in this way was told these, one after the other. (own)
+abbrev pub Heard : {F : Type 0} → (F → Told → F → Type 0) → F → List Told → F → Type 0
+Heard hears f [] g = f ≡ g
+Heard {F} hears f (t ∷ answers) g = (h : F) × hears f t h × Heard hears h answers g
+
+-- A feed that gives asks in these ways gave these in one turn. (own)
+pub record Gave {F : Type 0} (gives : F → Option Ask → F → Type 0) (gives_ahead : F → Ask → F → Type 0) (f : F) (asks : List Ask) (g : F) : Type 0 where
+  pub first : Ask
+  pub more : List Ask
+  pub are : asks ≡ first ∷ more
+  pub asked : F
+  pub gives_it : gives f (Some first) asked
+  pub gave_more : GaveAhead gives_ahead asked more g
 
 -- Of feeds that give asks and hear answers in these ways.
-module _ {F : Type 0} (gives : F → Option Ask → F → Type 0) (hears : F → Told → F → Type 0) where
-  -- The feed gave these asks, one after the other, was told these answers, and then gave nothing more. (own)
-  abbrev pub Fed : F → List Exchange → F → Type 0
+module _ {F : Type 0} (gives : F → Option Ask → F → Type 0) (gives_ahead : F → Ask → F → Type 0) (hears : F → Told → F → Type 0) where
+  -- The feed gave these asks, turn by turn, was told these answers, those of a turn once it had given all of its asks, and then gave nothing
+  -- more. (own)
+  abbrev pub Fed : F → List Turn → F → Type 0
   Fed f [] g = gives f None g
-  Fed f (x ∷ xs) g = (asked : F) × (heard : F) × gives f (Some x.0) asked × hears asked x.1 heard × Fed heard xs g
+  Fed f (turn ∷ turns) g =
+      (asked : F) × (full : F) × (heard : F) × gives f (Some turn.0.0) asked × GaveAhead gives_ahead asked (asks_of turn.1) full
+      × Heard hears full (answers_of (turn.0 ∷ turn.1)) heard × Fed heard turns g
 
   -- A session asked for all that the feed gave, and told it the answers. (own)
   pub record Serves (o : Office) (s : Session) (f : F) (t : Session) (g : F) : Type 0 where
-    pub exchanges : List Exchange
+    pub turns : List Turn
     pub since : List Entry
     pub grew : history t.view ≡ history s.view ++ since
-    pub told : AreTold (begun o.charter) (number_of s.view) (history s.view) since exchanges
-    pub fed : Fed f exchanges g
+    pub told : AreTold (begun o.charter) (number_of s.view) (history s.view) since (in_turns turns)
+    pub fed : Fed f turns g
 
   -- Sessions that asked so: each stands beside the feed that it was given, the session that came back, and the feed that came back. (own)
   abbrev pub AllServe : Office → List (Session × F × Session × F) → Type 0
@@ -76,5 +141,5 @@ module _ {F : Type 0} (gives : F → Option Ask → F → Type 0) (hears : F →
   -- more; they stand in their order. (own)
   abbrev pub AllFed : State → List Entry → List Entry → ℕ → List F → List F → Type 0
   AllFed start before since k [] [] = Unit {0}
-  AllFed start before since k (f ∷ fs) (g ∷ gs) = ((xs : List Exchange) × Fed f xs g × AreTold start k before since xs) × AllFed start before since (k + 1) fs gs
+  AllFed start before since k (f ∷ fs) (g ∷ gs) = ((turns : List Turn) × Fed f turns g × AreTold start k before since (in_turns turns)) × AllFed start before since (k + 1) fs gs
   AllFed start before since k fs gs = ⊥

@@ -5,7 +5,7 @@ use crate::limits::{LOOKS, NAPS, RACES};
 /// What a session that waits does before it sleeps until it is woken. It may do none of it: then it sleeps at once.
 #[derive(Clone, Copy)]
 pub struct Backoff {
-    /// How often it looks at the held gate, each time before it naps or sleeps.
+    /// How often it looks at the held gate for each ask of its turn, each time before it naps or sleeps.
     pub looks: u32,
     /// How often it sees the gate free and comes too late, and looks again at once.
     pub races: u32,

@@ -1,5 +1,5 @@
 //! What a session counts.
-ghost use Rattle.std.specs.Prelude.{◌≡◌, ◌<◌, ◌+◌, ◌^◌};
+ghost use Rattle.std.specs.Prelude.{◌≡◌, ◌<◌, ◌≤◌, ◌+◌, ◌-◌, ◌^◌};
 
 /// How many entries a session has made, and how many it has seen.
 #[derive(Clone, Copy)]
@@ -25,5 +25,15 @@ impl Counts {
     {
         self.made += 1;
         self.seen = length;
+    }
+
+    /// The session has made all by which the journal grew from one length to another.
+    pub fn made_all(&mut self, from: u64, to: u64)
+        requires { (from ≤ to) × (self.old.made + (to - from) < 2 ^ 64) }
+        ensures made { self.new.made ≡ self.old.made + (to - from) }
+        ensures seen { self.new.seen ≡ to }
+    {
+        self.made += to - from;
+        self.seen = to;
     }
 }

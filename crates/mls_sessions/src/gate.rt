@@ -42,7 +42,7 @@ fn is_marked(word: u64) -> bool
 
 /// Looks at the word so often and once more, as long as the gate is held and nobody may sleep. It returns what it saw last.
 /// It looks once at least, or a session would never see that the gate is free.
-pub fn look(gate: &Gate, looks: u32) -> u64
+pub fn look(gate: &Gate, looks: u64) -> u64
     requires { gate.now.table_id.words ≡ 1 }
 {
     for _ in 0..looks {

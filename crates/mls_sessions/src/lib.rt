@@ -1,6 +1,7 @@
 //! Sessions: threads share one monitor through a gate, and each session knows its own part of the one journal.
 #![tactic(auto)]
 
+mod answering;
 mod asked;
 mod attend;
 mod backoff;
@@ -10,6 +11,7 @@ mod counts;
 mod feed;
 mod gate;
 mod gate_table;
+mod gathering;
 mod limits;
 mod lobby;
 mod meeting;

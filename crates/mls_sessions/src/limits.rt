@@ -3,8 +3,9 @@
 /// The most sessions of an office. Their numbers are below this.
 pub const MAX_SESSIONS: u16 = 64;
 
-/// How often a session looks at a held gate before it naps or sleeps. Each look takes the gate's word from the processor of whoever holds it,
-/// so that more looks cost more where many threads wait.
+/// How often a session looks at a held gate before it naps or sleeps, for each ask of its turn. Each look takes the gate's word from the processor of
+/// whoever holds it, so that more looks cost more where many threads wait. Who asks much in one turn works long between its turns, and so do the
+/// others who run with it: there it is worth to wait for the end of a turn, so that one asks while others work.
 pub const LOOKS: u32 = 40;
 
 /// How often a session sees the gate free, comes too late and looks again at once. Where turns are far apart such a gate is soon free
@@ -22,6 +23,9 @@ pub const NAP: u64 = 200;
 /// the longer they nap, so that one of them has the time to find the monitor's tables in its processor's cache.
 pub const LONGEST: u64 = 1_600;
 
-/// A session that naps again within so few turns of its own naps four times as long as before, else half as long. So sessions that do nothing but
-/// take turns soon nap long.
-pub const SOON: u32 = 120;
+/// A session that naps again before it asked so much naps four times as long as before, else half as long. So sessions that do nothing but take
+/// turns soon nap long.
+pub const SOON: u64 = 120;
+
+/// The most asks that a session takes to the gate at once. A turn costs as much by what it moves from one processor to another as some ten asks.
+pub const AHEAD: usize = 64;

@@ -7,8 +7,8 @@ use crate::limits::{NAP, SOON};
 pub struct Pace {
     /// How long its last nap was, in microseconds.
     micros: u64,
-    /// How many turns it began since.
-    turns: u32,
+    /// How much it asked since.
+    asks: u64,
 }
 
 impl Pace {
@@ -16,23 +16,23 @@ impl Pace {
     pub fn new() -> Pace {
         Pace {
             micros: NAP,
-            turns: SOON,
+            asks: SOON,
         }
     }
 
-    /// Counts a turn.
-    pub fn begin(&mut self) {
-        self.turns = self.turns.saturating_add(1);
+    /// Counts a turn in which so much is asked.
+    pub fn begin(&mut self, asks: u64) {
+        self.asks = self.asks.saturating_add(asks);
     }
 
     /// How long the next nap is, in microseconds, where none may be longer than that. It counts as taken.
     pub fn nap(&mut self, longest: u64) -> u64 {
-        self.micros = if self.turns < SOON {
+        self.micros = if self.asks < SOON {
             self.micros.saturating_mul(4).min(longest)
         } else {
             (self.micros / 2).max(NAP)
         };
-        self.turns = 0;
+        self.asks = 0;
         self.micros
     }
 }

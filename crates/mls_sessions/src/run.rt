@@ -29,6 +29,7 @@ use std::thread::Threads;
 #[tactic(auto, using(crate::proofs::Runs::returned_snoc, crate::proofs::Feeds::served_none, crate::proofs::Feeds::served_snoc))]
 fn attend_all<R: Threads + Wait + Sync, F: Feed + Send + Drop>(
     rt: &R,
+    alloc: Global,
     office: &Office,
     mut sessions: Vec<Session>,
     mut feeds: Vec<F>,
@@ -43,7 +44,7 @@ fn attend_all<R: Threads + Wait + Sync, F: Feed + Send + Drop>(
     ensures counts { (vec_len result.0 ≡ vec_len sessions) × (vec_len result.1 ≡ vec_len sessions) }
     ensures room { (vec_capacity back ≤ vec_capacity result.0) × (vec_capacity fed ≤ vec_capacity result.1) }
     ensures done { result.2 ≡ Asked.ToTheEnd → AllAt F.stands_at Stage.Done result.1.items }
-    ensures served { result.2 ≡ Asked.ToTheEnd → AllServed F.gives F.hears office.now sessions.items feeds.items result.0.items result.1.items }
+    ensures served { result.2 ≡ Asked.ToTheEnd → AllServed F.gives F.gives_ahead F.hears office.now sessions.items feeds.items result.0.items result.1.items }
 {
     let Some(session) = pop_session(office, &mut sessions) else {
         return (back, fed, Asked::ToTheEnd);
@@ -62,21 +63,25 @@ fn attend_all<R: Threads + Wait + Sync, F: Feed + Send + Drop>(
             ensures counts { (vec_len result.0 ≡ vec_len sessions + 1) × (vec_len result.1 ≡ vec_len sessions + 1) }
             ensures room { (vec_capacity back ≤ vec_capacity result.0) × (vec_capacity fed ≤ vec_capacity result.1) }
             ensures done { result.2 ≡ Asked.ToTheEnd → AllAt F.stands_at Stage.Done result.1.items }
-            ensures served { result.2 ≡ Asked.ToTheEnd → AllServed F.gives F.hears office.entry.now (sessions.items ++ session ∷ []) (feeds.items ++ feed ∷ []) result.0.items result.1.items }
+            ensures served { result.2 ≡ Asked.ToTheEnd → AllServed F.gives F.gives_ahead F.hears office.entry.now (sessions.items ++ session ∷ []) (feeds.items ++ feed ∷ []) result.0.items result.1.items }
         {
             let back_as = Back(office, Snapshot::of(&session), Snapshot::of(&feed));
             match scope.spawn_with(back_as, move || {
-                attend_unless(rt, flag, office, session, feed)
+                attend_unless(rt, alloc, flag, office, session, feed)
             }) {
                 Ok(handle) => {
-                    let (back, fed, asked) = attend_all(rt, office, sessions, feeds, back, fed);
+                    let (back, fed, asked) = attend_all(
+                        rt, alloc, office, sessions, feeds, back, fed,
+                    );
                     let last = handle.join(rt);
                     put_last(back, fed, asked, last)
                 }
                 Err(refused) => {
                     flag.store(true, Ordering::SeqCst);
                     let last = (refused.value)();
-                    let (back, fed, asked) = attend_all(rt, office, sessions, feeds, back, fed);
+                    let (back, fed, asked) = attend_all(
+                        rt, alloc, office, sessions, feeds, back, fed,
+                    );
                     put_last(back, fed, asked, last)
                 }
             }
@@ -88,6 +93,7 @@ fn attend_all<R: Threads + Wait + Sync, F: Feed + Send + Drop>(
 #[tactic(auto, using(crate::proofs::Runs::returned_ascending, crate::proofs::Runs::grew, crate::proofs::Feeds::all_fed))]
 pub fn run_open<R: Threads + Wait + Sync, F: Feed + Send + Drop>(
     rt: &R,
+    alloc: Global,
     opened: (Office, Vec<Session>),
     feeds: Vec<F>,
     back: Vec<Session>,
@@ -101,10 +107,10 @@ pub fn run_open<R: Threads + Wait + Sync, F: Feed + Send + Drop>(
     ensures grew { Grew (begun opened.0.charter) (base opened.0.charter) opened.0.charter.count result.0 }
     ensures count { vec_len result.1 ≡ vec_len feeds }
     ensures done { result.2 ≡ Asked.ToTheEnd → AllAt F.stands_at Stage.Done result.1.items }
-    ensures fed { result.2 ≡ Asked.ToTheEnd → AllFed F.gives F.hears (begun opened.0.charter) (base opened.0.charter) (news opened.0.charter (journal_of result.0)) 0 feeds.items result.1.items }
+    ensures fed { result.2 ≡ Asked.ToTheEnd → AllFed F.gives F.gives_ahead F.hears (begun opened.0.charter) (base opened.0.charter) (news opened.0.charter (journal_of result.0)) 0 feeds.items result.1.items }
 {
     let (office, sessions) = opened;
-    let (back, fed, asked) = attend_all(rt, &office, sessions, feeds, back, fed);
+    let (back, fed, asked) = attend_all(rt, alloc, &office, sessions, feeds, back, fed);
     match office.close(back) {
         Ok(monitor) => (monitor, fed, asked),
         Err(_) => unreachable!(),
@@ -153,7 +159,7 @@ pub fn run_sessions<R: Threads + Wait + Sync, F: Feed + Send + Drop>(
     ensures ok { IfOk result (λ run. Grew monitor.start monitor.entries (vec_len feeds) run.monitor) }
     ensures err { IfErr result (λ fault. Grew monitor.start monitor.entries (vec_len feeds) fault.monitor) }
     ensures feeds { IfOk result (λ run. vec_len run.feeds ≡ vec_len feeds) }
-    ensures fed { IfOk result (λ run. AllFed F.gives F.hears monitor.start monitor.entries (drop (length monitor.entries) run.monitor.entries) 0 feeds.items run.feeds.items) }
+    ensures fed { IfOk result (λ run. AllFed F.gives F.gives_ahead F.hears monitor.start monitor.entries (drop (length monitor.entries) run.monitor.entries) 0 feeds.items run.feeds.items) }
     ensures back { IfErr result (λ fault. vec_len fault.feeds ≡ vec_len feeds) }
     ensures kind { IfErr result (λ fault. fault.kind ≡ RunFaultKind.BadCount → is_count (vec_len feeds) ≡ false) }
     ensures bad { is_count (vec_len feeds) ≡ false → IfErr result (λ fault. (fault.kind ≡ RunFaultKind.BadCount) × (fault.monitor ≡ monitor) × (fault.feeds.items ≡ feeds.items)) }
@@ -181,7 +187,7 @@ pub fn run_sessions<R: Threads + Wait + Sync, F: Feed + Send + Drop>(
         });
     };
     match Office::open(alloc, monitor, n) {
-        Ok(opened) => ended(run_open(rt, opened, feeds, back, fed)),
+        Ok(opened) => ended(run_open(rt, alloc, opened, feeds, back, fed)),
         Err(fault) => Err(RunFault {
             kind: RunFaultKind::Memory,
             monitor: fault.monitor,

@@ -1,16 +1,18 @@
 //! What a session asks of the monitor: an entry, or whether a triple is a current access; waiting for the gate, or not.
-ghost use Rattle.std.specs.Prelude.{◌≡◌, ◌≢◌, IfOk, IfErr, IsOk, OnErr};
+ghost use Rattle.std.specs.Prelude.{◌≡◌, ◌≢◌, ◌<◌, ◌≤◌, [], length, take, vec_len, vec_capacity, IfOk, IfErr, IsOk, OnOk, OnErr};
 ghost use Rattle.std.specs.FinSet as set;
 ghost use Rattle.mls_monitor.specs.Journal.{fold};
 ghost use Rattle.mls_sessions.specs.Rule.{begun};
 ghost use Rattle.mls_sessions.specs.Sessions.{IsOf, Submits, Sees, history, number_of};
+ghost use Rattle.mls_sessions.specs.Feeds.{Learns};
 
+use crate::feed::Answer;
 use crate::gate::{named, win};
 use crate::office::Office;
 use crate::session::Session;
 use crate::try_fault::{Busy, TryFault};
-use crate::turn::{inspect, record, wait};
-use mls_requests::{Entry, Request};
+use crate::turn::{inspect, record, record_all, wait};
+use mls_requests::{Ask, Entry, Request};
 use mls_tables::{Mode, ObjectId, SubjectId};
 use std::alloc::AllocError;
 use std::sync::Wait;
@@ -43,6 +45,7 @@ impl Session {
             &mut self.seat,
             &mut self.pace,
             number,
+            1,
         );
         record(
             gate,
@@ -110,6 +113,7 @@ impl Session {
             &mut self.seat,
             &mut self.pace,
             number,
+            1,
         );
         inspect(gate, &mut self.seat, &mut self.counts, taken, s, o, x)
     }
@@ -139,5 +143,47 @@ impl Session {
             Ok(monitor) => Ok(inspect(gate, &mut self.seat, &mut self.counts, monitor, s, o, x)),
             Err(_) => Err(Busy),
         }
+    }
+
+    /// Waits for the gate, asks one after the other in one turn, until an allocation fails, and keeps the answers.
+    ///
+    /// # Errors
+    /// `AllocError` where an allocation failed; those before it are answered, and stand.
+    pub(crate) fn ask_all<R: Wait>(
+        &mut self,
+        office: &Office,
+        rt: &R,
+        asks: &[Ask],
+        answers: &mut Vec<Answer>,
+    ) -> Result<(), AllocError>
+        requires office { IsOf office.now self.old }
+        requires room { (answers.old.items ≡ []) × (length asks.now ≤ vec_capacity answers.old) }
+        ensures office { IsOf office.now self.new }
+        ensures number { number_of self.new.view ≡ number_of self.old.view }
+        ensures learns { Learns office.now.charter self.old.view (take (vec_len answers.new) asks.now) answers.new.items self.new.view }
+        ensures ok { OnOk result (vec_len answers.new ≡ length asks.now) }
+        ensures err { OnErr result (vec_len answers.new < length asks.now) }
+        ensures room { vec_capacity answers.old ≤ vec_capacity answers.new }
+    {
+        let gate = &office.table.shared;
+        let number = self.number();
+        let taken = wait(
+            gate,
+            &office.lobby,
+            rt,
+            &mut self.seat,
+            &mut self.pace,
+            number,
+            asks.len() as u64,
+        );
+        record_all(
+            gate,
+            &mut self.seat,
+            &mut self.counts,
+            taken,
+            number,
+            asks,
+            answers,
+        )
     }
 }

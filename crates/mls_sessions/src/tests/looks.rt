@@ -100,7 +100,7 @@ fn ask_all<R: Threads + Wait + Sync>(
 {
     let back = Vec::with_capacity(alloc, feeds.len())?;
     let fed = Vec::with_capacity(alloc, feeds.len())?;
-    let (monitor, feeds, asked) = run_open(rt, opened, feeds, back, fed);
+    let (monitor, feeds, asked) = run_open(rt, alloc, opened, feeds, back, fed);
     let count = monitor.entries().len();
     drop(monitor);
     drop(feeds);

@@ -1,0 +1,54 @@
+//! What a script asks ahead, and how that waits.
+ghost use Rattle.std.specs.Prelude.{◌≡◌, ◌<◌, ◌++◌, ◌∷◌, Some, [], length, IfSome, OnOk, OnErr};
+ghost use Rattle.mls_scripts.specs.Lines.{lines_of};
+ghost use Rattle.mls_scripts.specs.Halves.{next_of};
+ghost use Rattle.mls_scripts.specs.Asking.{asking};
+
+use crate::halves::Asking;
+use crate::lines::first_line;
+use mls_lines::{Line, Names, Vars, read_line};
+use std::alloc::AllocError;
+use std::collections::VecDeque;
+
+/// What a script asks ahead, and the bytes after that line.
+#[derive(Clone, Copy)]
+pub struct Ahead<'a> {
+    pub asks: Asking<'a>,
+    pub rest: &'a [u8],
+}
+
+/// What the next line asks that isn't blank. `None` where it is a fault, or where there is none. It doesn't allocate.
+#[tactic(auto, using(crate::proofs::HalfSteps::past_blank))]
+pub fn look_ahead<'a>(names: &Names, vars: &Vars, bytes: &'a [u8]) -> Option<Ahead<'a>>
+    ensures next { IfSome result (λ next. next_of names.now vars.now.bound (lines_of bytes.now) ≡ record { text = []; asks = Some (asking next.asks); rest = lines_of next.rest.now }) }
+    ensures less { IfSome result (λ next. length next.rest.now < length bytes.now) }
+{
+    let mut rest = bytes;
+    while let Some((line, more)) = first_line(rest) {
+        match read_line(names, vars, line) {
+            Err(_) => return None,
+            Ok(Line::Blank) => rest = more,
+            Ok(Line::Ask { bind, ask }) => {
+                return Some(Ahead {
+                    asks: Asking { bind, ask },
+                    rest: more,
+                });
+            }
+        }
+    }
+    None
+}
+
+/// Puts a copy behind those that wait.
+///
+/// # Errors
+/// `AllocError` where the allocation failed; those that wait are as before.
+pub fn enqueue<T: Copy + Drop>(waiting: &mut VecDeque<T>, item: &T) -> Result<(), AllocError>
+    ensures ok { OnOk result (waiting.new.items ≡ waiting.old.items ++ item.now ∷ []) }
+    ensures err { OnErr result (waiting.new.items ≡ waiting.old.items) }
+{
+    match waiting.push_back(*item) {
+        Ok(()) => Ok(()),
+        Err(_) => Err(AllocError),
+    }
+}

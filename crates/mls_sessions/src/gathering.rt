@@ -1,0 +1,60 @@
+//! What a feed asks in one turn at the gate, and what it is told after it.
+ghost use Rattle.std.specs.Prelude.{◌≡◌, ◌<◌, ◌≤◌, ◌+◌, ◌∷◌, ◌++◌, [], true, false, length, None, vec_len, vec_capacity};
+ghost use Rattle.mls_sessions.specs.Feeds.{Gave, Heard};
+
+use crate::feed::{Answer, Feed, Stage};
+use crate::limits::AHEAD;
+use mls_requests::Ask;
+
+/// Puts one more behind those that are there, where there is room.
+pub fn keep<T>(kept: &mut Vec<T>, item: T)
+    requires { vec_len kept.old < vec_capacity kept.old }
+    ensures items { kept.new.items ≡ kept.old.items ++ item ∷ [] }
+    ensures count { vec_len kept.new ≡ vec_len kept.old + 1 }
+    ensures room { vec_capacity kept.old ≤ vec_capacity kept.new }
+{
+    match kept.push(item) {
+        Ok(()) => {}
+        Err(_) => unreachable!(),
+    }
+}
+
+/// What the feed asks next, and what it asks ahead, as long as there is room; or whether nothing comes any more.
+#[tactic(auto, using(crate::proofs::Feeds::gave_first, crate::proofs::Feeds::gave_one))]
+pub fn gather<F: Feed>(feed: &mut F, asks: &mut Vec<Ask>) -> bool
+    requires ready { F.stands_at feed.old ≡ Stage.Ready }
+    requires room { AHEAD ≤ vec_capacity asks.old }
+    ensures room { AHEAD ≤ vec_capacity asks.new }
+    ensures many { vec_len asks.new ≤ AHEAD }
+    ensures less { result ≡ true → F.asks_left feed.new < F.asks_left feed.old }
+    ensures waits { result ≡ true → (F.stands_at feed.new ≡ Stage.Waiting) × (F.waits_for feed.new ≡ vec_len asks.new) × (0 < vec_len asks.new) }
+    ensures gave { result ≡ true → Gave F.gives F.gives_ahead feed.old asks.new.items feed.new }
+    ensures done { result ≡ false → (F.stands_at feed.new ≡ Stage.Done) × F.gives feed.old None feed.new }
+{
+    asks.clear();
+    let Some(first) = feed.next() else {
+        return false;
+    };
+    keep(asks, first);
+    while asks.len() < AHEAD {
+        let Some(ask) = feed.ahead() else {
+            return true;
+        };
+        keep(asks, ask);
+    }
+    true
+}
+
+/// Tells the feed the answers to the first of what it gave.
+#[tactic(auto, using(crate::proofs::Feeds::heard_next))]
+pub fn tell<F: Feed>(feed: &mut F, answers: &[Answer])
+    requires { (F.stands_at feed.old ≡ Stage.Waiting) × (0 < F.waits_for feed.old) × (length answers.now ≤ F.waits_for feed.old) }
+    ensures left { F.asks_left feed.new ≤ F.asks_left feed.old }
+    ensures ready { length answers.now ≡ F.waits_for feed.old → F.stands_at feed.new ≡ Stage.Ready }
+    ensures waits { length answers.now < F.waits_for feed.old → F.stands_at feed.new ≡ Stage.Waiting }
+    ensures heard { Heard F.hears feed.old answers.now feed.new }
+{
+    for answer in answers {
+        feed.told(answer);
+    }
+}
