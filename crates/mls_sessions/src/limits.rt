@@ -5,7 +5,7 @@ pub const MAX_SESSIONS: u16 = 64;
 
 /// How often a session looks at a held gate before it naps or sleeps, for each ask of its turn. Each look takes the gate's word from the processor of
 /// whoever holds it, so that more looks cost more where many threads wait. Who asks much in one turn works long between its turns, and so do the
-/// others who run with it: there it is worth to wait for the end of a turn, so that one asks while others work.
+/// others who run with it: there it pays to wait for the end of a turn, so that one asks while others work.
 pub const LOOKS: u32 = 40;
 
 /// How often a session sees the gate free, comes too late and looks again at once. Where turns are far apart such a gate is soon free
@@ -27,5 +27,5 @@ pub const LONGEST: u64 = 1_600;
 /// turns soon nap long.
 pub const SOON: u64 = 120;
 
-/// The most asks that a session takes to the gate at once. A turn costs as much by what it moves from one processor to another as some ten asks.
+/// The most asks that a session takes to the gate at once. What a turn moves from one processor to another costs as much as some ten asks.
 pub const AHEAD: usize = 64;
