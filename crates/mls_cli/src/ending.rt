@@ -7,14 +7,14 @@ use mls_rules::is_secure;
 use std::alloc::{AllocError, Global};
 
 /// The word for whether something holds.
-pub fn yes_or_no(holds: bool) -> &'static str
+pub(crate) fn yes_or_no(holds: bool) -> &'static str
     ensures { result.now ≡ if holds then codes "yes" else codes "no" }
 {
     if holds { "yes" } else { "no" }
 }
 
 /// How many entries a monitor has, and whether its state is secure, looked at from scratch: a line each.
-pub fn ending(alloc: Global, monitor: &Monitor) -> Result<String, AllocError>
+pub(crate) fn ending(alloc: Global, monitor: &Monitor) -> Result<String, AllocError>
     ensures { IfOk result (λ text. string_bytes text ≡ ending_text (length monitor.now.entries)) }
 {
     let entries = monitor.entries().len();

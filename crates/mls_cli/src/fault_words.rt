@@ -7,7 +7,7 @@ use mls_journal::EntryFault;
 use mls_labels::SchemeFault;
 
 /// The number and the name of a scheme's fault.
-pub fn scheme_words(fault: SchemeFault) -> &'static str
+pub(crate) fn scheme_words(fault: SchemeFault) -> &'static str
     ensures { result.now ≡ words_of_scheme fault }
 {
     match fault {
@@ -21,7 +21,7 @@ pub fn scheme_words(fault: SchemeFault) -> &'static str
 }
 
 /// The number and the name of a start's fault.
-pub fn start_words(fault: StartFault) -> &'static str
+pub(crate) fn start_words(fault: StartFault) -> &'static str
     ensures { result.now ≡ words_of_start fault }
 {
     match fault {
@@ -38,7 +38,7 @@ pub fn start_words(fault: StartFault) -> &'static str
 }
 
 /// The number and the name of a fault of a journal's line.
-pub fn entry_words(fault: EntryFault) -> &'static str
+pub(crate) fn entry_words(fault: EntryFault) -> &'static str
     ensures { result.now ≡ words_of_entry fault }
 {
     match fault {

@@ -16,7 +16,7 @@ use std::alloc::{AllocError, Global};
 
 /// The feeds of scripts over these names, in their order.
 #[tactic(auto, using(crate::proofs::Feeds::at_snoc, crate::proofs::Feeds::feeds_taken))]
-pub fn make_feeds<'a>(
+pub(crate) fn make_feeds<'a>(
     alloc: Global,
     names: &'a Names,
     scripts: &[&'a [u8]],
@@ -92,7 +92,7 @@ fn feeds_output(
 }
 
 /// What a run came to whose scripts were all asked to their end.
-pub fn done_text(
+pub(crate) fn done_text(
     alloc: Global,
     monitor: &Monitor,
     feeds: &[ScriptFeed<'_>],

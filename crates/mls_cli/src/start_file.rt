@@ -10,7 +10,7 @@ use std::alloc::Global;
 
 /// The start of a start file. Its names are not needed.
 #[tactic(auto, using(crate::proofs::Starts::load_refuses))]
-pub fn load(alloc: Global, bytes: &[u8]) -> Result<Start, CommandFault>
+pub(crate) fn load(alloc: Global, bytes: &[u8]) -> Result<Start, CommandFault>
     ensures ok { IfOk result (λ start. SaysState bytes.now start) }
     ensures fault { IfErr result (λ fault. RefusesLoad bytes.now fault) }
 {

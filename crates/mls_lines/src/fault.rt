@@ -41,7 +41,7 @@ fn first_fault(one: LineFault, other: LineFault) -> LineFault
 }
 
 /// Both parts of a line, or the first of their faults.
-pub fn both<T: Copy, U: Copy>(
+pub(crate) fn both<T: Copy, U: Copy>(
     first: Result<T, LineFault>,
     second: Result<U, LineFault>,
 ) -> Result<(T, U), LineFault>

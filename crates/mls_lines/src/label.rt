@@ -23,7 +23,10 @@ fn has_label_bytes(token: &[u8]) -> bool
 }
 
 /// The label that a token names in a scheme.
-pub fn read_scheme_label<A: Allocator>(scheme: &Scheme<A>, token: &[u8]) -> Result<Label, LineFault>
+pub(crate) fn read_scheme_label<A: Allocator>(
+    scheme: &Scheme<A>,
+    token: &[u8],
+) -> Result<Label, LineFault>
     ensures { result ≡ label_named scheme.now token.now }
 {
     if !has_label_bytes(token) {

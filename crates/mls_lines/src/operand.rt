@@ -31,7 +31,10 @@ fn read_subject_name<A: Allocator>(names: &Names<A>, token: &[u8]) -> Result<Sub
 }
 
 /// The subject that a token names: by its name, or by its number after a `#`, known or not.
-pub fn read_subject<A: Allocator>(names: &Names<A>, token: &[u8]) -> Result<SubjectId, LineFault>
+pub(crate) fn read_subject<A: Allocator>(
+    names: &Names<A>,
+    token: &[u8],
+) -> Result<SubjectId, LineFault>
     ensures { result ≡ subject_of names.now token.now }
 {
     match token {
@@ -60,7 +63,7 @@ fn read_object_name<A: Allocator>(names: &Names<A>, token: &[u8]) -> Result<Obje
 }
 
 /// The object that a token names: by its name, by its number after a `#`, known or not, or by a variable after a `$`.
-pub fn read_object<A: Allocator, B: Allocator>(
+pub(crate) fn read_object<A: Allocator, B: Allocator>(
     names: &Names<A>,
     vars: &Vars<B>,
     token: &[u8],
@@ -78,7 +81,7 @@ pub fn read_object<A: Allocator, B: Allocator>(
 }
 
 /// The operand of an action on one object.
-pub fn read_one<A: Allocator, B: Allocator>(
+pub(crate) fn read_one<A: Allocator, B: Allocator>(
     names: &Names<A>,
     vars: &Vars<B>,
     operands: &[u8],
@@ -90,7 +93,7 @@ pub fn read_one<A: Allocator, B: Allocator>(
 }
 
 /// The operands of an access: an object in a mode.
-pub fn read_access<A: Allocator, B: Allocator>(
+pub(crate) fn read_access<A: Allocator, B: Allocator>(
     names: &Names<A>,
     vars: &Vars<B>,
     operands: &[u8],
@@ -104,7 +107,7 @@ pub fn read_access<A: Allocator, B: Allocator>(
 }
 
 /// The operands of an action on a cell of the matrix: a mode, a subject and an object.
-pub fn read_cell<A: Allocator, B: Allocator>(
+pub(crate) fn read_cell<A: Allocator, B: Allocator>(
     names: &Names<A>,
     vars: &Vars<B>,
     operands: &[u8],
@@ -121,7 +124,7 @@ pub fn read_cell<A: Allocator, B: Allocator>(
 }
 
 /// The operands of an action that makes an object: its parent and its labels.
-pub fn read_child<A: Allocator, B: Allocator>(
+pub(crate) fn read_child<A: Allocator, B: Allocator>(
     names: &Names<A>,
     vars: &Vars<B>,
     operands: &[u8],
@@ -138,7 +141,10 @@ pub fn read_child<A: Allocator, B: Allocator>(
 }
 
 /// The operand of an action on the caller's level.
-pub fn read_level<A: Allocator>(names: &Names<A>, operands: &[u8]) -> Result<SecLabel, LineFault>
+pub(crate) fn read_level<A: Allocator>(
+    names: &Names<A>,
+    operands: &[u8],
+) -> Result<SecLabel, LineFault>
     ensures { result ≡ level_operand names.now (one_of (tokens_of operands.now)) }
 {
     let label = one_token(operands).ok_or(LineFault::BadForm)?;
@@ -147,7 +153,7 @@ pub fn read_level<A: Allocator>(names: &Names<A>, operands: &[u8]) -> Result<Sec
 }
 
 /// The operands of an action on an object's label.
-pub fn read_relabel<A: Allocator, B: Allocator>(
+pub(crate) fn read_relabel<A: Allocator, B: Allocator>(
     names: &Names<A>,
     vars: &Vars<B>,
     operands: &[u8],

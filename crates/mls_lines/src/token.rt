@@ -32,7 +32,7 @@ fn word_len(line: &[u8]) -> usize
 }
 
 /// The first token of a line, and what stands after it. `None` where the line has no token.
-pub fn next_token(line: &[u8]) -> Option<(&[u8], &[u8])>
+pub(crate) fn next_token(line: &[u8]) -> Option<(&[u8], &[u8])>
     ensures { MatchOption result (tokens_of line.now ≡ []) (λ p. tokens_of line.now ≡ p.0.now ∷ tokens_of p.1.now) }
 {
     let from = skip_spaces(line);
@@ -43,7 +43,7 @@ pub fn next_token(line: &[u8]) -> Option<(&[u8], &[u8])>
 }
 
 /// The token of a line that has just one.
-pub fn one_token(line: &[u8]) -> Option<&[u8]>
+pub(crate) fn one_token(line: &[u8]) -> Option<&[u8]>
     ensures { option_map (λ t. t.now) result ≡ one_of (tokens_of line.now) }
 {
     let (token, rest) = next_token(line)?;
@@ -55,7 +55,7 @@ pub fn one_token(line: &[u8]) -> Option<&[u8]>
 }
 
 /// The tokens of a line that has just two.
-pub fn two_tokens(line: &[u8]) -> Option<(&[u8], &[u8])>
+pub(crate) fn two_tokens(line: &[u8]) -> Option<(&[u8], &[u8])>
     ensures { option_map (λ p. (p.0.now, p.1.now)) result ≡ two_of (tokens_of line.now) }
 {
     let (first, rest) = next_token(line)?;
@@ -64,7 +64,7 @@ pub fn two_tokens(line: &[u8]) -> Option<(&[u8], &[u8])>
 }
 
 /// The tokens of a line that has just three.
-pub fn three_tokens(line: &[u8]) -> Option<(&[u8], &[u8], &[u8])>
+pub(crate) fn three_tokens(line: &[u8]) -> Option<(&[u8], &[u8], &[u8])>
     ensures { option_map (λ p. (p.0.now, p.1.now, p.2.now)) result ≡ three_of (tokens_of line.now) }
 {
     let (first, rest) = next_token(line)?;
@@ -73,7 +73,7 @@ pub fn three_tokens(line: &[u8]) -> Option<(&[u8], &[u8], &[u8])>
 }
 
 /// ASCII bytes as text. They aren't looked at again.
-pub fn as_text(bytes: &[u8]) -> &str
+pub(crate) fn as_text(bytes: &[u8]) -> &str
     requires { IsAscii bytes.now }
     ensures { result.now ≡ bytes.now }
 {
@@ -81,7 +81,7 @@ pub fn as_text(bytes: &[u8]) -> &str
 }
 
 /// The token as a name, where it is one.
-pub fn read_name(token: &[u8]) -> Option<&str>
+pub(crate) fn read_name(token: &[u8]) -> Option<&str>
     ensures { option_map (λ name. name.now) result ≡ name_of token.now }
 {
     if is_name(token) {

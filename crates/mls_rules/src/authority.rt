@@ -10,7 +10,7 @@ use mls_tables::{Mode, ObjectId, SubjectId};
 use std::alloc::Allocator;
 
 /// Whether the subject writes the parent of an object that has one.
-pub fn writes_parent<A: Allocator>(state: &State<A>, s: SubjectId, o: ObjectId) -> bool
+pub(crate) fn writes_parent<A: Allocator>(state: &State<A>, s: SubjectId, o: ObjectId) -> bool
     requires subject { IsTrue (is_subject state.now s) }
     requires object { IsTrue (is_active state.now o) }
     ensures { result ≡ writes_parent state.now s (map.get state.now.parent o) }
@@ -22,7 +22,7 @@ pub fn writes_parent<A: Allocator>(state: &State<A>, s: SubjectId, o: ObjectId) 
 }
 
 /// Whether the subject controls who may access the object.
-pub fn controls<A: Allocator>(state: &State<A>, s: SubjectId, o: ObjectId) -> bool
+pub(crate) fn controls<A: Allocator>(state: &State<A>, s: SubjectId, o: ObjectId) -> bool
     requires subject { IsTrue (is_subject state.now s) }
     requires object { IsTrue (is_active state.now o) }
     ensures { result ≡ controls state.now s o }
@@ -35,7 +35,12 @@ pub fn controls<A: Allocator>(state: &State<A>, s: SubjectId, o: ObjectId) -> bo
 }
 
 /// Whether the subject may give the object this label.
-pub fn may_relabel<A: Allocator>(state: &State<A>, s: SubjectId, o: ObjectId, l: SecLabel) -> bool
+pub(crate) fn may_relabel<A: Allocator>(
+    state: &State<A>,
+    s: SubjectId,
+    o: ObjectId,
+    l: SecLabel,
+) -> bool
     requires subject { IsTrue (is_subject state.now s) }
     requires object { IsTrue (is_active state.now o) }
     ensures { result ≡ may_relabel state.now s o l }

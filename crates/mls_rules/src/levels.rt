@@ -94,7 +94,11 @@ fn label_fits<A: Allocator>(state: &State<A>, o: ObjectId, l: SecLabel) -> bool
 }
 
 /// The reply to a subject that would change its current label, in the domain.
-pub fn decide_subject_level<A: Allocator>(state: &State<A>, s: SubjectId, l: SecLabel) -> Reply
+pub(crate) fn decide_subject_level<A: Allocator>(
+    state: &State<A>,
+    s: SubjectId,
+    l: SecLabel,
+) -> Reply
     requires { IsTrue (is_subject state.now s) }
     ensures { result ≡ verdict state.now s (Action.SubjectLevel l) }
 {
@@ -112,7 +116,7 @@ pub fn decide_subject_level<A: Allocator>(state: &State<A>, s: SubjectId, l: Sec
 }
 
 /// The reply to a subject that would relabel an object, in the domain.
-pub fn decide_object_level<A: Allocator>(
+pub(crate) fn decide_object_level<A: Allocator>(
     state: &State<A>,
     s: SubjectId,
     o: ObjectId,

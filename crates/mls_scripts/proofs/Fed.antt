@@ -95,13 +95,14 @@ heard_prints f g x (y ∷ ys) so asked none =
 
 -- a feed that didn't fail at its end never did
 never_failed : (f g : ScriptFeed) (turns : List Turn) → Fed Gives GivesAhead Takes f turns g → g.failed ≡ false → f.failed ≡ false
-never_failed f g [] so none = not_before f.failed g.failed so.kept none
+never_failed f g [] so none = let last : Gives f None g = subst (λ h. Gives h None g) (sym so.1) so.2 in not_before f.failed g.failed last.kept none
 never_failed f g (x ∷ turns) so none =
-    let asked : ScriptFeed = so.0 in
-    let full : ScriptFeed = so.1 in
-    let told : ScriptFeed = so.2 in
-    let whole : full.failed ≡ false = not_before full.failed told.failed (heard_keeps full told (x.0 ∷ x.1) so.5).1 (never_failed told g turns so.6 none) in
-    not_before f.failed asked.failed so.3.kept (sym (ahead_keeps asked full x.1 so.4).2 ∙ whole)
+    let turn = so.1 in
+    let asked : ScriptFeed = turn.0 in
+    let full : ScriptFeed = turn.1 in
+    let told : ScriptFeed = turn.2 in
+    let whole : full.failed ≡ false = not_before full.failed told.failed (heard_keeps full told (x.0 ∷ x.1) turn.5).1 (never_failed told g turns (so.0, turn.6, so.2) none) in
+    not_before f.failed asked.failed turn.3.kept (sym (ahead_keeps asked full x.1 turn.4).2 ∙ whole)
 
 prints_as : (names names' : Names) (vars vars' : List (List ℕ × ℕ)) (lines lines' : List (List ℕ)) (xs : List Exchange) (text : List ℕ) → names ≡ names' → vars ≡ vars' → lines ≡ lines'
     → Prints names vars lines xs text → Prints names' vars' lines' xs text
@@ -111,27 +112,29 @@ prints_as names names' vars vars' lines lines' xs text p q r so =
 -- what it printed since
 pub fed_prints : (f g : ScriptFeed) (turns : List Turn) → Fed Gives GivesAhead Takes f turns g → g.failed ≡ false
     → (text : List ℕ) × (g.text ≡ f.text ++ text) × Prints f.names f.vars (lines_of f.rest) (in_turns turns) text
-fed_prints f g [] so none = let step = so.step none in ((next_of f.names f.vars (lines_of f.rest)).text, step.text, (sym step.asks, refl))
+fed_prints f g [] so none = let last : Gives f None g = subst (λ h. Gives h None g) (sym so.1) so.2 in let step = last.step none in ((next_of f.names f.vars (lines_of f.rest)).text, step.text, (sym step.asks, refl))
 fed_prints f g (turn ∷ turns) so none =
     let x : Exchange = turn.0 in
     let xs : List Exchange = turn.1 in
-    let asked : ScriptFeed = so.0 in
-    let full : ScriptFeed = so.1 in
-    let told : ScriptFeed = so.2 in
-    let whole : told.failed ≡ false = never_failed told g turns so.6 none in
-    let hears = heard_keeps full told (x ∷ xs) so.5 in
-    let on = ahead_keeps asked full xs so.4 in
+    let here = so.1 in
+    let asked : ScriptFeed = here.0 in
+    let full : ScriptFeed = here.1 in
+    let told : ScriptFeed = here.2 in
+    let on_to : Fed Gives GivesAhead Takes told turns g = (so.0, here.6, so.2) in
+    let whole : told.failed ≡ false = never_failed told g turns on_to none in
+    let hears = heard_keeps full told (x ∷ xs) here.5 in
+    let on = ahead_keeps asked full xs here.4 in
     let unfailed : asked.failed ≡ false = sym on.2 ∙ not_before full.failed told.failed hears.1 whole in
-    let goes : GoesOn f (Some x.0) asked = so.3.step unfailed in
+    let goes : GoesOn f (Some x.0) asked = here.3.step unfailed in
     let waits : full.asked ≡ asks_of (x ∷ xs) = on.4 ∙ ap (λ qs. qs ++ asks_of xs) goes.asked in
-    let printed = heard_prints full told x xs so.5 waits whole in
-    let later = fed_prints told g turns so.6 none in
+    let printed = heard_prints full told x xs here.5 waits whole in
+    let later = fed_prints told g turns on_to none in
     let way : List ℕ = (next_of f.names f.vars (lines_of f.rest)).text in
     let answer : List ℕ = answer_bytes (heard_by x.0 x.1) in
     let rest : List ℕ = said xs ++ later.0 in
     let grew : told.text ≡ f.text ++ (way ++ said (x ∷ xs)) = printed.text ∙ ap (λ t. t ++ said (x ∷ xs)) (on.3 ∙ goes.text) ∙ append_assoc f.text way (said (x ∷ xs)) in
     let tail : Prints full.names (vars_last full.vars full.binds x xs) (lines_of full.rest) (in_turns turns) later.0 = prints_as _ _ _ _ _ _ (in_turns turns) later.0 hears.0 printed.vars (ap lines_of printed.rest) later.2 in
-    let after : Prints asked.names (vars_told asked.vars asked.binds (heard_by x.0 x.1)) (lines_of asked.rest) (xs ++ in_turns turns) rest = ahead_prints asked full x xs (in_turns turns) later.0 so.4 tail in (
+    let after : Prints asked.names (vars_told asked.vars asked.binds (heard_by x.0 x.1)) (lines_of asked.rest) (xs ++ in_turns turns) rest = ahead_prints asked full x xs (in_turns turns) later.0 here.4 tail in (
       (way ++ answer) ++ rest,
       later.1 ∙ ap (λ t. t ++ later.0) grew ∙ append_assoc f.text (way ++ said (x ∷ xs)) later.0
           ∙ ap (λ t. f.text ++ t) (append_assoc way (said (x ∷ xs)) later.0 ∙ ap (λ t. way ++ t) (append_assoc answer (said xs) later.0) ∙ sym (append_assoc way answer rest)),
@@ -140,6 +143,6 @@ fed_prints f g (turn ∷ turns) so none =
         rest,
         sym goes.asks,
         refl,
-        prints_as _ _ _ _ _ _ (xs ++ in_turns turns) rest so.3.names (ap (λ vs. vars_told vs asked.binds (heard_by x.0 x.1)) so.3.vars) goes.rest after,
+        prints_as _ _ _ _ _ _ (xs ++ in_turns turns) rest here.3.names (ap (λ vs. vars_told vs asked.binds (heard_by x.0 x.1)) here.3.vars) goes.rest after,
       ),
     )

@@ -29,7 +29,7 @@ impl<N: Allocator, V: Allocator + Copy> Answering<'_, N, V> {
     /// - `Write` where the writer failed within the answer; the line was asked.
     /// - `Memory` where the line was not asked.
     #[tactic(auto, using(crate::proofs::Texts::written_reply), unfolding(crate::specs::Script::answer_to, crate::specs::Script::after_line))]
-    pub fn reply<W: Write, A: Allocator>(
+    pub(crate) fn reply<W: Write, A: Allocator>(
         &mut self,
         monitor: &mut Monitor<A>,
         line: &[u8],
@@ -55,7 +55,7 @@ impl<N: Allocator, V: Allocator + Copy> Answering<'_, N, V> {
     /// # Errors
     /// - `Write` where the writer failed within an answer; no line after it was asked.
     /// - `Memory` where a line was not asked; those before it are answered.
-    pub fn reply_all<'p, W: Write, A: Allocator>(
+    pub(crate) fn reply_all<'p, W: Write, A: Allocator>(
         &mut self,
         monitor: &mut Monitor<A>,
         piece: &'p [u8],

@@ -23,7 +23,7 @@ pub struct Asking<'a> {
 ///
 /// # Errors
 /// `AllocError` where an allocation failed.
-pub fn push_answer(text: &mut Vec<u8>, answer: Answer) -> Result<(), AllocError>
+pub(crate) fn push_answer(text: &mut Vec<u8>, answer: Answer) -> Result<(), AllocError>
     ensures { OnOk result (text.new.items ≡ text.old.items ++ answer_bytes answer) }
 {
     match write_answer(text, answer) {
@@ -36,7 +36,7 @@ pub fn push_answer(text: &mut Vec<u8>, answer: Answer) -> Result<(), AllocError>
 ///
 /// # Errors
 /// `AllocError` where an allocation failed.
-pub fn take_line<'a>(
+pub(crate) fn take_line<'a>(
     names: &Names,
     vars: &Vars,
     line: &'a [u8],
@@ -60,7 +60,7 @@ pub fn take_line<'a>(
 ///
 /// # Errors
 /// `AllocError` where an allocation failed. All variables stay as they were on both results.
-pub fn make_room<V: Allocator + Copy>(
+pub(crate) fn make_room<V: Allocator + Copy>(
     vars: &mut Vars<V>,
     bind: Option<&str>,
 ) -> Result<Option<String<V>>, AllocError>
@@ -78,7 +78,7 @@ pub fn make_room<V: Allocator + Copy>(
 }
 
 /// Binds the variable of a line, where it has one, to the object that its request made, where it made one. It doesn't allocate.
-pub fn bind_reply<V: Allocator>(vars: &mut Vars<V>, room: Option<String<V>>, reply: Reply)
+pub(crate) fn bind_reply<V: Allocator>(vars: &mut Vars<V>, room: Option<String<V>>, reply: Reply)
     requires { IfSome room (λ _. 0 < vars.old.room) }
     ensures { vars.new.bound ≡ vars_after vars.old.bound (option_map string_bytes room) reply }
 {
@@ -88,7 +88,7 @@ pub fn bind_reply<V: Allocator>(vars: &mut Vars<V>, room: Option<String<V>>, rep
 }
 
 /// Binds the variable of a line, where it has one, to the object that its answer tells of, where it tells of one. It doesn't allocate.
-pub fn bind_heard<V: Allocator>(vars: &mut Vars<V>, room: Option<String<V>>, answer: &Answer)
+pub(crate) fn bind_heard<V: Allocator>(vars: &mut Vars<V>, room: Option<String<V>>, answer: &Answer)
     requires { IfSome room (λ _. 0 < vars.old.room) }
     ensures { vars.new.bound ≡ vars_told vars.old.bound (option_map string_bytes room) answer.now }
 {
@@ -98,7 +98,7 @@ pub fn bind_heard<V: Allocator>(vars: &mut Vars<V>, room: Option<String<V>>, ans
 }
 
 /// What an answer is to an ask: one of another kind than the ask is none.
-pub fn hear(ask: Option<Ask>, answer: &Told) -> Answer
+pub(crate) fn hear(ask: Option<Ask>, answer: &Told) -> Answer
     ensures { result ≡ heard ask answer.now }
 {
     match ask {

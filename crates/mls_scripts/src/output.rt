@@ -95,7 +95,7 @@ fn write_reply<W: Write>(writer: &mut W, reply: Reply) -> Result<(), ServeFault>
 /// # Errors
 /// `Write` where the writer failed.
 #[tactic(auto, using(crate::proofs::Texts::fault_fits))]
-pub fn write_answer<W: Write>(writer: &mut W, answer: Answer) -> Result<(), ServeFault>
+pub(crate) fn write_answer<W: Write>(writer: &mut W, answer: Answer) -> Result<(), ServeFault>
     ensures { Writes (W.contents writer.old) (W.contents writer.new) (answer_bytes answer) result }
 {
     match answer {
@@ -111,7 +111,7 @@ pub fn write_answer<W: Write>(writer: &mut W, answer: Answer) -> Result<(), Serv
 ///
 /// # Errors
 /// The outcome's, or `Write` where there is none and the flush fails.
-pub fn settle<W: Write>(
+pub(crate) fn settle<W: Write>(
     writer: &mut W,
     wrote: bool,
     outcome: Result<(), ServeFault>,

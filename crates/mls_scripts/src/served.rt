@@ -105,7 +105,7 @@ impl<N: Allocator, V: Allocator + Copy> Served<'_, N, V> {
     /// # Errors
     /// - `Write` where the writer failed within an answer, or at the flush once all lines were answered.
     /// - `Memory` where an allocation failed for a line; the lines before it are answered.
-    pub fn take_piece<W: Write, A: Allocator>(
+    pub(crate) fn take_piece<W: Write, A: Allocator>(
         &mut self,
         monitor: &mut Monitor<A>,
         piece: &[u8],
@@ -129,7 +129,7 @@ impl<N: Allocator, V: Allocator + Copy> Served<'_, N, V> {
     ///
     /// # Errors
     /// As for `take_piece`.
-    pub fn take_end<W: Write, A: Allocator>(
+    pub(crate) fn take_end<W: Write, A: Allocator>(
         &mut self,
         monitor: &mut Monitor<A>,
         writer: &mut W,

@@ -1,16 +1,19 @@
 -- Feeds that sessions ask to their end, and what of it stands in the journal.
-use Rattle.std.proofs.Common.{◌≡◌, ℕ, zero, suc, ◌+◌, ◌<◌, List, [], ◌∷◌, ◌++◌, length, map, take, get_or, refl, sym, ap, ◌∙◌, subst, arith, append-nil, append_assoc, length-append, Option, Some, None, drop}
+use Rattle.std.proofs.Common.{◌≡◌, ℕ, zero, suc, ◌+◌, ◌<◌, List, [], ◌∷◌, ◌++◌, length, map, take, get_or, refl, sym, ap, ◌∙◌, subst, inl, inr, arith, append-nil, append_assoc, length-append, Option, Some, None, drop}
 use Rattle.std.proofs.lemmas.List.{append_cancel_left, map-append, nil_from_length, take_more}
 use lib.Seq.{drop-append_seam, take-length}
-use mathlib.Core.List.{cons≢nil}
+use mathlib.Core.List.{IsPrefix, cons≢nil}
+use Rattle.mls_state.specs.State.{State}
 use Rattle.mls_requests.specs.declared.ask.Ask.{Ask}
 use Rattle.mls_requests.specs.declared.entry.Entry.{Entry}
 use Rattle.mls_sessions.specs.Journals.{Journal, of_session}
 use Rattle.mls_sessions.specs.Rule.{begun, base, news, member}
-use Rattle.mls_sessions.specs.Sessions.{Office, Session, session_at, IsOf, HasAll, newcomers, history, member_of, number_of}
+use Rattle.mls_sessions.specs.Sessions.{Office, Session, session_at, IsOf, HasAll, newcomers, history, own, member_of, number_of}
 use Rattle.mls_sessions.specs.declared.gate_table.View.TheVariants.{Sessions}
 use Rattle.mls_sessions.specs.Runs.{Returned}
-use Rattle.mls_sessions.specs.Feeds.{Exchange, Turn, asks_of, answers_of, in_turns, AreTold, Learns, GaveAhead, Heard, Gave, Fed, Serves, AllServe, AllServed, AllFed}
+use Rattle.mls_sessions.specs.Feeds.{Exchange, Turn, asks_of, answers_of, in_turns, AreTold, Learns, GaveAhead, Heard, Halted, Gave, Talks, Ends, Serves, Row, AllToTheEnd, AllServe, AllServed, AllFed, AllTold}
+use Rattle.mls_sessions.specs.declared.asked.Asked.{Asked}
+use Rattle.mls_sessions.specs.declared.asked.Asked.TheVariants.{ToTheEnd, UntilRefused, NotAtAll}
 use Rattle.mls_sessions.specs.declared.feed.Answer.{Answer as Told}
 use Rattle.mls_sessions.proofs.OwnEntries.{own-append}
 use Rattle.mls_sessions.proofs.Exchanges.{told_then, told_longer}
@@ -72,21 +75,10 @@ heard_next hears f g h answers i t so within is heard =
     subst (λ ts. Heard hears f ts h) (ap (λ u. take i answers ++ u ∷ []) is ∙ sym (take_more answers i t within)) (heard_one hears f g h (take i answers) t so heard)
 
 module _ {F : Type 0} (gives : F → Option Ask → F → Type 0) (gives_ahead : F → Ask → F → Type 0) (hears : F → Told → F → Type 0) where
-  -- the feed gave these asks and was told these answers, turn by turn, and may give more
-  abbrev pub Talks : F → List Turn → F → Type 0
-  Talks f [] g = f ≡ g
-  Talks f (turn ∷ turns) g =
-      (asked : F) × (full : F) × (heard : F) × gives f (Some turn.0.0) asked × GaveAhead gives_ahead asked (asks_of turn.1) full
-      × Heard hears full (answers_of (turn.0 ∷ turn.1)) heard × Talks heard turns g
-
-  talks_more : (f g : F) (turns : List Turn) (turn : Turn) (asked full heard : F) → Talks f turns g → gives g (Some turn.0.0) asked → GaveAhead gives_ahead asked (asks_of turn.1) full
-      → Heard hears full (answers_of (turn.0 ∷ turn.1)) heard → Talks f (turns ++ turn ∷ []) heard
+  talks_more : (f g : F) (turns : List Turn) (turn : Turn) (asked full heard : F) → Talks gives gives_ahead hears f turns g → gives g (Some turn.0.0) asked → GaveAhead gives_ahead asked (asks_of turn.1) full
+      → Heard hears full (answers_of (turn.0 ∷ turn.1)) heard → Talks gives gives_ahead hears f (turns ++ turn ∷ []) heard
   talks_more f g [] turn asked full heard so given on told = (asked, full, heard, subst (λ z. gives z (Some turn.0.0) asked) (sym so) given, on, told, refl)
   talks_more f g (x ∷ turns) turn asked full heard so given on told = (so.0, so.1, so.2, so.3, so.4, so.5, talks_more so.2 g turns turn asked full heard so.6 given on told)
-
-  talks_end : (f g h : F) (turns : List Turn) → Talks f turns g → gives g None h → Fed gives gives_ahead hears f turns h
-  talks_end f g h [] so given = subst (λ z. gives z None h) (sym so) given
-  talks_end f g h (x ∷ turns) so given = (so.0, so.1, so.2, so.3, so.4, so.5, talks_end so.2 g h turns so.6 given)
 
   -- a session asked for what the feed gave, and told it the answers, so far
   pub record Asking (o : Office) (s : Session) (f : F) (t : Session) (g : F) : Type 0 where
@@ -94,10 +86,21 @@ module _ {F : Type 0} (gives : F → Option Ask → F → Type 0) (gives_ahead :
     pub since : List Entry
     pub grew : history t.view ≡ history s.view ++ since
     pub told : AreTold (begun o.charter) (number_of s.view) (history s.view) since (in_turns turns)
-    pub talks : Talks f turns g
+    pub talks : Talks gives gives_ahead hears f turns g
 
   pub asking_none : (o : Office) (s : Session) (f : F) → Asking o s f s f
   asking_none o s f = record { turns = []; since = []; grew = sym (append-nil (history s.view)); told = refl; talks = refl }
+
+  -- what a turn more adds to the history, and what it tells
+  grew_more : (o : Office) (s t u : Session) (f g : F) (xs : List Exchange) (more : List Entry) → (so : Asking o s f t g) → number_of t.view ≡ number_of s.view → history u.view ≡ history t.view ++ more
+      → AreTold (begun o.charter) (number_of t.view) (history t.view) more xs
+      → (history u.view ≡ history s.view ++ (so.since ++ more)) × AreTold (begun o.charter) (number_of s.view) (history s.view) (so.since ++ more) (in_turns so.turns ++ xs)
+  grew_more o s t u f g xs more so same grew told =
+      let here : AreTold (begun o.charter) (number_of s.view) (history s.view ++ so.since) more xs =
+      subst (λ es. AreTold (begun o.charter) (number_of s.view) es more xs) so.grew (subst (λ (k : ℕ). AreTold (begun o.charter) k (history t.view) more xs) same told) in (
+        grew ∙ ap (λ es. es ++ more) so.grew ∙ append_assoc (history s.view) so.since more,
+        told_then (begun o.charter) (number_of s.view) (history s.view) so.since more (in_turns so.turns) xs so.told here,
+      )
 
   -- a turn more, of which these are the exchanges
   turn_more : (o : Office) (s t u : Session) (f g h i : F) (asks : List Ask) (answers : List Told) (xs : List Exchange) (more : List Entry) → Asking o s f t g → number_of t.view ≡ number_of s.view
@@ -108,15 +111,13 @@ module _ {F : Type 0} (gives : F → Option Ask → F → Type 0) (gives_ahead :
       let turn : Turn = (x, xs) in
       let first : gave.first ≡ x.0 = ap (head_or x.0) (sym gave.are ∙ are) in
       let others : gave.more ≡ asks_of xs = ap tail_of (sym gave.are ∙ are) in
-      let here : AreTold (begun o.charter) (number_of s.view) (history s.view ++ so.since) more (x ∷ xs) =
-      subst (λ es. AreTold (begun o.charter) (number_of s.view) es more (x ∷ xs)) so.grew (subst (λ (k : ℕ). AreTold (begun o.charter) k (history t.view) more (x ∷ xs)) same told) in
+      let next = grew_more o s t u f g (x ∷ xs) more so same grew told in
       let all : in_turns (so.turns ++ turn ∷ []) ≡ in_turns so.turns ++ (x ∷ xs) = in_turns-append so.turns (turn ∷ []) ∙ ap (λ ys. in_turns so.turns ++ (x ∷ ys)) (append-nil xs) in
       record {
         turns = so.turns ++ turn ∷ [];
         since = so.since ++ more;
-        grew = grew ∙ ap (λ es. es ++ more) so.grew ∙ append_assoc (history s.view) so.since more;
-        told = subst (AreTold (begun o.charter) (number_of s.view) (history s.view) (so.since ++ more)) (sym all)
-            (told_then (begun o.charter) (number_of s.view) (history s.view) so.since more (in_turns so.turns) (x ∷ xs) so.told here);
+        grew = next.0;
+        told = subst (AreTold (begun o.charter) (number_of s.view) (history s.view) (so.since ++ more)) (sym all) next.1;
         talks = talks_more f g so.turns turn gave.asked h i so.talks (subst (λ a. gives g (Some a) gave.asked) first gave.gives_it) (subst (λ qs. GaveAhead gives_ahead gave.asked qs h) others gave.gave_more)
             (subst (λ ts. Heard hears h ts i) answered heard);
       }
@@ -132,64 +133,156 @@ module _ {F : Type 0} (gives : F → Option Ask → F → Type 0) (gives_ahead :
   asking_on o s t u f g h i asks qs answers ts n so same gave learns all are answered heard =
       asking_more o s t u f g h i asks answers so same gave (subst (λ zs. Learns o.charter t.view zs answers u.view) (ap (λ m. take m qs) all ∙ take-length qs ∙ are) learns) (subst (λ ys. Heard hears h ys i) answered heard)
 
-  pub asking_end : (o : Office) (s t : Session) (f g h : F) → Asking o s f t g → gives g None h → Serves gives gives_ahead hears o s f t h
-  asking_end o s t f g h so given = record { turns = so.turns; since = so.since; grew = so.grew; told = so.told; fed = talks_end f g h so.turns so.talks given }
+-- what a session asked stands in a journal that begins with its history and has just its own part
+own_told : (o : Office) (j : Journal) (k : ℕ) (s t : Session) (since : List Entry) (xs : List Exchange) → number_of s.view ≡ k → history s.view ≡ base o.charter → IsOf o t → number_of t.view ≡ number_of s.view
+    → IsPrefix (history t.view) j.entries → of_session (number_of t.view) (news o.charter j) ≡ own t.view → history t.view ≡ history s.view ++ since
+    → AreTold (begun o.charter) (number_of s.view) (history s.view) since xs → AreTold (begun o.charter) k (base o.charter) (news o.charter j) xs
+own_told o j k s t since xs number_is seen_base is same begins mine grew told =
+    let more : List Entry = begins.0 in
+    let seen : history t.view ≡ base o.charter ++ since = grew ∙ ap (λ es. es ++ since) seen_base in
+    let knows : (member_of t.view).later ≡ since = append_cancel_left (base o.charter) _ _ (sym (history_is o t is) ∙ seen) in
+    let goes_on : j.entries ≡ base o.charter ++ (since ++ more) = sym begins.1 ∙ ap (λ es. es ++ more) seen ∙ append_assoc (base o.charter) since more in
+    let new : news o.charter j ≡ since ++ more = ap (drop (length (base o.charter))) goes_on ∙ drop-append_seam (base o.charter) (since ++ more) in
+    let number : number_of t.view ≡ k = same ∙ number_is in
+    let made : of_session k (since ++ more) ≡ of_session k since =
+    ap (of_session k) (sym new) ∙ ap (λ n. of_session n (news o.charter j)) (sym number) ∙ mine ∙ ap (λ n. of_session n (member_of t.view).later) number ∙ ap (of_session k) knows in
+    let none : of_session k more ≡ [] = append_cancel_left (of_session k since) _ [] (sym (own-append k since more) ∙ made ∙ sym (append-nil (of_session k since))) in
+    let are : AreTold (begun o.charter) k (base o.charter) since xs =
+    subst (λ es. AreTold (begun o.charter) k es since xs) seen_base (subst (λ n. AreTold (begun o.charter) n (history s.view) since xs) number_is told) in
+    subst (λ es. AreTold (begun o.charter) k (base o.charter) es xs) (sym new) (told_longer (begun o.charter) k (base o.charter) since more xs are none)
+
+module _ {F : Type 0} (gives : F → Option Ask → F → Type 0) (gives_ahead : F → Ask → F → Type 0) (hears : F → Told → F → Type 0) (stops : F → F → Type 0) where
+  -- a feed that gave nothing more, one that was stopped, and one that was left alone
+  pub serves_end : (o : Office) (s t : Session) (f g h : F) → Asking gives gives_ahead hears o s f t g → gives g None h → Serves gives gives_ahead hears stops o s f ToTheEnd t h
+  serves_end o s t f g h so given =
+      record {
+        turns = so.turns;
+        last = [];
+        since = so.since;
+        grew = so.grew;
+        told = subst (AreTold (begun o.charter) (number_of s.view) (history s.view) so.since) (sym (append-nil (in_turns so.turns))) so.told;
+        ends = ((g, so.talks, given), refl);
+      }
+
+  pub serves_stopped : (o : Office) (s t u : Session) (f g h z : F) (asks qs : List Ask) (answers ts : List Told) (n : ℕ) → Asking gives gives_ahead hears o s f t g → number_of t.view ≡ number_of s.view
+      → Gave gives gives_ahead g asks h → Learns o.charter t.view (take n qs) answers u.view → n < length qs → qs ≡ asks → ts ≡ answers → Halted hears stops h ts z
+      → Serves gives gives_ahead hears stops o s f UntilRefused u z
+  serves_stopped o s t u f g h z asks qs answers ts n so same gave learns some are answered halted =
+      let next = grew_more gives gives_ahead hears o s t u f g learns.exchanges learns.since so same learns.grew learns.told in
+      record {
+        turns = so.turns;
+        last = learns.exchanges;
+        since = so.since ++ learns.since;
+        grew = next.0;
+        told = next.1;
+        ends = inl (record {
+          before = g;
+          talks = so.talks;
+          asks = asks;
+          full = h;
+          gave = gave;
+          answered = n;
+          first = ap (λ xs. take n xs) (sym are) ∙ learns.asked;
+          not_all = subst (λ xs. n < length xs) are some;
+          halted = subst (λ ys. Halted hears stops h ys z) (answered ∙ learns.answered) halted;
+        });
+      }
+
+  pub serves_not : (o : Office) (s : Session) (f : F) → Serves gives gives_ahead hears stops o s f NotAtAll s f
+  serves_not o s f = record { turns = []; last = []; since = []; grew = sym (append-nil (history s.view)); told = refl; ends = record { same = refl; no_turns = refl; no_last = refl } }
+
+  pub serves_no_room : (o : Office) (s : Session) (f : F) → Serves gives gives_ahead hears stops o s f UntilRefused s f
+  serves_no_room o s f = record { turns = []; last = []; since = []; grew = sym (append-nil (history s.view)); told = refl; ends = inr (record { same = refl; no_turns = refl; no_last = refl }) }
 
   -- none, and one more
-  pub served_none : (o : Office) (ss ts : List Session) (fs gs : List F) → length ss ≡ 0 → length fs ≡ 0 → ts ≡ [] → gs ≡ [] → AllServed gives gives_ahead hears o ss fs ts gs
+  pub served_none : (o : Office) (ss ts : List Session) (fs gs : List F) → length ss ≡ 0 → length fs ≡ 0 → ts ≡ [] → gs ≡ [] → AllServed gives gives_ahead hears stops o ss fs ToTheEnd ts gs
   served_none o ss ts fs gs none nor back fed =
-      record { rows = []; serve = tt; sessions = nil_from_length ss none; feeds = nil_from_length fs nor; sessions_back = back; feeds_back = fed }
+      record { rows = []; serve = tt; to_the_end = λ _. tt; sessions = nil_from_length ss none; feeds = nil_from_length fs nor; sessions_back = back; feeds_back = fed }
 
-  serve_snoc : (o : Office) (rows : List (Session × F × Session × F)) (row : Session × F × Session × F) → AllServe gives gives_ahead hears o rows → Serves gives gives_ahead hears o row.0 row.1 row.2 row.3 → AllServe gives gives_ahead hears o (rows ++ row ∷ [])
+  serve_snoc : (o : Office) (rows : List (Row F)) (row : Row F) → AllServe gives gives_ahead hears stops o rows → Serves gives gives_ahead hears stops o row.session row.feed row.asked row.session_back row.feed_back
+      → AllServe gives gives_ahead hears stops o (rows ++ row ∷ [])
   serve_snoc o [] row all is = (is, tt)
   serve_snoc o (x ∷ rows) row all is = (all.0, serve_snoc o rows row all.1 is)
 
-  column : {A : Type 0} (of : (Session × F × Session × F) → A) (rows : List (Session × F × Session × F)) (row : Session × F × Session × F) (xs : List A) → xs ≡ map of rows → xs ++ of row ∷ [] ≡ map of (rows ++ row ∷ [])
+  end_snoc : (rows : List (Row F)) (row : Row F) → AllToTheEnd rows → row.asked ≡ ToTheEnd → AllToTheEnd (rows ++ row ∷ [])
+  end_snoc [] row all is = (is, tt)
+  end_snoc (x ∷ rows) row all is = (all.0, end_snoc rows row all.1 is)
+
+  column : {A : Type 0} (of : Row F → A) (rows : List (Row F)) (row : Row F) (xs : List A) → xs ≡ map of rows → xs ++ of row ∷ [] ≡ map of (rows ++ row ∷ [])
   column of rows row xs is = ap (λ ys. ys ++ of row ∷ []) is ∙ sym (map-append of rows (row ∷ []))
 
-  pub served_snoc : (o : Office) (ss ts : List Session) (fs gs : List F) (s t : Session) (f g : F) → AllServed gives gives_ahead hears o ss fs ts gs → Serves gives gives_ahead hears o s f t g
-      → AllServed gives gives_ahead hears o (ss ++ s ∷ []) (fs ++ f ∷ []) (ts ++ t ∷ []) (gs ++ g ∷ [])
-  served_snoc o ss ts fs gs s t f g all is =
-      let row : Session × F × Session × F = (s, f, t, g) in
+  served_snoc : (o : Office) (ss ts : List Session) (fs gs : List F) (s t : Session) (f g : F) (asked mine both : Asked) → AllServed gives gives_ahead hears stops o ss fs asked ts gs
+      → Serves gives gives_ahead hears stops o s f mine t g → (both ≡ ToTheEnd → (asked ≡ ToTheEnd) × (mine ≡ ToTheEnd))
+      → AllServed gives gives_ahead hears stops o (ss ++ s ∷ []) (fs ++ f ∷ []) both (ts ++ t ∷ []) (gs ++ g ∷ [])
+  served_snoc o ss ts fs gs s t f g asked mine both all is ends =
+      let row : Row F = record { session = s; feed = f; asked = mine; session_back = t; feed_back = g } in
       record {
         rows = all.rows ++ row ∷ [];
         serve = serve_snoc o all.rows row all.serve is;
-        sessions = column (λ r. r.0) all.rows row ss all.sessions;
-        feeds = column (λ r. r.1) all.rows row fs all.feeds;
-        sessions_back = column (λ r. r.2) all.rows row ts all.sessions_back;
-        feeds_back = column (λ r. r.3) all.rows row gs all.feeds_back;
+        to_the_end = λ end. end_snoc all.rows row (all.to_the_end (ends end).0) (ends end).1;
+        sessions = column (λ (r : Row F). r.session) all.rows row ss all.sessions;
+        feeds = column (λ (r : Row F). r.feed) all.rows row fs all.feeds;
+        sessions_back = column (λ (r : Row F). r.session_back) all.rows row ts all.sessions_back;
+        feeds_back = column (λ (r : Row F). r.feed_back) all.rows row gs all.feeds_back;
       }
 
+  -- the same, by the lists that hold those that came back
+  pub served_put : (o : Office) (ss ts back : List Session) (fs gs fed : List F) (s t : Session) (f g : F) (asked mine both : Asked) → AllServed gives gives_ahead hears stops o ss fs asked ts gs
+      → Serves gives gives_ahead hears stops o s f mine t g → (back ≡ ts ++ t ∷ []) × (fed ≡ gs ++ g ∷ []) → (both ≡ ToTheEnd → (asked ≡ ToTheEnd) × (mine ≡ ToTheEnd))
+      → AllServed gives gives_ahead hears stops o (ss ++ s ∷ []) (fs ++ f ∷ []) both back fed
+  served_put o ss ts back fs gs fed s t f g asked mine both all is put ends =
+      subst (λ xs. AllServed gives gives_ahead hears stops o (ss ++ s ∷ []) (fs ++ f ∷ []) both xs fed) (sym put.0)
+      (subst (λ ys. AllServed gives gives_ahead hears stops o (ss ++ s ∷ []) (fs ++ f ∷ []) both (ts ++ t ∷ []) ys) (sym put.1) (served_snoc o ss ts fs gs s t f g asked mine both all is ends))
+
   -- of a closed office: what its sessions asked stands in the journal
-  in_journal : (o : Office) (j : Journal) (k : ℕ) (rows : List (Session × F × Session × F)) → AllServe gives gives_ahead hears o rows → Numbered o k (map (λ r. r.0) rows)
-      → Returned o (map (λ r. r.0) rows) (map (λ r. r.2) rows) → HasAll o j (map (λ r. r.2) rows)
-      → AllFed gives gives_ahead hears (begun o.charter) (base o.charter) (news o.charter j) k (map (λ r. r.1) rows) (map (λ r. r.3) rows)
-  in_journal o j k [] all numbered returned has = tt
-  in_journal o j k (row ∷ rows) all numbered returned has =
-      let t : Session = row.2 in
-      let is = all.0 in
-      let since : List Entry = is.since in
-      let more : List Entry = has.0.0 in
-      let seen : history t.view ≡ base o.charter ++ since = is.grew ∙ ap (λ es. es ++ since) numbered.1 in
-      let knows : (member_of t.view).later ≡ since = append_cancel_left (base o.charter) _ _ (sym (history_is o t returned.0) ∙ seen) in
-      let goes_on : j.entries ≡ base o.charter ++ (since ++ more) = sym has.0.1 ∙ ap (λ es. es ++ more) seen ∙ append_assoc (base o.charter) since more in
-      let new : news o.charter j ≡ since ++ more = ap (drop (length (base o.charter))) goes_on ∙ drop-append_seam (base o.charter) (since ++ more) in
-      let number : number_of t.view ≡ k = returned.1 ∙ numbered.0 in
-      let made : of_session k (since ++ more) ≡ of_session k since =
-      ap (of_session k) (sym new) ∙ ap (λ n. of_session n (news o.charter j)) (sym number) ∙ has.1 ∙ ap (λ n. of_session n (member_of t.view).later) number ∙ ap (of_session k) knows in
-      let none : of_session k more ≡ [] = append_cancel_left (of_session k since) _ [] (sym (own-append k since more) ∙ made ∙ sym (append-nil (of_session k since))) in
-      let are : AreTold (begun o.charter) k (base o.charter) since (in_turns is.turns) =
-      subst (λ es. AreTold (begun o.charter) k es since (in_turns is.turns)) numbered.1 (subst (λ n. AreTold (begun o.charter) n (history row.0.view) since (in_turns is.turns)) numbered.0 is.told) in (
-        (is.turns, is.fed, subst (λ es. AreTold (begun o.charter) k (base o.charter) es (in_turns is.turns)) (sym new) (told_longer (begun o.charter) k (base o.charter) since more (in_turns is.turns) are none)),
-        in_journal o j (k + 1) rows all.1 numbered.2 returned.2 has.2,
+  rows_told : (o : Office) (j : Journal) (k : ℕ) (rows : List (Row F)) → AllServe gives gives_ahead hears stops o rows → Numbered o k (map (λ (r : Row F). r.session) rows)
+      → Returned o (map (λ (r : Row F). r.session) rows) (map (λ (r : Row F). r.session_back) rows) → HasAll o j (map (λ (r : Row F). r.session_back) rows)
+      → AllTold gives gives_ahead hears stops (begun o.charter) (base o.charter) (news o.charter j) k (map (λ (r : Row F). r.feed) rows) (map (λ (r : Row F). r.feed_back) rows)
+  rows_told o j k [] all numbered returned has = tt
+  rows_told o j k (row ∷ rows) all numbered returned has =
+      let is = all.0 in (
+        (row.asked, is.turns, is.last, is.ends, own_told o j k row.session row.session_back is.since (in_turns is.turns ++ is.last) numbered.0 numbered.1 returned.0 returned.1 has.0 has.1 is.grew is.told),
+        rows_told o j (k + 1) rows all.1 numbered.2 returned.2 has.2,
       )
 
-  pub all_fed : (o : Office) (j : Journal) (ss ts : List Session) (fs gs : List F) → ss ≡ newcomers o o.charter.count → AllServed gives gives_ahead hears o ss fs ts gs → Returned o ss ts → HasAll o j ts
-      → AllFed gives gives_ahead hears (begun o.charter) (base o.charter) (news o.charter j) 0 fs gs
-  all_fed o j ss ts fs gs new all returned has =
-      let rows : List (Session × F × Session × F) = all.rows in
-      let numbered : Numbered o 0 (map (λ r. r.0) rows) = subst (Numbered o 0) (sym new ∙ all.sessions) (newcomers_numbered o o.charter.count).0 in
-      let back : Returned o (map (λ r. r.0) rows) (map (λ r. r.2) rows) = subst (λ xs. Returned o xs (map (λ r. r.2) rows)) all.sessions (subst (λ xs. Returned o ss xs) all.sessions_back returned) in
+  rows_fed : (o : Office) (j : Journal) (k : ℕ) (rows : List (Row F)) → AllServe gives gives_ahead hears stops o rows → AllToTheEnd rows → Numbered o k (map (λ (r : Row F). r.session) rows)
+      → Returned o (map (λ (r : Row F). r.session) rows) (map (λ (r : Row F). r.session_back) rows) → HasAll o j (map (λ (r : Row F). r.session_back) rows)
+      → AllFed gives gives_ahead hears (begun o.charter) (base o.charter) (news o.charter j) k (map (λ (r : Row F). r.feed) rows) (map (λ (r : Row F). r.feed_back) rows)
+  rows_fed o j k [] all end numbered returned has = tt
+  rows_fed o j k (row ∷ rows) all end numbered returned has =
+      let is = all.0 in
+      let fed : Ends gives gives_ahead hears stops ToTheEnd row.feed is.turns is.last row.feed_back = subst (λ (a : Asked). Ends gives gives_ahead hears stops a row.feed is.turns is.last row.feed_back) end.0 is.ends in
+      let are = own_told o j k row.session row.session_back is.since (in_turns is.turns ++ is.last) numbered.0 numbered.1 returned.0 returned.1 has.0 has.1 is.grew is.told in (
+        (is.turns, fed.0, subst (AreTold (begun o.charter) k (base o.charter) (news o.charter j)) (ap (λ xs. in_turns is.turns ++ xs) fed.1 ∙ append-nil (in_turns is.turns)) are),
+        rows_fed o j (k + 1) rows all.1 end.1 numbered.2 returned.2 has.2,
+      )
+
+  pub all_told : (o : Office) (j : Journal) (ss ts : List Session) (fs gs : List F) (asked : Asked) → ss ≡ newcomers o o.charter.count → AllServed gives gives_ahead hears stops o ss fs asked ts gs → Returned o ss ts → HasAll o j ts
+      → AllTold gives gives_ahead hears stops (begun o.charter) (base o.charter) (news o.charter j) 0 fs gs
+  all_told o j ss ts fs gs asked new all returned has =
+      let rows : List (Row F) = all.rows in
+      let numbered : Numbered o 0 (map (λ (r : Row F). r.session) rows) = subst (Numbered o 0) (sym new ∙ all.sessions) (newcomers_numbered o o.charter.count).0 in
+      let back : Returned o (map (λ (r : Row F). r.session) rows) (map (λ (r : Row F). r.session_back) rows) =
+      subst (λ xs. Returned o xs (map (λ (r : Row F). r.session_back) rows)) all.sessions (subst (λ xs. Returned o ss xs) all.sessions_back returned) in
+      subst (λ xs. AllTold gives gives_ahead hears stops (begun o.charter) (base o.charter) (news o.charter j) 0 xs gs) (sym all.feeds)
+      (subst (λ xs. AllTold gives gives_ahead hears stops (begun o.charter) (base o.charter) (news o.charter j) 0 (map (λ (r : Row F). r.feed) rows) xs) (sym all.feeds_back)
+      (rows_told o j 0 rows all.serve numbered back (subst (HasAll o j) all.sessions_back has)))
+
+  pub all_fed : (o : Office) (j : Journal) (ss ts : List Session) (fs gs : List F) (asked : Asked) → ss ≡ newcomers o o.charter.count → AllServed gives gives_ahead hears stops o ss fs asked ts gs → asked ≡ ToTheEnd
+      → Returned o ss ts → HasAll o j ts → AllFed gives gives_ahead hears (begun o.charter) (base o.charter) (news o.charter j) 0 fs gs
+  all_fed o j ss ts fs gs asked new all end returned has =
+      let rows : List (Row F) = all.rows in
+      let numbered : Numbered o 0 (map (λ (r : Row F). r.session) rows) = subst (Numbered o 0) (sym new ∙ all.sessions) (newcomers_numbered o o.charter.count).0 in
+      let back : Returned o (map (λ (r : Row F). r.session) rows) (map (λ (r : Row F). r.session_back) rows) =
+      subst (λ xs. Returned o xs (map (λ (r : Row F). r.session_back) rows)) all.sessions (subst (λ xs. Returned o ss xs) all.sessions_back returned) in
       subst (λ xs. AllFed gives gives_ahead hears (begun o.charter) (base o.charter) (news o.charter j) 0 xs gs) (sym all.feeds)
-      (subst (λ xs. AllFed gives gives_ahead hears (begun o.charter) (base o.charter) (news o.charter j) 0 (map (λ r. r.1) rows) xs) (sym all.feeds_back)
-      (in_journal o j 0 rows all.serve numbered back (subst (HasAll o j) all.sessions_back has)))
+      (subst (λ xs. AllFed gives gives_ahead hears (begun o.charter) (base o.charter) (news o.charter j) 0 (map (λ (r : Row F). r.feed) rows) xs) (sym all.feeds_back)
+      (rows_fed o j 0 rows all.serve (all.to_the_end end) numbered back (subst (HasAll o j) all.sessions_back has)))
+
+  -- of feeds that were left alone nothing stands in a journal as it was
+  told_none : (start : State) (before : List Entry) (k : ℕ) (fs : List F) → AllTold gives gives_ahead hears stops start before [] k fs fs
+  told_none start before k [] = tt
+  told_none start before k (f ∷ fs) = ((NotAtAll, [], [], record { same = refl; no_turns = refl; no_last = refl }, refl), told_none start before (k + 1) fs)
+
+  pub untold : (start : State) (before : List Entry) (k : ℕ) (fs : List F) → AllTold gives gives_ahead hears stops start before (drop (length before) before) k fs fs
+  untold start before k fs = subst (λ es. AllTold gives gives_ahead hears stops start before es k fs fs) (sym (ap (drop (length before)) (sym (append-nil before)) ∙ drop-append_seam before [])) (told_none start before k fs)

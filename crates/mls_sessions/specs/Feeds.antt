@@ -1,5 +1,5 @@
 -- What a feed asks and is told in a run, and what of it stands in the journal.
-use Rattle.std.specs.Prelude.{◌≡◌, ℕ, ◌+◌, List, [], ◌∷◌, ◌++◌, map, Option, Some, None}
+use Rattle.std.specs.Prelude.{◌≡◌, ◌⊎◌, ℕ, ◌+◌, ◌<◌, List, [], ◌∷◌, ◌++◌, length, take, map, Option, Some, None}
 use Rattle.std.specs.FinSet as set
 use Rattle.mls_state.specs.State.{State}
 use Rattle.mls_requests.specs.declared.ask.Ask.{Ask}
@@ -10,6 +10,8 @@ use Rattle.mls_sessions.specs.Journals.{Charter, Journal, journal, of_session}
 use Rattle.mls_sessions.specs.Rule.{begun}
 use Rattle.mls_sessions.specs.Sessions.{Office, Session, history, number_of}
 use Rattle.mls_sessions.specs.declared.gate_table.View.{View}
+use Rattle.mls_sessions.specs.declared.asked.Asked.{Asked}
+use Rattle.mls_sessions.specs.declared.asked.Asked.TheVariants.{ToTheEnd, UntilRefused, NotAtAll}
 use Rattle.mls_sessions.specs.declared.feed.Answer.{Answer as Told}
 use Rattle.mls_sessions.specs.declared.feed.Answer.TheVariants as told
 
@@ -96,6 +98,12 @@ abbrev pub Heard : {F : Type 0} → (F → Told → F → Type 0) → F → List
 Heard hears f [] g = f ≡ g
 Heard {F} hears f (t ∷ answers) g = (h : F) × hears f t h × Heard hears h answers g
 
+-- A feed that hears answers and stops in these ways was told these, one after the other, and then that it is stopped. (own)
+pub record Halted {F : Type 0} (hears : F → Told → F → Type 0) (stops : F → F → Type 0) (f : F) (answers : List Told) (g : F) : Type 0 where
+  pub heard : F
+  pub told : Heard hears f answers heard
+  pub stopped : stops heard g
+
 -- A feed that gives asks in these ways gave these in one turn. (own)
 pub record Gave {F : Type 0} (gives : F → Option Ask → F → Type 0) (gives_ahead : F → Ask → F → Type 0) (f : F) (asks : List Ask) (g : F) : Type 0 where
   pub first : Ask
@@ -107,35 +115,16 @@ pub record Gave {F : Type 0} (gives : F → Option Ask → F → Type 0) (gives_
 
 -- Of feeds that give asks and hear answers in these ways.
 module _ {F : Type 0} (gives : F → Option Ask → F → Type 0) (gives_ahead : F → Ask → F → Type 0) (hears : F → Told → F → Type 0) where
-  -- The feed gave these asks, turn by turn, was told these answers, those of a turn once it had given all of its asks, and then gave nothing
-  -- more. (own)
-  abbrev pub Fed : F → List Turn → F → Type 0
-  Fed f [] g = gives f None g
-  Fed f (turn ∷ turns) g =
+  -- The feed gave these asks, turn by turn, and was told these answers, those of a turn once it had given all of its asks. (own)
+  abbrev pub Talks : F → List Turn → F → Type 0
+  Talks f [] g = f ≡ g
+  Talks f (turn ∷ turns) g =
       (asked : F) × (full : F) × (heard : F) × gives f (Some turn.0.0) asked × GaveAhead gives_ahead asked (asks_of turn.1) full
-      × Heard hears full (answers_of (turn.0 ∷ turn.1)) heard × Fed heard turns g
+      × Heard hears full (answers_of (turn.0 ∷ turn.1)) heard × Talks heard turns g
 
-  -- A session asked for all that the feed gave, and told it the answers. (own)
-  pub record Serves (o : Office) (s : Session) (f : F) (t : Session) (g : F) : Type 0 where
-    pub turns : List Turn
-    pub since : List Entry
-    pub grew : history t.view ≡ history s.view ++ since
-    pub told : AreTold (begun o.charter) (number_of s.view) (history s.view) since (in_turns turns)
-    pub fed : Fed f turns g
-
-  -- Sessions that asked so: each stands beside the feed that it was given, the session that came back, and the feed that came back. (own)
-  abbrev pub AllServe : Office → List (Session × F × Session × F) → Type 0
-  AllServe o [] = Unit {0}
-  AllServe o (row ∷ rows) = Serves o row.0 row.1 row.2 row.3 × AllServe o rows
-
-  -- The same of sessions and feeds that were given, and of those that came back, in their order. (own)
-  pub record AllServed (o : Office) (ss : List Session) (fs : List F) (ts : List Session) (gs : List F) : Type 0 where
-    pub rows : List (Session × F × Session × F)
-    pub serve : AllServe o rows
-    pub sessions : ss ≡ map (λ row. row.0) rows
-    pub feeds : fs ≡ map (λ row. row.1) rows
-    pub sessions_back : ts ≡ map (λ row. row.2) rows
-    pub feeds_back : gs ≡ map (λ row. row.3) rows
+  -- It did so, and then gave nothing more. (own)
+  abbrev pub Fed : F → List Turn → F → Type 0
+  Fed f turns g = (h : F) × Talks f turns h × gives h None g
 
   -- Each feed, the first as that of session k, gave asks which are answered so in the journal, was told just those answers, and then gave nothing
   -- more; they stand in their order. (own)
@@ -143,3 +132,76 @@ module _ {F : Type 0} (gives : F → Option Ask → F → Type 0) (gives_ahead :
   AllFed start before since k [] [] = Unit {0}
   AllFed start before since k (f ∷ fs) (g ∷ gs) = ((turns : List Turn) × Fed f turns g × AreTold start k before since (in_turns turns)) × AllFed start before since (k + 1) fs gs
   AllFed start before since k fs gs = ⊥
+
+-- A feed that was asked nothing, and told nothing. (own)
+pub record LeftAlone {F : Type 0} (f : F) (turns : List Turn) (last : List Exchange) (g : F) : Type 0 where
+  pub same : g ≡ f
+  pub no_turns : turns ≡ []
+  pub no_last : last ≡ []
+
+-- A session that asked, the feed that it was given, how far it asked, and the session and the feed that came back. (own)
+pub record Row (F : Type 0) : Type 0 where
+  pub session : Session
+  pub feed : F
+  pub asked : Asked
+  pub session_back : Session
+  pub feed_back : F
+
+-- Each asked to the end. (own)
+abbrev pub AllToTheEnd : {F : Type 0} → List (Row F) → Type 0
+AllToTheEnd [] = Unit {0}
+AllToTheEnd (row ∷ rows) = (row.asked ≡ ToTheEnd) × AllToTheEnd rows
+
+-- Of feeds that give asks, hear answers and stop in these ways.
+module _ {F : Type 0} (gives : F → Option Ask → F → Type 0) (gives_ahead : F → Ask → F → Type 0) (hears : F → Told → F → Type 0) (stops : F → F → Type 0) where
+  -- The feed was fed turn by turn, and then gave asks in one turn more of which the first alone were answered, not all: it was told these answers,
+  -- and that it is stopped. (own)
+  pub record Stopped (f : F) (turns : List Turn) (last : List Exchange) (g : F) : Type 0 where
+    pub before : F
+    pub talks : Talks gives gives_ahead hears f turns before
+    pub asks : List Ask
+    pub full : F
+    pub gave : Gave gives gives_ahead before asks full
+    pub answered : ℕ
+    pub first : take answered asks ≡ asks_of last
+    pub not_all : answered < length asks
+    pub halted : Halted hears stops full (answers_of last) g
+
+  -- How a feed comes back that was asked so far: to its end; until it was stopped, or left alone where there was no room for what it asks; or left
+  -- alone. (own)
+  abbrev pub Ends : Asked → F → List Turn → List Exchange → F → Type 0
+  Ends ToTheEnd f turns last g = Fed gives gives_ahead hears f turns g × (last ≡ [])
+  Ends UntilRefused f turns last g = Stopped f turns last g ⊎ LeftAlone f turns last g
+  Ends NotAtAll f turns last g = LeftAlone f turns last g
+
+  -- A session asked for what the feed gave, so far, and told it the answers. (own)
+  pub record Serves (o : Office) (s : Session) (f : F) (asked : Asked) (t : Session) (g : F) : Type 0 where
+    pub turns : List Turn
+    pub last : List Exchange
+    pub since : List Entry
+    pub grew : history t.view ≡ history s.view ++ since
+    pub told : AreTold (begun o.charter) (number_of s.view) (history s.view) since (in_turns turns ++ last)
+    pub ends : Ends asked f turns last g
+
+  -- Each of the sessions asked so. (own)
+  abbrev pub AllServe : Office → List (Row F) → Type 0
+  AllServe o [] = Unit {0}
+  AllServe o (row ∷ rows) = Serves o row.session row.feed row.asked row.session_back row.feed_back × AllServe o rows
+
+  -- The same of sessions and feeds that were given, and of those that came back, in their order; all to the end, where that is said of them. (own)
+  pub record AllServed (o : Office) (ss : List Session) (fs : List F) (asked : Asked) (ts : List Session) (gs : List F) : Type 0 where
+    pub rows : List (Row F)
+    pub serve : AllServe o rows
+    pub to_the_end : asked ≡ ToTheEnd → AllToTheEnd rows
+    pub sessions : ss ≡ map (λ (row : Row F). row.session) rows
+    pub feeds : fs ≡ map (λ (row : Row F). row.feed) rows
+    pub sessions_back : ts ≡ map (λ (row : Row F). row.session_back) rows
+    pub feeds_back : gs ≡ map (λ (row : Row F). row.feed_back) rows
+
+  -- Each feed, the first as that of session k, was asked so far, and was told just the answers to those of its asks that the journal answers; they
+  -- stand in their order. (own)
+  abbrev pub AllTold : State → List Entry → List Entry → ℕ → List F → List F → Type 0
+  AllTold start before since k [] [] = Unit {0}
+  AllTold start before since k (f ∷ fs) (g ∷ gs) =
+      ((asked : Asked) × (turns : List Turn) × (last : List Exchange) × Ends asked f turns last g × AreTold start k before since (in_turns turns ++ last)) × AllTold start before since (k + 1) fs gs
+  AllTold start before since k fs gs = ⊥

@@ -42,7 +42,7 @@ fn answer(
 /// # Errors
 /// `AllocError` where an allocation failed; those before it are answered.
 #[tactic(auto, using(crate::proofs::Exchanges::all_get_none, crate::proofs::Exchanges::all_get_more))]
-pub fn answer_all(
+pub(crate) fn answer_all(
     monitor: &mut BoxedMonitor,
     number: u32,
     asks: &[Ask],

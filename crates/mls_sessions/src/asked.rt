@@ -14,7 +14,7 @@ pub enum Asked {
 
 impl Asked {
     /// The worse of two: an allocation that failed counts before a thread that couldn't be started.
-    pub fn worse(self, other: Asked) -> Asked
+    pub(crate) fn worse(self, other: Asked) -> Asked
         ensures first { result ≡ Asked.ToTheEnd → self ≡ Asked.ToTheEnd }
         ensures second { result ≡ Asked.ToTheEnd → other ≡ Asked.ToTheEnd }
     {

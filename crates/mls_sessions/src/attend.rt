@@ -5,7 +5,7 @@ ghost use Rattle.mls_sessions.specs.Feeds.{Serves};
 
 use crate::asked::Asked;
 use crate::feed::{Answer, Feed, Stage};
-use crate::gathering::{gather, tell};
+use crate::gathering::{gather, halt, tell};
 use crate::limits::AHEAD;
 use crate::office::Office;
 use crate::session::Session;
@@ -31,15 +31,14 @@ fn attend<R: Wait, F: Feed>(
     requires room { (AHEAD ≤ vec_capacity asks) × (AHEAD ≤ vec_capacity answers) }
     ensures session { IsOf office.now result.0 × (number_of result.0.view ≡ number_of session.view) }
     ensures done { result.2 ≡ Asked.ToTheEnd → F.stands_at result.1 ≡ Stage.Done }
-    ensures served { result.2 ≡ Asked.ToTheEnd → Serves F.gives F.gives_ahead F.hears office.now session feed result.0 result.1 }
+    ensures served { Serves F.gives F.gives_ahead F.hears F.stops office.now session feed result.2 result.0 result.1 }
 {
     while gather(&mut feed, &mut asks) {
         answers.clear();
         match session.ask_all(office, rt, &asks, &mut answers) {
             Ok(()) => tell(&mut feed, &answers),
             Err(_) => {
-                tell(&mut feed, &answers);
-                feed.stopped();
+                halt(&mut feed, &answers);
                 office.lobby.leave();
                 return (session, feed, Asked::UntilRefused);
             }
@@ -50,7 +49,8 @@ fn attend<R: Wait, F: Feed>(
 }
 
 /// The same, unless it is to be left alone. Where there is no room for what is asked in one turn, the feed is asked nothing.
-pub fn attend_unless<R: Wait, F: Feed>(
+#[tactic(auto, using(crate::proofs::Feeds::serves_not, crate::proofs::Feeds::serves_no_room))]
+pub(crate) fn attend_unless<R: Wait, F: Feed>(
     rt: &R,
     alloc: Global,
     here: &AtomicBool,
@@ -61,7 +61,7 @@ pub fn attend_unless<R: Wait, F: Feed>(
     requires { IsOf office.now session × (F.stands_at feed ≡ Stage.Ready) }
     ensures session { IsOf office.now result.0 × (number_of result.0.view ≡ number_of session.view) }
     ensures done { result.2 ≡ Asked.ToTheEnd → F.stands_at result.1 ≡ Stage.Done }
-    ensures served { result.2 ≡ Asked.ToTheEnd → Serves F.gives F.gives_ahead F.hears office.now session feed result.0 result.1 }
+    ensures served { Serves F.gives F.gives_ahead F.hears F.stops office.now session feed result.2 result.0 result.1 }
 {
     if here.load(Ordering::SeqCst) {
         return (session, feed, Asked::NotAtAll);
@@ -75,7 +75,7 @@ pub fn attend_unless<R: Wait, F: Feed>(
     attend(rt, office, session, feed, asks, answers)
 }
 
-/// A thread's promise: the session comes back with its office and its number, and a feed that was asked to its end is done, and was served.
+/// A thread's promise: the session comes back with its office and its number, and the feed as it was served; if it was asked to its end, it is done.
 #[derive(Drop)]
 pub struct Back<'a, F>(pub &'a Office, pub Snapshot<Session>, pub Snapshot<F>);
 
@@ -83,5 +83,5 @@ impl<'a, F: Feed> Promise<(Session, F, Asked)> for Back<'a, F> {
     ghost use Rattle.mls_sessions.specs.declared.asked.Asked.TheVariants.{ToTheEnd};
     ghost use Rattle.mls_sessions.specs.declared.feed.Stage.TheVariants.{Done};
 
-    ghost kept_by = { λ p r. IsOf p.0.now r.0 × (number_of r.0.view ≡ number_of p.1.value.view) × (r.2 ≡ ToTheEnd → (F.stands_at r.1 ≡ Done) × Serves F.gives F.gives_ahead F.hears p.0.now p.1.value p.2.value r.0 r.1) };
+    ghost kept_by = { λ p r. IsOf p.0.now r.0 × (number_of r.0.view ≡ number_of p.1.value.view) × (r.2 ≡ ToTheEnd → F.stands_at r.1 ≡ Done) × Serves F.gives F.gives_ahead F.hears F.stops p.0.now p.1.value p.2.value r.2 r.0 r.1 };
 }

@@ -15,7 +15,7 @@ pub struct Backoff {
 
 impl Backoff {
     /// As sessions back off, unless a test says otherwise.
-    pub fn standard() -> Backoff {
+    pub(crate) fn standard() -> Backoff {
         Backoff {
             looks: LOOKS,
             races: RACES,

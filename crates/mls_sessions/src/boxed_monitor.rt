@@ -32,7 +32,7 @@ impl BoxedMonitor {
     ///
     /// # Errors
     /// `AllocFailed` where the allocation failed, with the monitor as it was handed in.
-    pub fn new(alloc: Global, monitor: Monitor) -> Result<BoxedMonitor, AllocFailed<Monitor>>
+    pub(crate) fn new(alloc: Global, monitor: Monitor) -> Result<BoxedMonitor, AllocFailed<Monitor>>
         ensures ok { IfOk result (λ b. b ≡ journal_of monitor) }
         ensures err { IfErr result (λ fault. fault.value ≡ monitor) }
     {
@@ -41,7 +41,7 @@ impl BoxedMonitor {
     }
 
     /// The monitor out of its box.
-    pub fn into_inner(self) -> Monitor
+    pub(crate) fn into_inner(self) -> Monitor
         ensures { journal_of result ≡ self }
     {
         let BoxedMonitor { monitor } = self;
@@ -52,7 +52,7 @@ impl BoxedMonitor {
     ///
     /// # Errors
     /// `AllocError` where an allocation failed; start and journal are then as before.
-    pub fn submit(&mut self, session: u32, request: Request) -> Result<Entry, AllocError>
+    pub(crate) fn submit(&mut self, session: u32, request: Request) -> Result<Entry, AllocError>
         ensures ok { IfOk result (λ e. Appends self.old session request e self.new) }
         ensures err { IfErr result (λ _. self.new ≡ self.old) }
     {
@@ -60,14 +60,14 @@ impl BoxedMonitor {
     }
 
     /// Whether the triple is a current access.
-    pub fn check(&self, s: SubjectId, o: ObjectId, x: Mode) -> bool
+    pub(crate) fn check(&self, s: SubjectId, o: ObjectId, x: Mode) -> bool
         ensures { let b = (fold self.now.start self.now.entries).accesses in result ≡ set.contains b (s, o, x) }
     {
         self.monitor.check(s, o, x)
     }
 
     /// The journal, which is legal.
-    pub fn entries(&self) -> &[Entry]
+    pub(crate) fn entries(&self) -> &[Entry]
         ensures value { result.now ≡ self.now.entries }
         ensures legal { Stands self.now.start self.now.entries }
     {

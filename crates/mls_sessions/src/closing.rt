@@ -10,7 +10,7 @@ use crate::session::Session;
 use crate::steps::Gather;
 
 /// Joins the seats of all sessions, the last first.
-pub fn gather(gate: &Gate, mut sessions: Vec<Session>) -> GateSeat
+pub(crate) fn gather(gate: &Gate, mut sessions: Vec<Session>) -> GateSeat
     requires some { 0 < vec_len sessions }
     requires office { Ascending (office_at gate.now.table_id gate.now.key) 0 sessions.items × (gate.now.table_id.words ≡ 1) }
     ensures { (result.table_id ≡ gate.now.table_id) × (result.me ≡ (Sessions gate.now.key (members_of sessions.items), [])) }
@@ -28,7 +28,7 @@ pub fn gather(gate: &Gate, mut sessions: Vec<Session>) -> GateSeat
 }
 
 /// Takes the monitor out of a table that all its sessions are given back to.
-pub fn take_home(table: GateTable, sessions: Vec<Session>) -> BoxedMonitor
+pub(crate) fn take_home(table: GateTable, sessions: Vec<Session>) -> BoxedMonitor
     requires table { (table.shared.table_id.words ≡ 1) × (table.shared.table_id.slots ≡ 1) }
     requires office { Ascending (office_at table.shared.table_id table.shared.key) 0 sessions.items }
     requires all { (length sessions.items ≡ table.shared.key.count) × (0 < table.shared.key.count) }

@@ -10,7 +10,7 @@ pub struct Counts {
 
 impl Counts {
     /// The session has seen the journal of this length.
-    pub fn saw(&mut self, length: u64)
+    pub(crate) fn saw(&mut self, length: u64)
         ensures made { self.new.made ≡ self.old.made }
         ensures seen { self.new.seen ≡ length }
     {
@@ -18,7 +18,7 @@ impl Counts {
     }
 
     /// The session has made an entry, with which the journal has this length.
-    pub fn made_one(&mut self, length: u64)
+    pub(crate) fn made_one(&mut self, length: u64)
         requires { self.old.made + 1 < 2 ^ 64 }
         ensures made { self.new.made ≡ self.old.made + 1 }
         ensures seen { self.new.seen ≡ length }
@@ -28,7 +28,7 @@ impl Counts {
     }
 
     /// The session has made all by which the journal grew from one length to another.
-    pub fn made_all(&mut self, from: u64, to: u64)
+    pub(crate) fn made_all(&mut self, from: u64, to: u64)
         requires { (from ≤ to) × (self.old.made + (to - from) < 2 ^ 64) }
         ensures made { self.new.made ≡ self.old.made + (to - from) }
         ensures seen { self.new.seen ≡ to }

@@ -25,9 +25,9 @@ pub enum Stage {
 
 /// What the thread of a session asks for, one after the other. The gate isn't held during any call of a feed.
 ///
-/// What a kind of feed gives, and what it makes of an answer, its ghost members `gives`, `gives_ahead` and `hears` say: by these
-/// [`run_sessions`](crate::run_sessions) tells which answers its feeds were told. Of a kind that leaves them out a run tells only that its feeds
-/// are done. A kind that gives asks ahead says in `waits_for` how many answers it waits for.
+/// What a kind of feed gives, and what it makes of an answer or of being stopped, its ghost members `gives`, `gives_ahead`, `hears` and `stops`
+/// say: by these [`run_sessions`](crate::run_sessions) tells which answers its feeds were told. Of a kind that leaves them out a run tells only
+/// that its feeds are done. A kind that gives asks ahead says in `waits_for` how many answers it waits for.
 pub trait Feed {
     ghost use Rattle.std.specs.Prelude.{Option, ⊤};
     ghost use Rattle.mls_requests.specs.declared.ask.Ask.{Ask};
@@ -45,6 +45,8 @@ pub trait Feed {
     ghost gives_ahead: { Self → Ask → Self → Type 0 } = { λ _ _ _. ⊤ };
 
     ghost hears: { Self → Answer → Self → Type 0 } = { λ _ _ _. ⊤ };
+
+    ghost stops: { Self → Self → Type 0 } = { λ _ _. ⊤ };
 
     /// A bound on the asks that still come.
     fn left(&self) -> u64
@@ -83,5 +85,6 @@ pub trait Feed {
     fn stopped(&mut self)
         requires { stands_at self.old ≡ Stage.Waiting }
         ensures left { asks_left self.new ≤ asks_left self.old }
-        ensures waits { stands_at self.new ≡ Stage.Waiting };
+        ensures waits { stands_at self.new ≡ Stage.Waiting }
+        ensures stopped { stops self.old self.new };
 }

@@ -27,7 +27,7 @@ pub const FREE: u64 = 0;
 pub const OPENING: u64 = 2;
 
 /// The word that names a session, with no mark.
-pub fn named(number: u32) -> u64
+pub(crate) fn named(number: u32) -> u64
     ensures { result ≡ word_of number }
 {
     2 * (u64::from(number) + 1)
@@ -42,7 +42,7 @@ fn is_marked(word: u64) -> bool
 
 /// Looks at the word so often and once more, as long as the gate is held and nobody may sleep. It returns what it saw last.
 /// It looks once at least, or a session would never see that the gate is free.
-pub fn look(gate: &Gate, looks: u64) -> u64
+pub(crate) fn look(gate: &Gate, looks: u64) -> u64
     requires { gate.now.table_id.words ≡ 1 }
 {
     for _ in 0..looks {
@@ -56,7 +56,7 @@ pub fn look(gate: &Gate, looks: u64) -> u64
 }
 
 /// Marks the word that was seen, since someone may sleep. It returns the marked word, unless another word was found.
-pub fn mark(gate: &Gate, seat: &mut GateSeat, seen: u64) -> Option<u64>
+pub(crate) fn mark(gate: &Gate, seat: &mut GateSeat, seen: u64) -> Option<u64>
     requires office { (seat.old.table_id ≡ gate.now.table_id) × (gate.now.table_id.words ≡ 1) }
     requires session { seat.old.me ≡ seated gate.now.key (member_of seat.old.me.0) }
     requires held { seen ≢ 0 }
@@ -72,7 +72,7 @@ pub fn mark(gate: &Gate, seat: &mut GateSeat, seen: u64) -> Option<u64>
 
 /// Takes the monitor out where the gate is free, and leaves this word in it, which names the session. Or else it returns
 /// the word that it found.
-pub fn win(gate: &Gate, seat: &mut GateSeat, held: u64) -> Result<BoxedMonitor, u64>
+pub(crate) fn win(gate: &Gate, seat: &mut GateSeat, held: u64) -> Result<BoxedMonitor, u64>
     requires office { (seat.old.table_id ≡ gate.now.table_id) × (gate.now.table_id.words ≡ 1) }
     requires session { seat.old.me ≡ seated gate.now.key (member_of seat.old.me.0) }
     requires held { Names held (member_of seat.old.me.0).number }
@@ -91,7 +91,7 @@ pub fn win(gate: &Gate, seat: &mut GateSeat, held: u64) -> Result<BoxedMonitor, 
 }
 
 /// Puts the monitor home and frees the gate. It wakes one that sleeps, if there may be one.
-pub fn put_home<M: Play<Option<BoxedMonitor>, View>>(
+pub(crate) fn put_home<M: Play<Option<BoxedMonitor>, View>>(
     gate: &Gate,
     seat: &mut GateSeat,
     monitor: BoxedMonitor,

@@ -32,7 +32,7 @@ impl Model for Charter {
 
 impl Charter {
     /// The monitor, and so many sessions.
-    pub fn of(monitor: &Monitor, count: u64) -> Charter
+    pub(crate) fn of(monitor: &Monitor, count: u64) -> Charter
         ensures { result ≡ record { start = monitor.now.start; entries = monitor.now.entries; count = count } }
     {
         Charter {

@@ -1,13 +1,13 @@
 //! What a feed asks in one turn at the gate, and what it is told after it.
 ghost use Rattle.std.specs.Prelude.{◌≡◌, ◌<◌, ◌≤◌, ◌+◌, ◌∷◌, ◌++◌, [], true, false, length, None, vec_len, vec_capacity};
-ghost use Rattle.mls_sessions.specs.Feeds.{Gave, Heard};
+ghost use Rattle.mls_sessions.specs.Feeds.{Gave, Heard, Halted};
 
 use crate::feed::{Answer, Feed, Stage};
 use crate::limits::AHEAD;
 use mls_requests::Ask;
 
 /// Puts one more behind those that are there, where there is room.
-pub fn keep<T>(kept: &mut Vec<T>, item: T)
+pub(crate) fn keep<T>(kept: &mut Vec<T>, item: T)
     requires { vec_len kept.old < vec_capacity kept.old }
     ensures items { kept.new.items ≡ kept.old.items ++ item ∷ [] }
     ensures count { vec_len kept.new ≡ vec_len kept.old + 1 }
@@ -21,7 +21,7 @@ pub fn keep<T>(kept: &mut Vec<T>, item: T)
 
 /// What the feed asks next, and what it asks ahead, as long as there is room; or whether nothing comes any more.
 #[tactic(auto, using(crate::proofs::Feeds::gave_first, crate::proofs::Feeds::gave_one))]
-pub fn gather<F: Feed>(feed: &mut F, asks: &mut Vec<Ask>) -> bool
+pub(crate) fn gather<F: Feed>(feed: &mut F, asks: &mut Vec<Ask>) -> bool
     requires ready { F.stands_at feed.old ≡ Stage.Ready }
     requires room { AHEAD ≤ vec_capacity asks.old }
     ensures room { AHEAD ≤ vec_capacity asks.new }
@@ -47,7 +47,7 @@ pub fn gather<F: Feed>(feed: &mut F, asks: &mut Vec<Ask>) -> bool
 
 /// Tells the feed the answers to the first of what it gave.
 #[tactic(auto, using(crate::proofs::Feeds::heard_next))]
-pub fn tell<F: Feed>(feed: &mut F, answers: &[Answer])
+pub(crate) fn tell<F: Feed>(feed: &mut F, answers: &[Answer])
     requires { (F.stands_at feed.old ≡ Stage.Waiting) × (0 < F.waits_for feed.old) × (length answers.now ≤ F.waits_for feed.old) }
     ensures left { F.asks_left feed.new ≤ F.asks_left feed.old }
     ensures ready { length answers.now ≡ F.waits_for feed.old → F.stands_at feed.new ≡ Stage.Ready }
@@ -57,4 +57,15 @@ pub fn tell<F: Feed>(feed: &mut F, answers: &[Answer])
     for answer in answers {
         feed.told(answer);
     }
+}
+
+/// Tells the feed the answers to the first of what it gave, and that it is stopped.
+pub(crate) fn halt<F: Feed>(feed: &mut F, answers: &[Answer])
+    requires { (F.stands_at feed.old ≡ Stage.Waiting) × (length answers.now < F.waits_for feed.old) }
+    ensures left { F.asks_left feed.new ≤ F.asks_left feed.old }
+    ensures waits { F.stands_at feed.new ≡ Stage.Waiting }
+    ensures halted { Halted F.hears F.stops feed.old answers.now feed.new }
+{
+    tell(feed, answers);
+    feed.stopped();
 }

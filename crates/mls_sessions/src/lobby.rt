@@ -18,7 +18,7 @@ pub struct Lobby {
 
 impl Lobby {
     /// Where so many sessions back off so.
-    pub fn new(backoff: Backoff, count: u16) -> Lobby {
+    pub(crate) fn new(backoff: Backoff, count: u16) -> Lobby {
         Lobby {
             backoff,
             longest: LONGEST * u64::from(count),
@@ -27,14 +27,14 @@ impl Lobby {
     }
 
     /// Naps at the session's pace, or until another leaves.
-    pub fn nap<R: Wait>(&self, rt: &R, pace: &mut Pace) {
+    pub(crate) fn nap<R: Wait>(&self, rt: &R, pace: &mut Pace) {
         let micros = pace.nap(self.longest);
         self.resting
             .park_timeout(rt, 0, Duration::from_micros(micros));
     }
 
     /// Wakes one that naps: a session needs the gate no more, and that one may be the next to take many turns.
-    pub fn leave(&self) {
+    pub(crate) fn leave(&self) {
         self.resting.wake_one();
     }
 }

@@ -9,7 +9,7 @@ use crate::gate_table::{Gate, GateSeat};
 use crate::steps::{Gather, Look, Move, Part};
 
 /// Joins the seats of two sessions, looks, and parts them again, both with the longer of the two histories.
-pub fn meet_at(gate: &Gate, mine: &mut GateSeat, theirs: &mut GateSeat)
+pub(crate) fn meet_at(gate: &Gate, mine: &mut GateSeat, theirs: &mut GateSeat)
     requires office { (mine.old.table_id ≡ gate.now.table_id) × (theirs.old.table_id ≡ gate.now.table_id) × (gate.now.table_id.words ≡ 1) }
     requires sessions { (mine.old.me ≡ seated gate.now.key (member_of mine.old.me.0)) × (theirs.old.me ≡ seated gate.now.key (member_of theirs.old.me.0)) }
     ensures office { (mine.new.table_id ≡ gate.now.table_id) × (theirs.new.table_id ≡ gate.now.table_id) }

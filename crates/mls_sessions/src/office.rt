@@ -6,14 +6,12 @@ ghost use Rattle.mls_sessions.specs.Rule.{begun, base, base_length};
 ghost use Rattle.mls_sessions.specs.Sessions.{is_count, newcomers, Ascending, Leaves};
 
 use crate::backoff::Backoff;
-use crate::boxed_monitor::BoxedMonitor;
 use crate::closing::take_home;
-use crate::gate::FREE;
-use crate::gate_table::{Charter, GateSeat, GateTable};
+use crate::gate_table::GateTable;
 use crate::limits::MAX_SESSIONS;
 use crate::lobby::Lobby;
 use crate::office_fault::{CloseFault, OfficeFault, OfficeFaultKind};
-use crate::opening::{give_all, settle};
+use crate::opening::{give_all, open_table};
 use crate::session::Session;
 use mls_monitor::Monitor;
 use std::alloc::Global;
@@ -81,25 +79,11 @@ impl Office {
                 monitor,
             });
         };
-        let charter = Charter::of(&monitor, u64::from(count));
         let base = monitor.entries().len() as u64;
-        let made: Result<(GateTable, GateSeat), _> = GateTable::vacant(alloc, &[FREE], 1, &charter);
-        let Ok((table, mut seat)) = made else {
-            return Err(OfficeFault {
-                kind: OfficeFaultKind::Memory,
-                monitor,
-            });
+        let (table, mut seat) = match open_table(alloc, monitor, count) {
+            Ok(made) => made,
+            Err(fault) => return Err(fault),
         };
-        let boxed = match BoxedMonitor::new(alloc, monitor) {
-            Ok(boxed) => boxed,
-            Err(refused) => {
-                return Err(OfficeFault {
-                    kind: OfficeFaultKind::Memory,
-                    monitor: refused.value,
-                });
-            }
-        };
-        settle(&table.shared, &mut seat, boxed);
         give_all(&table.shared, &mut seat, &mut sessions, count, base);
         let office = Office {
             table,

@@ -1,5 +1,5 @@
 //! How an office opens: the monitor is put in, and each session gets a seat.
-ghost use Rattle.std.specs.Prelude.{◌≡◌, ◌≤◌, [], vec_len, vec_capacity};
+ghost use Rattle.std.specs.Prelude.{◌≡◌, ◌≤◌, [], vec_len, vec_capacity, IfOk, IfErr};
 ghost use Rattle.mls_sessions.specs.declared.gate_table.View.TheVariants.{Starting, Giving};
 ghost use Rattle.mls_sessions.specs.Journals.{journal};
 ghost use Rattle.mls_sessions.specs.Rule.{begun, base, base_length};
@@ -7,12 +7,15 @@ ghost use Rattle.mls_sessions.specs.Sessions.{office_at, newcomers};
 
 use crate::boxed_monitor::BoxedMonitor;
 use crate::gate::{FREE, OPENING, WORD, put_home};
-use crate::gate_table::{Gate, GateSeat};
+use crate::gate_table::{Charter, Gate, GateSeat, GateTable};
+use crate::office_fault::{OfficeFault, OfficeFaultKind};
 use crate::session::Session;
 use crate::steps::{Fill, Give, Settle};
+use mls_monitor::Monitor;
+use std::alloc::Global;
 
 /// Puts the monitor into the empty slot.
-pub fn settle(gate: &Gate, seat: &mut GateSeat, monitor: BoxedMonitor)
+pub(crate) fn settle(gate: &Gate, seat: &mut GateSeat, monitor: BoxedMonitor)
     requires office { (seat.old.table_id ≡ gate.now.table_id) × (gate.now.table_id.words ≡ 1) }
     requires first { (seat.old.me ≡ (Starting gate.now.key, [])) × (monitor ≡ journal (begun gate.now.key) (base gate.now.key)) }
     ensures seat { (seat.new.table_id ≡ seat.old.table_id) × (seat.new.id ≡ seat.old.id) }
@@ -23,8 +26,42 @@ pub fn settle(gate: &Gate, seat: &mut GateSeat, monitor: BoxedMonitor)
     put_home::<Settle>(gate, seat, monitor);
 }
 
+/// A table for so many sessions, with the monitor in its slot, and its first seat.
+///
+/// # Errors
+/// `Memory` where an allocation failed, with the monitor as it was handed in.
+pub(crate) fn open_table(
+    alloc: Global,
+    monitor: Monitor,
+    count: u32,
+) -> Result<(GateTable, GateSeat), OfficeFault>
+    ensures table { IfOk result (λ r. (r.0.shared.table_id.words ≡ 1) × (r.0.shared.table_id.slots ≡ 1)) }
+    ensures charter { IfOk result (λ r. r.0.shared.key ≡ record { start = monitor.start; entries = monitor.entries; count = count }) }
+    ensures seat { IfOk result (λ r. (r.1.table_id ≡ r.0.shared.table_id) × (r.1.me ≡ (Giving r.0.shared.key count, []))) }
+    ensures err { IfErr result (λ fault. (fault.kind ≡ OfficeFaultKind.Memory) × (fault.monitor ≡ monitor)) }
+{
+    let charter = Charter::of(&monitor, u64::from(count));
+    let made: Result<(GateTable, GateSeat), _> = GateTable::vacant(alloc, &[FREE], 1, &charter);
+    let Ok((table, mut seat)) = made else {
+        return Err(OfficeFault {
+            kind: OfficeFaultKind::Memory,
+            monitor,
+        });
+    };
+    match BoxedMonitor::new(alloc, monitor) {
+        Ok(boxed) => {
+            settle(&table.shared, &mut seat, boxed);
+            Ok((table, seat))
+        }
+        Err(refused) => Err(OfficeFault {
+            kind: OfficeFaultKind::Memory,
+            monitor: refused.value,
+        }),
+    }
+}
+
 /// Makes the sessions, one for each number.
-pub fn give_all(
+pub(crate) fn give_all(
     gate: &Gate,
     seat: &mut GateSeat,
     sessions: &mut Vec<Session>,

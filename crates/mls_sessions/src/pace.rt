@@ -13,7 +13,7 @@ pub struct Pace {
 
 impl Pace {
     /// That of a session that took no nap so far.
-    pub fn new() -> Pace {
+    pub(crate) fn new() -> Pace {
         Pace {
             micros: NAP,
             asks: SOON,
@@ -21,12 +21,12 @@ impl Pace {
     }
 
     /// Counts a turn in which so much is asked.
-    pub fn begin(&mut self, asks: u64) {
+    pub(crate) fn begin(&mut self, asks: u64) {
         self.asks = self.asks.saturating_add(asks);
     }
 
     /// How long the next nap is, in microseconds, where none may be longer than that. It counts as taken.
-    pub fn nap(&mut self, longest: u64) -> u64 {
+    pub(crate) fn nap(&mut self, longest: u64) -> u64 {
         self.micros = if self.asks < SOON {
             self.micros.saturating_mul(4).min(longest)
         } else {

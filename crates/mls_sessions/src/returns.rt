@@ -10,7 +10,7 @@ use crate::session::Session;
 
 /// Puts one more behind those that came back.
 #[tactic(auto, using(crate::proofs::Runs::at_snoc))]
-pub fn put_last<F: Feed + Drop>(
+pub(crate) fn put_last<F: Feed + Drop>(
     mut back: Vec<Session>,
     mut fed: Vec<F>,
     asked: Asked,
@@ -39,7 +39,7 @@ pub fn put_last<F: Feed + Drop>(
 
 /// The last session, with the others.
 #[tactic(auto, using(crate::proofs::SeatsKeep::ascending_last))]
-pub fn pop_session(office: &Office, sessions: &mut Vec<Session>) -> Option<Session>
+pub(crate) fn pop_session(office: &Office, sessions: &mut Vec<Session>) -> Option<Session>
     requires { Ascending office.now 0 sessions.old.items }
     ensures some { IfSome result (λ s. (sessions.old.items ≡ sessions.new.items ++ s ∷ []) × Ascending office.now 0 sessions.new.items × IsOf office.now s × (vec_len sessions.new + 1 ≡ vec_len sessions.old)) }
     ensures none { IfNone result (vec_len sessions.old ≡ 0) }
@@ -50,7 +50,7 @@ pub fn pop_session(office: &Office, sessions: &mut Vec<Session>) -> Option<Sessi
 
 /// The last feed, with the others.
 #[tactic(auto, using(crate::proofs::Runs::at_last))]
-pub fn pop_feed<F: Feed>(feeds: &mut Vec<F>) -> Option<F>
+pub(crate) fn pop_feed<F: Feed>(feeds: &mut Vec<F>) -> Option<F>
     requires { AllAt F.stands_at Stage.Ready feeds.old.items }
     ensures some { IfSome result (λ f. (feeds.old.items ≡ feeds.new.items ++ f ∷ []) × (F.stands_at f ≡ Stage.Ready) × AllAt F.stands_at Stage.Ready feeds.new.items × (vec_len feeds.new + 1 ≡ vec_len feeds.old)) }
     ensures none { IfNone result (vec_len feeds.old ≡ 0) }

@@ -5,7 +5,7 @@ ghost use Rattle.mls_sessions.specs.Journals.{journal_of};
 ghost use Rattle.mls_sessions.specs.Sessions.{IsOf, Ascending, newcomers, is_count};
 ghost use Rattle.mls_sessions.specs.Rule.{begun, base, news};
 ghost use Rattle.mls_sessions.specs.Runs.{AllAt, Returned, Grew};
-ghost use Rattle.mls_sessions.specs.Feeds.{AllServed, AllFed};
+ghost use Rattle.mls_sessions.specs.Feeds.{AllServed, AllFed, AllTold};
 
 use crate::asked::Asked;
 use crate::attend::{Back, attend_unless};
@@ -17,7 +17,7 @@ use crate::returns::{pop_feed, pop_session, put_last};
 use crate::run_fault::{RunDone, RunFault, RunFaultKind};
 use crate::session::Session;
 use mls_monitor::Monitor;
-use std::alloc::Global;
+use std::alloc::{AllocError, Global};
 use std::snapshot::Snapshot;
 use std::sync::Wait;
 use std::sync::atomic::{AtomicBool, Ordering};
@@ -26,7 +26,7 @@ use std::thread::Threads;
 
 /// A thread for each session, which come back in their order with their feeds. Where a thread can't be started its closure
 /// comes back, and is called here with the word to leave the feed alone.
-#[tactic(auto, using(crate::proofs::Runs::returned_snoc, crate::proofs::Feeds::served_none, crate::proofs::Feeds::served_snoc))]
+#[tactic(auto, using(crate::proofs::Feeds::served_none))]
 fn attend_all<R: Threads + Wait + Sync, F: Feed + Send + Drop>(
     rt: &R,
     alloc: Global,
@@ -44,7 +44,7 @@ fn attend_all<R: Threads + Wait + Sync, F: Feed + Send + Drop>(
     ensures counts { (vec_len result.0 ≡ vec_len sessions) × (vec_len result.1 ≡ vec_len sessions) }
     ensures room { (vec_capacity back ≤ vec_capacity result.0) × (vec_capacity fed ≤ vec_capacity result.1) }
     ensures done { result.2 ≡ Asked.ToTheEnd → AllAt F.stands_at Stage.Done result.1.items }
-    ensures served { result.2 ≡ Asked.ToTheEnd → AllServed F.gives F.gives_ahead F.hears office.now sessions.items feeds.items result.0.items result.1.items }
+    ensures served { AllServed F.gives F.gives_ahead F.hears F.stops office.now sessions.items feeds.items result.2 result.0.items result.1.items }
 {
     let Some(session) = pop_session(office, &mut sessions) else {
         return (back, fed, Asked::ToTheEnd);
@@ -63,7 +63,7 @@ fn attend_all<R: Threads + Wait + Sync, F: Feed + Send + Drop>(
             ensures counts { (vec_len result.0 ≡ vec_len sessions + 1) × (vec_len result.1 ≡ vec_len sessions + 1) }
             ensures room { (vec_capacity back ≤ vec_capacity result.0) × (vec_capacity fed ≤ vec_capacity result.1) }
             ensures done { result.2 ≡ Asked.ToTheEnd → AllAt F.stands_at Stage.Done result.1.items }
-            ensures served { result.2 ≡ Asked.ToTheEnd → AllServed F.gives F.gives_ahead F.hears office.entry.now (sessions.items ++ session ∷ []) (feeds.items ++ feed ∷ []) result.0.items result.1.items }
+            ensures served { AllServed F.gives F.gives_ahead F.hears F.stops office.entry.now (sessions.items ++ session ∷ []) (feeds.items ++ feed ∷ []) result.2 result.0.items result.1.items }
         {
             let back_as = Back(office, Snapshot::of(&session), Snapshot::of(&feed));
             match scope.spawn_with(back_as, move || {
@@ -89,9 +89,19 @@ fn attend_all<R: Threads + Wait + Sync, F: Feed + Send + Drop>(
     )
 }
 
+/// Room for so many sessions and feeds that come back.
+fn make_room<F>(alloc: Global, n: usize) -> Result<(Vec<Session>, Vec<F>), AllocError>
+    ensures none { IfOk result (λ r. (r.0.items ≡ []) × (r.1.items ≡ [])) }
+    ensures room { IfOk result (λ r. (n ≤ vec_capacity r.0) × (n ≤ vec_capacity r.1)) }
+{
+    let back = Vec::with_capacity(alloc, n)?;
+    let fed = Vec::with_capacity(alloc, n)?;
+    Ok((back, fed))
+}
+
 /// Asks all feeds in the office that was opened for them, and closes it.
-#[tactic(auto, using(crate::proofs::Runs::returned_ascending, crate::proofs::Runs::grew, crate::proofs::Feeds::all_fed))]
-pub fn run_open<R: Threads + Wait + Sync, F: Feed + Send + Drop>(
+#[tactic(auto, using(crate::proofs::Runs::returned_ascending, crate::proofs::Runs::grew, crate::proofs::Feeds::all_fed, crate::proofs::Feeds::all_told))]
+pub(crate) fn run_open<R: Threads + Wait + Sync, F: Feed + Send + Drop>(
     rt: &R,
     alloc: Global,
     opened: (Office, Vec<Session>),
@@ -108,6 +118,7 @@ pub fn run_open<R: Threads + Wait + Sync, F: Feed + Send + Drop>(
     ensures count { vec_len result.1 ≡ vec_len feeds }
     ensures done { result.2 ≡ Asked.ToTheEnd → AllAt F.stands_at Stage.Done result.1.items }
     ensures fed { result.2 ≡ Asked.ToTheEnd → AllFed F.gives F.gives_ahead F.hears (begun opened.0.charter) (base opened.0.charter) (news opened.0.charter (journal_of result.0)) 0 feeds.items result.1.items }
+    ensures told { AllTold F.gives F.gives_ahead F.hears F.stops (begun opened.0.charter) (base opened.0.charter) (news opened.0.charter (journal_of result.0)) 0 feeds.items result.1.items }
 {
     let (office, sessions) = opened;
     let (back, fed, asked) = attend_all(rt, alloc, &office, sessions, feeds, back, fed);
@@ -146,7 +157,7 @@ fn ended<F: Feed>(left: (Monitor, Vec<F>, Asked)) -> Result<RunDone<F>, RunFault
 /// `BadCount` where there isn't one feed, to [`MAX_SESSIONS`] feeds; the monitor and the feeds are then as they were handed in.
 /// Else `Memory` where an allocation failed, also in a session's request: that feed is told so, and the others run on. Else
 /// `Thread` where a thread couldn't be started: its feed is asked nothing, and the others run on.
-#[tactic(auto, using(crate::proofs::Runs::grew_none))]
+#[tactic(auto, using(crate::proofs::Runs::grew_none, crate::proofs::Feeds::untold))]
 pub fn run_sessions<R: Threads + Wait + Sync, F: Feed + Send + Drop>(
     rt: &R,
     alloc: Global,
@@ -160,6 +171,7 @@ pub fn run_sessions<R: Threads + Wait + Sync, F: Feed + Send + Drop>(
     ensures err { IfErr result (λ fault. Grew monitor.start monitor.entries (vec_len feeds) fault.monitor) }
     ensures feeds { IfOk result (λ run. vec_len run.feeds ≡ vec_len feeds) }
     ensures fed { IfOk result (λ run. AllFed F.gives F.gives_ahead F.hears monitor.start monitor.entries (drop (length monitor.entries) run.monitor.entries) 0 feeds.items run.feeds.items) }
+    ensures told { IfErr result (λ fault. AllTold F.gives F.gives_ahead F.hears F.stops monitor.start monitor.entries (drop (length monitor.entries) fault.monitor.entries) 0 feeds.items fault.feeds.items) }
     ensures back { IfErr result (λ fault. vec_len fault.feeds ≡ vec_len feeds) }
     ensures kind { IfErr result (λ fault. fault.kind ≡ RunFaultKind.BadCount → is_count (vec_len feeds) ≡ false) }
     ensures bad { is_count (vec_len feeds) ≡ false → IfErr result (λ fault. (fault.kind ≡ RunFaultKind.BadCount) × (fault.monitor ≡ monitor) × (fault.feeds.items ≡ feeds.items)) }
@@ -172,14 +184,7 @@ pub fn run_sessions<R: Threads + Wait + Sync, F: Feed + Send + Drop>(
         });
     }
     let n = (feeds.len() % 65536) as u16;
-    let Ok(back) = Vec::with_capacity(alloc, feeds.len()) else {
-        return Err(RunFault {
-            kind: RunFaultKind::Memory,
-            monitor,
-            feeds,
-        });
-    };
-    let Ok(fed) = Vec::with_capacity(alloc, feeds.len()) else {
+    let Ok((back, fed)) = make_room(alloc, feeds.len()) else {
         return Err(RunFault {
             kind: RunFaultKind::Memory,
             monitor,

@@ -34,7 +34,7 @@ fn empty_lists<A: Allocator + Clone>(alloc: A, count: u16) -> Result<Lists<Objec
 
 impl<A: Allocator> Index<A> {
     /// The objects of a subject.
-    pub fn objects_of(&self, s: SubjectId) -> &[ObjectId]
+    pub(crate) fn objects_of(&self, s: SubjectId) -> &[ObjectId]
         requires { s < length self.now.objects.lists }
         ensures { result.now ≡ slice_index_or self.now.objects.lists s [] }
     {
@@ -42,7 +42,7 @@ impl<A: Allocator> Index<A> {
     }
 
     /// The subjects of an object.
-    pub fn subjects_of(&self, o: ObjectId) -> &[SubjectId]
+    pub(crate) fn subjects_of(&self, o: ObjectId) -> &[SubjectId]
         requires { o < length self.now.subjects.lists }
         ensures { result.now ≡ slice_index_or self.now.subjects.lists o [] }
     {
@@ -53,7 +53,7 @@ impl<A: Allocator> Index<A> {
     ///
     /// # Errors
     /// Where allocation fails. The lists are then unchanged.
-    pub fn spare_column(&mut self, next: u16) -> Result<(), AllocError>
+    pub(crate) fn spare_column(&mut self, next: u16) -> Result<(), AllocError>
         requires { next ≤ length self.old.subjects.lists }
         ensures room { OnOk result (next < length self.new.subjects.lists) }
         ensures longer { length self.old.subjects.lists ≤ length self.new.subjects.lists }
@@ -68,7 +68,7 @@ impl<A: Allocator> Index<A> {
     ///
     /// # Errors
     /// Where allocation fails. The lists are then unchanged.
-    pub fn link(&mut self, s: SubjectId, o: ObjectId) -> Result<(), AllocError>
+    pub(crate) fn link(&mut self, s: SubjectId, o: ObjectId) -> Result<(), AllocError>
         requires row { s < length self.old.objects.lists }
         requires column { o < length self.old.subjects.lists }
         requires subject { s < MAX_SUBJECTS }
@@ -89,7 +89,7 @@ impl<A: Allocator> Index<A> {
     }
 
     /// Takes an object out of the list of a subject, and the subject out of that of the object.
-    pub fn unlink(&mut self, s: SubjectId, o: ObjectId)
+    pub(crate) fn unlink(&mut self, s: SubjectId, o: ObjectId)
         requires row { s < length self.old.objects.lists }
         requires column { o < length self.old.subjects.lists }
         ensures rows { length self.new.objects.lists ≡ length self.old.objects.lists }
@@ -101,7 +101,7 @@ impl<A: Allocator> Index<A> {
     }
 
     /// Takes an object out of the lists of its subjects, and these out of its own.
-    pub fn unlink_object(&mut self, o: ObjectId)
+    pub(crate) fn unlink_object(&mut self, o: ObjectId)
         requires column { o < length self.old.subjects.lists }
         requires subjects { All (λ s. s < length self.old.objects.lists) (slice_index_or self.old.subjects.lists o []) }
         ensures rows { length self.new.objects.lists ≡ length self.old.objects.lists }
@@ -119,7 +119,7 @@ impl<A: Allocator + Clone> Index<A> {
     ///
     /// # Errors
     /// Where allocation fails.
-    pub fn new(alloc: A, subjects: u16) -> Result<Index<A>, AllocError>
+    pub(crate) fn new(alloc: A, subjects: u16) -> Result<Index<A>, AllocError>
         ensures objects { IfOk result (λ b. b.objects.lists ≡ replicate subjects []) }
         ensures subjects { IfOk result (λ b. b.subjects.lists ≡ []) }
     {
@@ -134,7 +134,7 @@ impl<A: Allocator + Clone> Index<A> {
     ///
     /// # Errors
     /// Where allocation fails.
-    pub fn duplicate(&self, alloc: A) -> Result<Index<A>, AllocError>
+    pub(crate) fn duplicate(&self, alloc: A) -> Result<Index<A>, AllocError>
         ensures objects { IfOk result (λ b. b.objects.lists ≡ self.now.objects.lists) }
         ensures subjects { IfOk result (λ b. b.subjects.lists ≡ self.now.subjects.lists) }
     {

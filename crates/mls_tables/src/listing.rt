@@ -20,7 +20,7 @@ fn is_free<A: Allocator>(matrix: &Matrix<A>, s: SubjectId, o: ObjectId) -> bool
 ///
 /// # Errors
 /// Where allocation fails. The lists are then unchanged.
-pub fn list_pair<A: Allocator>(
+pub(crate) fn list_pair<A: Allocator>(
     matrix: &Matrix<A>,
     index: &mut Index<A>,
     s: SubjectId,
@@ -42,7 +42,7 @@ pub fn list_pair<A: Allocator>(
 }
 
 /// Takes a pair off the lists of a relation, where it isn't accessed any more.
-pub fn unlist_pair<A: Allocator>(
+pub(crate) fn unlist_pair<A: Allocator>(
     matrix: &Matrix<A>,
     index: &mut Index<A>,
     s: SubjectId,

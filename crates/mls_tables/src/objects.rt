@@ -30,7 +30,7 @@ impl<A: Allocator> Lists<ObjectId, A> {
 }
 
 /// Takes an object out of the list of a subject.
-pub fn take_object<A: Allocator>(objects: &mut Lists<ObjectId, A>, s: SubjectId, o: ObjectId)
+pub(crate) fn take_object<A: Allocator>(objects: &mut Lists<ObjectId, A>, s: SubjectId, o: ObjectId)
     requires { s < length objects.old.lists }
     ensures many { length objects.new.lists ≡ length objects.old.lists }
     ensures taken { (p : ℕ → ℕ → Bool) (n : ℕ) → IsRows p n objects.old.lists → IsRows (λ a b. p a b && not (a == s && b == o)) n objects.new.lists }
@@ -39,7 +39,7 @@ pub fn take_object<A: Allocator>(objects: &mut Lists<ObjectId, A>, s: SubjectId,
 }
 
 /// Takes an object out of the lists of some subjects.
-pub fn take_from_each<A: Allocator>(
+pub(crate) fn take_from_each<A: Allocator>(
     objects: &mut Lists<ObjectId, A>,
     holders: &[SubjectId],
     o: ObjectId,
@@ -54,7 +54,11 @@ pub fn take_from_each<A: Allocator>(
 }
 
 /// Enters an object into the list of a subject, which has room for it.
-pub fn enter_object<A: Allocator>(objects: &mut Lists<ObjectId, A>, s: SubjectId, o: ObjectId)
+pub(crate) fn enter_object<A: Allocator>(
+    objects: &mut Lists<ObjectId, A>,
+    s: SubjectId,
+    o: ObjectId,
+)
     requires row { s < length objects.old.lists }
     requires room { length (slice_index_or objects.old.lists s []) < slice_index_or objects.old.rooms s 0 }
     ensures many { length objects.new.lists ≡ length objects.old.lists }

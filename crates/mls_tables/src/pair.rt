@@ -15,7 +15,7 @@ pub(crate) struct Pair {
 
 impl Pair {
     /// Two empty cells.
-    pub fn empty() -> Pair
+    pub(crate) fn empty() -> Pair
         ensures { result ≡ no_pair }
     {
         Pair { bits: 0 }
@@ -23,7 +23,7 @@ impl Pair {
 
     /// The cell of the odd subject, or that of the even one.
     #[tactic(auto, using(crate::proofs::Pairs::half_odd, crate::proofs::Pairs::half_even))]
-    pub fn half(self, odd: bool) -> Modes
+    pub(crate) fn half(self, odd: bool) -> Modes
         ensures { result ≡ half self odd }
     {
         if odd {
@@ -52,7 +52,7 @@ impl Pair {
     }
 
     /// The pair with a mode added to one of its cells.
-    pub fn with(self, odd: bool, x: Mode) -> Pair
+    pub(crate) fn with(self, odd: bool, x: Mode) -> Pair
         ensures own { half result odd ≡ set.insert (half self odd) x }
         ensures other { half result (not odd) ≡ half self (not odd) }
     {
@@ -60,7 +60,7 @@ impl Pair {
     }
 
     /// The pair with a mode removed from one of its cells.
-    pub fn without(self, odd: bool, x: Mode) -> Pair
+    pub(crate) fn without(self, odd: bool, x: Mode) -> Pair
         ensures own { half result odd ≡ set.remove (half self odd) x }
         ensures other { half result (not odd) ≡ half self (not odd) }
     {

@@ -18,7 +18,7 @@ pub struct Span {
 ///
 /// # Errors
 /// Where allocation fails. The memory is then unchanged.
-pub fn roomy<T: Copy, A: Allocator>(
+pub(crate) fn roomy<T: Copy, A: Allocator>(
     store: &mut Vec<T, A>,
     span: Span,
     x: T,
@@ -62,7 +62,7 @@ fn take_out<T>(items: &mut [T], k: usize)
 }
 
 /// Puts an item in a list at a place, and returns where the longer list lies.
-pub fn widen<T: Copy>(store: &mut [T], span: Span, k: usize, x: T) -> Span
+pub(crate) fn widen<T: Copy>(store: &mut [T], span: Span, k: usize, x: T) -> Span
     requires place { k ≤ span.len }
     requires room { span.start + span.len < length store.old }
     ensures longer { result ≡ record span { len = span.len + 1 } }
@@ -80,7 +80,7 @@ pub fn widen<T: Copy>(store: &mut [T], span: Span, k: usize, x: T) -> Span
 }
 
 /// Takes the item at a place out of a list, and returns where the shorter list lies.
-pub fn shorten<T: Copy>(store: &mut [T], span: Span, k: usize) -> Span
+pub(crate) fn shorten<T: Copy>(store: &mut [T], span: Span, k: usize) -> Span
     requires place { k < span.len }
     requires within { span.start + span.len ≤ length store.old }
     ensures shorter { result ≡ record span { len = span.len - 1 } }

@@ -16,7 +16,11 @@ fn place_of_subject(list: &[SubjectId], s: SubjectId) -> Result<usize, usize>
 }
 
 /// Takes a subject out of the list of an object.
-pub fn take_subject<A: Allocator>(subjects: &mut Lists<SubjectId, A>, o: ObjectId, s: SubjectId)
+pub(crate) fn take_subject<A: Allocator>(
+    subjects: &mut Lists<SubjectId, A>,
+    o: ObjectId,
+    s: SubjectId,
+)
     requires { o < length subjects.old.lists }
     ensures many { length subjects.new.lists ≡ length subjects.old.lists }
     ensures taken { (p : ℕ → ℕ → Bool) (n : ℕ) → IsRows p n subjects.old.lists → IsRows (λ a b. p a b && not (a == o && b == s)) n subjects.new.lists }
@@ -27,7 +31,11 @@ pub fn take_subject<A: Allocator>(subjects: &mut Lists<SubjectId, A>, o: ObjectI
 }
 
 /// Enters a subject into the list of an object, which has room for it.
-pub fn enter_subject<A: Allocator>(subjects: &mut Lists<SubjectId, A>, o: ObjectId, s: SubjectId)
+pub(crate) fn enter_subject<A: Allocator>(
+    subjects: &mut Lists<SubjectId, A>,
+    o: ObjectId,
+    s: SubjectId,
+)
     requires column { o < length subjects.old.lists }
     requires room { length (slice_index_or subjects.old.lists o []) < slice_index_or subjects.old.rooms o 0 }
     ensures many { length subjects.new.lists ≡ length subjects.old.lists }

@@ -12,7 +12,7 @@ use std::alloc::{AllocError, Allocator};
 ///
 /// # Errors
 /// Where allocation fails.
-pub fn root_alone<A: Allocator>(alloc: A) -> Result<Vec<Option<ObjectId>, A>, AllocError>
+pub(crate) fn root_alone<A: Allocator>(alloc: A) -> Result<Vec<Option<ObjectId>, A>, AllocError>
     ensures { IfOk result (λ parents. parents.items ≡ None ∷ []) }
 {
     let mut parents = Vec::new(alloc);
@@ -24,7 +24,7 @@ pub fn root_alone<A: Allocator>(alloc: A) -> Result<Vec<Option<ObjectId>, A>, Al
 ///
 /// # Errors
 /// Where allocation fails. Parents and lists are then unchanged.
-pub fn enter<A: Allocator>(
+pub(crate) fn enter<A: Allocator>(
     parents: &mut Vec<Option<ObjectId>, A>,
     lists: &mut Lists<ObjectId, A>,
     parent: ObjectId,
@@ -47,7 +47,7 @@ pub fn enter<A: Allocator>(
 ///
 /// # Errors
 /// Where allocation fails.
-pub fn add_children<A: Allocator, B: Allocator>(
+pub(crate) fn add_children<A: Allocator, B: Allocator>(
     lists: &Lists<ObjectId, A>,
     group: &mut Vec<ObjectId, B>,
     at: usize,
@@ -62,7 +62,7 @@ pub fn add_children<A: Allocator, B: Allocator>(
 }
 
 /// Empties the lists of the objects.
-pub fn clear_each<A: Allocator>(lists: &mut Lists<ObjectId, A>, group: &[ObjectId])
+pub(crate) fn clear_each<A: Allocator>(lists: &mut Lists<ObjectId, A>, group: &[ObjectId])
     requires { All (λ x. x < length lists.old.lists) group.now }
     ensures many { length lists.new.lists ≡ length lists.old.lists }
     ensures cleared { (q : ℕ) → slice_index_or lists.new.lists q [] ≡
@@ -74,7 +74,7 @@ pub fn clear_each<A: Allocator>(lists: &mut Lists<ObjectId, A>, group: &[ObjectI
 }
 
 /// Takes an object out of the list of its parent, if it has one. The list ascends.
-pub fn discard_one<A: Allocator>(
+pub(crate) fn discard_one<A: Allocator>(
     lists: &mut Lists<ObjectId, A>,
     parent: Option<ObjectId>,
     o: ObjectId,
@@ -91,7 +91,7 @@ pub fn discard_one<A: Allocator>(
 }
 
 /// Takes each of the objects out of its parent's list. The lists ascend.
-pub fn discard_each<A: Allocator>(
+pub(crate) fn discard_each<A: Allocator>(
     lists: &mut Lists<ObjectId, A>,
     parents: &[Option<ObjectId>],
     group: &[ObjectId],
@@ -109,7 +109,7 @@ pub fn discard_each<A: Allocator>(
 }
 
 /// Takes the parents of the objects away.
-pub fn forget_each(parents: &mut [Option<ObjectId>], group: &[ObjectId])
+pub(crate) fn forget_each(parents: &mut [Option<ObjectId>], group: &[ObjectId])
     requires { All (λ x. x < length parents.old) group.now }
     ensures { (q : ℕ) → slice_index_or parents.new q None ≡
         (if list_any (λ x. q == x) group.now then None else slice_index_or parents.old q None) }

@@ -38,15 +38,7 @@ impl Session {
     {
         let gate = &office.table.shared;
         let number = self.number();
-        let monitor = wait(
-            gate,
-            &office.lobby,
-            rt,
-            &mut self.seat,
-            &mut self.pace,
-            number,
-            1,
-        );
+        let monitor = wait(office, rt, &mut self.seat, &mut self.pace, number, 1);
         record(
             gate,
             &mut self.seat,
@@ -106,15 +98,7 @@ impl Session {
     {
         let gate = &office.table.shared;
         let number = self.number();
-        let taken = wait(
-            gate,
-            &office.lobby,
-            rt,
-            &mut self.seat,
-            &mut self.pace,
-            number,
-            1,
-        );
+        let taken = wait(office, rt, &mut self.seat, &mut self.pace, number, 1);
         inspect(gate, &mut self.seat, &mut self.counts, taken, s, o, x)
     }
 
@@ -167,15 +151,8 @@ impl Session {
     {
         let gate = &office.table.shared;
         let number = self.number();
-        let taken = wait(
-            gate,
-            &office.lobby,
-            rt,
-            &mut self.seat,
-            &mut self.pace,
-            number,
-            asks.len() as u64,
-        );
+        let turn = asks.len() as u64;
+        let taken = wait(office, rt, &mut self.seat, &mut self.pace, number, turn);
         record_all(
             gate,
             &mut self.seat,

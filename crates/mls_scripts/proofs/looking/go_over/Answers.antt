@@ -2,7 +2,7 @@ use Rattle.std.proofs.Common.{ap, sym, arith}
 use Rattle.mls_scripts.specs.Lines.{lines_of}
 use Rattle.mls_scripts.specs.Asking.{asking}
 use Rattle.mls_scripts.proofs.HalfSteps.{gone_more, gone_to, gone_all}
-use Rattle.mls_scripts.proofs.feed.go_over.Goals as goal
+use Rattle.mls_scripts.proofs.looking.go_over.Goals as goal
 
 pub loop-line-preserved : goal.loop-line-preserved
 loop-line-preserved c =

@@ -2,7 +2,7 @@ use Rattle.std.proofs.Common.{◌≤◌, length}
 use Rattle.mls_scripts.specs.Lines.{lines_of}
 use Rattle.mls_scripts.specs.Halves.{next_of}
 use Rattle.mls_scripts.proofs.HalfSteps.{GoneOver}
-use Rattle.mls_scripts.proofs.feed.go_over.Given as goal
+use Rattle.mls_scripts.proofs.looking.go_over.Given as goal
 
 abbrev pub invariant-loop-line : goal.invariant-loop-line
 invariant-loop-line l = record {

@@ -1,0 +1,105 @@
+//! What a script that is fed gives, and what it makes of the answers.
+ghost use Rattle.std.specs.Prelude.{◌≡◌, ◌<◌, ◌≤◌, ◌+◌, true, length, None, IfSome, IfNone};
+ghost use Rattle.mls_sessions.specs.declared.feed.Stage.TheVariants as stage;
+ghost use Rattle.mls_scripts.specs.Fed.{Gives, GivesAhead, Takes};
+
+use crate::feed::ScriptFeed;
+use crate::halves::{bind_heard, hear, make_room, push_answer};
+use crate::looking::{enqueue, look_ahead};
+use mls_requests::Ask;
+use mls_sessions::{Answer as Told, Feed, Stage};
+
+impl<'a> Feed for ScriptFeed<'a> {
+    ghost asks_left = { λ f. length f.rest };
+
+    ghost stands_at = { λ f. f.stage };
+
+    ghost waits_for = { λ f. length f.asked };
+
+    ghost gives = { Gives };
+
+    ghost gives_ahead = { GivesAhead };
+
+    ghost hears = { Takes };
+
+    ghost stops = { λ old new. new ≡ old };
+
+    fn left(&self) -> u64 {
+        self.rest.len() as u64
+    }
+
+    fn stage(&self) -> Stage {
+        self.stage
+    }
+
+    /// What the next line asks that asks something. The answers to the lines before it are kept. Nothing comes at the end of the script,
+    /// or once an allocation failed.
+    fn next(&mut self) -> Option<Ask>
+        ensures some { IfSome result (λ _. (length self.new.rest < length self.old.rest) × (self.new.stage ≡ stage.Waiting) × (length self.new.asked ≡ 1)) }
+        ensures none { IfNone result ((length self.new.rest ≤ length self.old.rest) × (self.new.stage ≡ stage.Done)) }
+        ensures given { Gives self.old result self.new }
+        ensures failed { self.new.failed ≡ true → result ≡ None }
+    {
+        if self.has_failed {
+            self.end();
+            return None;
+        }
+        match self.go_on() {
+            Ok(asked) => asked,
+            Err(_) => {
+                self.has_failed = true;
+                self.end();
+                None
+            }
+        }
+    }
+
+    /// What the next line asks that asks something, where no fault stands before it, nor a line that binds a variable: these wait for their turn.
+    fn ahead(&mut self) -> Option<Ask>
+        ensures some { IfSome result (λ ask. (length self.new.rest < length self.old.rest) × (self.new.stage ≡ stage.Waiting) × (length self.new.asked ≡ length self.old.asked + 1) × GivesAhead self.old ask self.new) }
+        ensures none { IfNone result (self.new ≡ self.old) }
+    {
+        if self.stage != Stage::Waiting || self.room.is_some() {
+            return None;
+        }
+        let Some(next) = look_ahead(self.names, &self.vars, self.rest) else {
+            return None;
+        };
+        let ask = next.asks.ask;
+        let Ok(room) = make_room(&mut self.vars, next.asks.bind) else {
+            return None;
+        };
+        if enqueue(&mut self.asked, &ask).is_err() {
+            return None;
+        }
+        self.room = room;
+        self.rest = next.rest;
+        Some(ask)
+    }
+
+    /// Keeps the answer, and binds the variable of the line that asked. An answer of another kind than the ask is none.
+    fn told(&mut self, answer: &Told)
+        ensures left { length self.new.rest ≤ length self.old.rest }
+        ensures ready { length self.old.asked ≤ 1 → self.new.stage ≡ stage.Ready }
+        ensures waits { 1 < length self.old.asked → (self.new.stage ≡ stage.Waiting) × (length self.new.asked + 1 ≡ length self.old.asked) }
+        ensures heard { Takes self.old answer.now self.new }
+    {
+        let heard = hear(self.asked.pop_front(), answer);
+        if self.asked.is_empty() {
+            let room = self.room.take();
+            bind_heard(&mut self.vars, room, &heard);
+            self.stage = Stage::Ready;
+        }
+        if push_answer(&mut self.text, heard).is_err() {
+            self.has_failed = true;
+        }
+    }
+
+    /// Nothing is kept and nothing bound: the script is asked nothing more.
+    fn stopped(&mut self)
+        requires { self.old.stage ≡ stage.Waiting }
+        ensures left { length self.new.rest ≤ length self.old.rest }
+        ensures waits { self.new.stage ≡ stage.Waiting }
+        ensures same { self.new ≡ self.old }
+    {}
+}
