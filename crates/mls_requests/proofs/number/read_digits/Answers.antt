@@ -1,6 +1,6 @@
 use Rattle.std.proofs.Common.{sym, ap, ◌∙◌, arith, get_or, ◌+◌, ◌-◌, ◌*◌, ◌<◌, ◌≤◌, drop}
 use Rattle.std.proofs.lemmas.List.{drop_all}
-use Rattle.mls_requests.proofs.NumberLemmas.{more, read_on, read_from_zero, read_digit, read_none, read_great, next_digit}
+use Rattle.mls_requests.proofs.NumberLemmas.{read_on, read_from_zero, read_digit, read_none, read_great, next_digit}
 use Rattle.mls_requests.proofs.number.read_digits.Goals as goal
 use Rattle.mls_requests.proofs.number.read_digits.Goals.{then-number-most-via-then-number-most, then-number-most-via-else-number-most+then-digit-most}
 
