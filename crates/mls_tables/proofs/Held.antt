@@ -1,19 +1,15 @@
 -- Who accesses what, as the set of triples changes.
-use Rattle.std.specs.Prelude.{◌≡◌, ℕ, ◌<◌, ◌≤◌, ◌↔◌, Bool, true, false, not, ◌&&◌, ◌||◌, IsTrue, List, [], length, replicate, refl}
+use Rattle.std.specs.Prelude.{◌≡◌, ℕ, ◌<◌, ◌↔◌, Bool, true, false, not, ◌&&◌, ◌||◌, IsTrue, refl}
 use Rattle.std.specs.FinSet as set
-use Rattle.std.proofs.Common.{◌⊎◌, inl, inr, arith, sym, ap, subst, ◌∙◌, eqb, get_or}
-use Rattle.std.proofs.lemmas.Bool.{cases_eq, cases_lt, cases_Bool, eq-eqb, ne_eqb, eqb-true, or_cases, or_parts, or_left, or_right, and_parts, false_from_ne_true, false≢true}
+use Rattle.std.proofs.Common.{◌⊎◌, inl, inr, sym, ap, subst, ◌∙◌, eqb}
+use Rattle.std.proofs.lemmas.Bool.{cases_eq, cases_Bool, eq-eqb, ne_eqb, eqb-true, and_parts, false_from_ne_true, false≢true}
 use Rattle.std.proofs.Math.Bool.{and-true, and-false}
-use Rattle.std.proofs.lemmas.List.{get_or_past, get_or-replicate, length-replicate}
-use Rattle.mls_tables.specs.declared.limits.TheConstants.{MAX_SUBJECTS, MAX_OBJECTS}
 use Rattle.mls_tables.specs.declared.mode.Mode.{Mode}
 use Rattle.mls_tables.specs.declared.mode.Mode.TheVariants.{Execute, Read, Append, Write}
-use Rattle.mls_tables.specs.Mode.{mode_number, mode_cmp, ModeSet}
-use Rattle.mls_tables.specs.Triples.{Triple, TripleSet, triple_cmp, is_triple}
+use Rattle.mls_tables.specs.Mode.{mode_cmp, ModeSet}
+use Rattle.mls_tables.specs.Triples.{TripleSet, triple_cmp, is_triple}
 use Rattle.mls_tables.specs.Table.{IsWithin, without_object}
-use Rattle.mls_tables.specs.Held.{is_held, Indexes}
-use Rattle.mls_tables.specs.Rows.{listed}
-use Rattle.mls_tables.proofs.Indexes.{Indexes-same, listed-none}
+use Rattle.mls_tables.specs.Held.{is_held}
 use Rattle.mls_tables.proofs.Laws.{held_at, held_in, same_modes, is_triple-itself, contains-insert-triple, contains-remove-triple, contains-without_object}
 
 -- two sets with the same modes there

@@ -1,18 +1,17 @@
 -- Tables whose lists tell who accesses what.
-use Rattle.std.specs.Prelude.{◌≡◌, ℕ, ◌+◌, ◌<◌, ◌≤◌, Bool, true, false, not, ◌&&◌, ◌||◌, List, [], ◌∷◌, ◌++◌, length, replicate, take, refl}
+use Rattle.std.specs.Prelude.{◌≡◌, ℕ, ◌+◌, ◌<◌, ◌≤◌, Bool, true, false, not, ◌&&◌, ◌||◌, List, [], length, replicate, take, refl}
 use Rattle.std.specs.FinSet as set
 use Rattle.std.specs.Cmp.{nat_eq_equiv}
 use Rattle.std.specs.List.{list_any}
 use Rattle.std.proofs.Common.{◌⊎◌, inl, inr, arith, sym, ap, ◌∙◌, eqb, ltb, get_or}
-use Rattle.std.proofs.lemmas.Bool.{cases_lt, lt-ltb, cases_Bool, eq-eqb, ne_eqb, and_parts, false_from_ne_true, false≢true}
-use Rattle.std.proofs.Math.Bool.{and-true, and-false}
-use Rattle.std.proofs.lemmas.List.{get_or_past, get_or-replicate, length-replicate, take_more}
+use Rattle.std.proofs.lemmas.Bool.{cases_lt, lt-ltb, cases_Bool, eq-eqb, ne_eqb, and_parts, false≢true}
+use Rattle.std.proofs.Math.Bool.{and-true}
+use Rattle.std.proofs.lemmas.List.{get_or_past, get_or-replicate, length-replicate}
 use Rattle.std.proofs.lemmas.List.Folds.{list_any_at, list_any_more}
 use Rattle.mls_tables.specs.declared.limits.TheConstants.{MAX_SUBJECTS, MAX_OBJECTS}
 use Rattle.mls_tables.specs.Triples.{Triple, TripleSet, is_triple}
 use Rattle.mls_tables.specs.Table.{Table, IsWithin, empty_table, without_object, without_objects}
 use Rattle.mls_tables.specs.Held.{is_held, objects_of, subjects_of, Indexes, IsIndexed}
-use Rattle.mls_tables.specs.Rows.{listed}
 use Rattle.mls_tables.proofs.Indexes.{list_any-listed, listed-none}
 use Rattle.mls_tables.proofs.Laws.{same_triples, is_triple-true, contains-remove-triple, contains-without_object, contains-without_objects}
 use Rattle.mls_tables.proofs.Held.{held_empty}

@@ -1,14 +1,14 @@
 -- What a change of both tables of lists makes of the relation that they tell.
-use Rattle.std.specs.Prelude.{◌≡◌, ℕ, ◌+◌, ◌<◌, ◌≤◌, Bool, true, false, not, ◌&&◌, ◌||◌, List, [], length, refl}
-use Rattle.std.specs.List.{list_any, range_with_len}
-use Rattle.std.proofs.Common.{◌⊎◌, inl, inr, arith, sym, ap, subst, ◌∙◌, eqb, ltb, get_or, set, take, get_or-set_same, get_or-set_other}
+use Rattle.std.specs.Prelude.{◌≡◌, ℕ, ◌+◌, ◌<◌, Bool, true, false, not, ◌&&◌, ◌||◌, List, [], length, refl}
+use Rattle.std.specs.List.{list_any}
+use Rattle.std.proofs.Common.{◌⊎◌, inl, inr, sym, ap, subst, ◌∙◌, eqb, ltb, get_or, set, take, get_or-set_same, get_or-set_other}
 use Rattle.std.proofs.lemmas.Bool.{cases_eq, cases_Bool, eq-eqb, ne_eqb, eqb-true, lt-ltb, or_cases, and_parts}
 use Rattle.std.proofs.Math.Bool.{and-true, and-false, and_comm}
 use Rattle.std.proofs.lemmas.List.Folds.{list_any_more}
 use Rattle.mls_facts.proofs.Ranges.{list_any-filter_range, filter_range_none}
 use Rattle.mls_tables.specs.declared.limits.TheConstants.{MAX_SUBJECTS, MAX_OBJECTS}
-use Rattle.mls_tables.specs.Rows.{listed, IsRows}
-use Rattle.mls_tables.specs.Held.{Indexes}
+use Rattle.mls_tables.specs.Rows.{listed, IsRows, TakenOut}
+use Rattle.mls_tables.specs.Held.{Indexes, Unlisted}
 
 -- a relation may be told in other words
 pub IsRows-same : (p q : ℕ → ℕ → Bool) (n : ℕ) (lists : List (List ℕ)) → ((a b : ℕ) → p a b ≡ q a b) → IsRows p n lists → IsRows q n lists
@@ -29,12 +29,6 @@ list_any-listed p q n = list_any-filter_range p q n
 pub listed-none : (n : ℕ) (p : ℕ → Bool) → ((a : ℕ) → p a ≡ false) → listed p n ≡ []
 unfolding listed
 listed-none n p none = filter_range_none p 0 n (λ a low high. none a)
-
-no_more : (p b : Bool) → p ≡ (p && not (false && b))
-no_more p b = sym (and-true p)
-
-pub taken_none : (p : ℕ → ℕ → Bool) (n o : ℕ) (lists : List (List ℕ)) → IsRows p n lists → IsRows (λ a b. p a b && not (false && eqb b o)) n lists
-taken_none p n o lists rows = IsRows-same p _ n lists (λ a b. no_more (p a b) (eqb b o)) rows
 
 one_more : (p a e b : Bool) → ((p && not (a && b)) && not (e && b)) ≡ (p && not ((a || e) && b))
 one_more true true e b = both e b where
@@ -95,3 +89,13 @@ Indexes-object_gone p o objects subjects objects' holders h here is rows = recor
   column : (b : ℕ) → (b ≡ o) ⊎ (b ≡ o → ⊥) → get_or (set subjects o []) b [] ≡ listed (λ s. p s b && not (eqb b o)) MAX_SUBJECTS
   column b (inl same) = ap (λ k. get_or (set subjects o []) k []) same ∙ get_or-set_same subjects o [] [] here ∙ sym (listed-none MAX_SUBJECTS _ (λ s. ap (λ e. p s b && not e) (eq-eqb b o same) ∙ and-false (p s b)))
   column b (inr other) = get_or-set_other subjects o b [] [] other ∙ h.columns b ∙ ap (λ q. listed q MAX_SUBJECTS) (λ i s. (sym (and-true (p s b)) ∙ ap (λ e. p s b && not e) (sym (ne_eqb b o other))) i)
+
+-- the same by what taking it out of each list and emptying its own say, wherever they found it
+pub object_gone : (o read emptied : ℕ) (objects subjects objects' subjects' : List (List ℕ)) (holders : List ℕ) → TakenOut holders o objects objects'
+    → holders ≡ get_or subjects read [] → subjects' ≡ set subjects emptied [] → read ≡ o → emptied ≡ o → o < length subjects
+    → Unlisted (λ a b. eqb b o) objects subjects objects' subjects'
+object_gone o read emptied objects subjects objects' subjects' holders taken is cleared own_list own_place here = record {
+  told = λ p h.
+      subst (Indexes (λ a b. p a b && not (eqb b o)) objects') (sym (cleared ∙ ap (λ k. set subjects k []) own_place))
+      (Indexes-object_gone p o objects subjects objects' holders h here (is ∙ ap (λ k. get_or subjects k []) own_list) (taken.told p MAX_OBJECTS h.rows));
+}

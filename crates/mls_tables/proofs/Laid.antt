@@ -1,5 +1,5 @@
 -- What a change of the memory of several lists leaves.
-use Rattle.std.proofs.Common.{◌≡◌, ℕ, ◌+◌, ◌-◌, ◌<◌, ◌≤◌, ◌⊎◌, inl, inr, List, [], ◌++◌, length, take, drop, map, get_or, set, sym, ap, subst, ◌∙◌, arith, length-append, length-drop, length-take, length-set, get_or-set_same, get_or-set_other}
+use Rattle.std.proofs.Common.{◌≡◌, ℕ, ◌+◌, ◌<◌, ◌≤◌, ◌⊎◌, inl, inr, List, [], ◌++◌, length, take, drop, map, get_or, set, sym, ap, subst, ◌∙◌, arith, length-append, length-drop, length-take, length-set, get_or-set_same, get_or-set_other}
 use Rattle.std.proofs.lemmas.Bool.{cases_eq, cases_order}
 use Rattle.std.proofs.lemmas.List.{get_or-map, take-append-le, drop-append-le, set-get_or}
 use Rattle.mls_facts.proofs.Places.{map-set}

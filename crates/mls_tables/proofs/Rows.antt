@@ -1,5 +1,5 @@
 -- What a change of one list makes of the relation that lists tell.
-use Rattle.std.specs.Prelude.{◌≡◌, ℕ, ◌<◌, ◌≤◌, Bool, true, false, not, ◌&&◌, ◌||◌, List, [], length, filter, Result, refl}
+use Rattle.std.specs.Prelude.{◌≡◌, ℕ, ◌<◌, ◌≤◌, Bool, not, ◌&&◌, ◌||◌, List, [], length, filter, Result, refl}
 use Rattle.std.specs.List.{range_with_len}
 use Rattle.std.specs.List.Sorted.{IsStrictlyIncreasing}
 use Rattle.std.proofs.Common.{◌⊎◌, inl, inr, arith, sym, ap, subst, ◌∙◌, eqb, get_or, set, get_or-set_same, get_or-set_other}

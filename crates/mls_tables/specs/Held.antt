@@ -32,6 +32,10 @@ pub record Indexes (p : ℕ → ℕ → Bool) (objects subjects : List (List ℕ
   pub rows : IsRows p MAX_OBJECTS objects
   pub columns : IsRows (λ o s. p s o) MAX_SUBJECTS subjects
 
+-- Pairs are taken out of both: whatever relation they told, they tell it less those. (own)
+pub record Unlisted (gone : ℕ → ℕ → Bool) (objects subjects objects' subjects' : List (List ℕ)) : Type 0 where
+  pub told : (p : ℕ → ℕ → Bool) → Indexes p objects subjects → Indexes (λ a b. p a b && not (gone a b)) objects' subjects'
+
 -- There is a list for each row and each column of a table, and the lists tell who accesses what. There may be more lists of subjects, which are
 -- empty. (own)
 pub record IsIndexed (t : Table) (objects subjects : List (List ℕ)) : Type 0 where

@@ -1,6 +1,6 @@
 -- Lists of numbers that rise, each of which stands for a row of a relation.
-use Rattle.std.specs.Prelude.{◌≡◌, ℕ, ◌<◌, ◌≤◌, Bool, List, [], length, filter, slice_index, slice_index_or, Result, Ok, Err}
-use Rattle.std.specs.List.{range_with_len, insert, remove}
+use Rattle.std.specs.Prelude.{◌≡◌, ℕ, ◌<◌, ◌≤◌, ◌==◌, ◌&&◌, Bool, not, List, [], length, filter, slice_index, slice_index_or, Result, Ok, Err}
+use Rattle.std.specs.List.{list_any, range_with_len, insert, remove}
 
 -- Where a number stands in a list, or else where it would: behind all that are less, before all that are greater. (own)
 abbrev pub FoundAt : List ℕ → ℕ → Result ℕ ℕ → Type 0
@@ -29,3 +29,7 @@ listed p n = filter p (range_with_len 0 n)
 -- Each list has the numbers below a bound that its own number is related to. (own)
 abbrev pub IsRows : (ℕ → ℕ → Bool) → ℕ → List (List ℕ) → Type 0
 IsRows p n lists = (a : ℕ) → slice_index_or lists a [] ≡ listed (p a) n
+
+-- A column is taken out of the lists of some rows: whatever relation the lists told, they tell it less those pairs. (own)
+pub record TakenOut (rows : List ℕ) (column : ℕ) (before after : List (List ℕ)) : Type 0 where
+  pub told : (p : ℕ → ℕ → Bool) (n : ℕ) → IsRows p n before → IsRows (λ a b. p a b && not (list_any (λ s. a == s) rows && b == column)) n after

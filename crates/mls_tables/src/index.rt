@@ -1,7 +1,7 @@
 //! Who accesses what: for each subject its objects, and for each object its subjects.
 ghost use Rattle.std.specs.Prelude.{◌≡◌, ℕ, ◌<◌, ◌≤◌, ◌==◌, ◌&&◌, ◌||◌, Bool, not, [], All, length, slice_index_or, replicate, IfOk, OnOk, OnErr};
 ghost use Rattle.mls_tables.specs.declared.limits.TheConstants.{MAX_SUBJECTS, MAX_OBJECTS};
-ghost use Rattle.mls_tables.specs.Held.{Indexes};
+ghost use Rattle.mls_tables.specs.Held.{Indexes, Unlisted};
 
 use crate::ids::{ObjectId, SubjectId};
 use crate::lists::Lists;
@@ -94,7 +94,7 @@ impl<A: Allocator> Index<A> {
         requires column { o < length self.old.subjects.lists }
         ensures rows { length self.new.objects.lists ≡ length self.old.objects.lists }
         ensures columns { length self.new.subjects.lists ≡ length self.old.subjects.lists }
-        ensures gone { (p : ℕ → ℕ → Bool) → Indexes p self.old.objects.lists self.old.subjects.lists → Indexes (λ a b. p a b && not (a == s && b == o)) self.new.objects.lists self.new.subjects.lists }
+        ensures gone { Unlisted (λ a b. a == s && b == o) self.old.objects.lists self.old.subjects.lists self.new.objects.lists self.new.subjects.lists }
     {
         take_object(&mut self.objects, s, o);
         take_subject(&mut self.subjects, o, s);
@@ -106,7 +106,7 @@ impl<A: Allocator> Index<A> {
         requires subjects { All (λ s. s < length self.old.objects.lists) (slice_index_or self.old.subjects.lists o []) }
         ensures rows { length self.new.objects.lists ≡ length self.old.objects.lists }
         ensures columns { length self.new.subjects.lists ≡ length self.old.subjects.lists }
-        ensures gone { (p : ℕ → ℕ → Bool) → Indexes p self.old.objects.lists self.old.subjects.lists → Indexes (λ a b. p a b && not (b == o)) self.new.objects.lists self.new.subjects.lists }
+        ensures gone { Unlisted (λ a b. b == o) self.old.objects.lists self.old.subjects.lists self.new.objects.lists self.new.subjects.lists }
     {
         let column = usize::from(o.number());
         take_from_each(&mut self.objects, self.subjects.list(column), o);

@@ -2,7 +2,7 @@
 ghost use Rattle.std.specs.Prelude.{◌≡◌, ℕ, ◌<◌, ◌==◌, ◌&&◌, ◌||◌, Bool, not, [], All, length, filter, slice_index_or, slice_set};
 ghost use Rattle.std.specs.List.{list_any};
 ghost use Rattle.std.specs.List.Sorted.{IsStrictlyIncreasing};
-ghost use Rattle.mls_tables.specs.Rows.{IsInRange, FoundAt, IsRows};
+ghost use Rattle.mls_tables.specs.Rows.{IsInRange, FoundAt, IsRows, TakenOut};
 
 use crate::ids::{ObjectId, SubjectId};
 use crate::lists::Lists;
@@ -46,7 +46,7 @@ pub(crate) fn take_from_each<A: Allocator>(
 )
     requires { All (λ s. s < length objects.old.lists) holders.now }
     ensures many { length objects.new.lists ≡ length objects.old.lists }
-    ensures taken { (p : ℕ → ℕ → Bool) (n : ℕ) → IsRows p n objects.old.lists → IsRows (λ a b. p a b && not (list_any (λ s. a == s) holders.now && b == o)) n objects.new.lists }
+    ensures taken { TakenOut holders.now o objects.old.lists objects.new.lists }
 {
     for s in holders {
         take_object(objects, *s, o);

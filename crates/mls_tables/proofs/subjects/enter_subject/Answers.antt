@@ -1,4 +1,4 @@
-use Rattle.std.proofs.Common.{◌≡◌, ◌<◌, ◌==◌, ◌&&◌, ◌||◌, not, length, subst, ◌∙◌, arith}
+use Rattle.std.proofs.Common.{◌≡◌, ◌<◌, ◌==◌, ◌&&◌, ◌||◌, length, subst, ◌∙◌, arith}
 use Rattle.mls_tables.specs.Rows.{IsRows}
 use Rattle.mls_tables.proofs.Rows.{IsRows-entered}
 use Rattle.mls_tables.proofs.subjects.enter_subject.Goals as goal

@@ -17,4 +17,4 @@ invariant_of-self g c =
     let matrix = c.self.inside.matrix in
     let after = c.unlink_object.new.self in
     rw c.clear_object.ensures (IsIndexed-changed matrix index.objects.lists index.subjects.lists after.objects.lists after.subjects.lists (without_object matrix.triples c.args.o) c.self.invariant c.unlink_object.ensures.rows c.unlink_object.ensures.columns
-    (Indexes-same _ (is_held (without_object matrix.triples c.args.o)) after.objects.lists after.subjects.lists (λ a b. sym (held_without matrix.triples c.args.o a b)) (c.unlink_object.ensures.gone (is_held matrix.triples) c.self.invariant.held)))
+    (Indexes-same _ (is_held (without_object matrix.triples c.args.o)) after.objects.lists after.subjects.lists (λ a b. sym (held_without matrix.triples c.args.o a b)) (c.unlink_object.ensures.gone.told (is_held matrix.triples) c.self.invariant.held)))

@@ -1,4 +1,4 @@
-use Rattle.std.proofs.Common.{◌≡◌, ◌+◌, ◌-◌, ◌<◌, length, take, get_or, sym, ap, ◌∙◌, arith, rules}
+use Rattle.std.proofs.Common.{◌≡◌, ◌+◌, ◌-◌, ◌<◌, length, take, sym, ap, ◌∙◌, arith, rules}
 use Rattle.mls_tables.specs.Table.{Table, without_object, without_objects}
 use Rattle.mls_tables.proofs.Within.{without_objects-none}
 use Rattle.mls_tables.proofs.IndexedTable.{without_objects-last}

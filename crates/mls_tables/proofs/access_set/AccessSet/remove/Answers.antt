@@ -1,6 +1,5 @@
 use Rattle.std.proofs.Common.{sym}
 use Rattle.std.specs.FinSet as set
-use Rattle.std.proofs.lemmas.Bool.{not-true}
 use Rattle.mls_tables.specs.Held.{is_held}
 use Rattle.mls_tables.proofs.Held.{held_remove}
 use Rattle.mls_tables.proofs.Indexes.{Indexes-same}
