@@ -1,5 +1,5 @@
 -- Feeds that sessions ask to their end, and what of it stands in the journal.
-use Rattle.std.proofs.Common.{◌≡◌, ℕ, zero, suc, ◌+◌, ◌<◌, List, [], ◌∷◌, ◌++◌, length, map, take, get_or, refl, sym, ap, ◌∙◌, subst, inl, inr, arith, append-nil, append_assoc, length-append, Option, Some, None, drop}
+use Rattle.std.proofs.Common.{◌≡◌, ℕ, zero, suc, ◌+◌, ◌<◌, List, [], ◌∷◌, ◌++◌, length, map, take, get_or, refl, sym, ap, ◌∙◌, subst, inl, inr, arith, append-nil, append_assoc, length-append, Option, Some, drop}
 use Rattle.std.proofs.lemmas.List.{append_cancel_left, map-append, nil_from_length, take_more}
 use lib.Seq.{drop-append_seam, take-length}
 use mathlib.Core.List.{IsPrefix, cons≢nil}
@@ -11,12 +11,13 @@ use Rattle.mls_sessions.specs.Rule.{begun, base, news, member}
 use Rattle.mls_sessions.specs.Sessions.{Office, Session, session_at, IsOf, HasAll, newcomers, history, own, member_of, number_of}
 use Rattle.mls_sessions.specs.declared.gate_table.View.TheVariants.{Sessions}
 use Rattle.mls_sessions.specs.Runs.{Returned}
-use Rattle.mls_sessions.specs.Feeds.{Exchange, Turn, asks_of, answers_of, in_turns, AreTold, Learns, GaveAhead, Heard, Halted, Gave, Talks, Ends, Serves, Row, AllToTheEnd, AllServe, AllServed, AllFed, AllTold}
+use Rattle.mls_sessions.specs.Feeds.{Exchange, Turn, asks_of, answers_of, in_turns, AreTold, Learns, GaveAhead, Heard, Halted, Gave, Talks, Tells, Halts, TakesTurn, BreaksOff, Ends, Serves, Row, AllToTheEnd, AllServe, AllServed, AllFed, AllTold}
 use Rattle.mls_sessions.specs.declared.asked.Asked.{Asked}
 use Rattle.mls_sessions.specs.declared.asked.Asked.TheVariants.{ToTheEnd, UntilRefused, NotAtAll}
 use Rattle.mls_sessions.specs.declared.feed.Answer.{Answer as Told}
 use Rattle.mls_sessions.proofs.OwnEntries.{own-append}
 use Rattle.mls_sessions.proofs.Exchanges.{told_then, told_longer}
+use Rattle.mls_sessions.proofs.Learnt.{history_is}
 
 abbrev head_or : {A : Type 0} → A → List A → A
 head_or d [] = d
@@ -25,9 +26,6 @@ head_or d (x ∷ xs) = x
 abbrev tail_of : {A : Type 0} → List A → List A
 tail_of [] = []
 tail_of (x ∷ xs) = xs
-
-history_is : (o : Office) (s : Session) → IsOf o s → history s.view ≡ base o.charter ++ (member_of s.view).later
-history_is o s is = ap history is.1
 
 -- the first sessions of an office have their places for numbers, and have seen its base
 abbrev Numbered : Office → ℕ → List Session → Type 0
@@ -63,6 +61,10 @@ module _ {F : Type 0} (gives : F → Option Ask → F → Type 0) (gives_ahead :
   pub gave_one : (f g h : F) (asks now : List Ask) (a : Ask) → Gave gives gives_ahead f asks g → gives_ahead g a h → now ≡ asks ++ a ∷ [] → Gave gives gives_ahead f now h
   gave_one f g h asks now a so given is =
       record { first = so.first; more = so.more ++ a ∷ []; are = is ∙ ap (λ xs. xs ++ a ∷ []) so.are; asked = so.asked; gives_it = so.gives_it; gave_more = ahead_one so.asked g h so.more a so.gave_more given }
+
+  -- the first two
+  pub gave_two : (f g h : F) (asks : List Ask) (a b : Ask) → gives f (Some a) g → gives_ahead g b h → asks ≡ a ∷ b ∷ [] → Gave gives gives_ahead f asks h
+  gave_two f g h asks a b given ahead is = record { first = a; more = b ∷ []; are = is; asked = g; gives_it = given; gave_more = (h, ahead, refl) }
 
 heard_one : {F : Type 0} (hears : F → Told → F → Type 0) (f g h : F) (answers : List Told) (t : Told) → Heard hears f answers g → hears g t h → Heard hears f (answers ++ t ∷ []) h
 heard_one hears f g h [] t so heard = (h, subst (λ z. hears z t h) (sym so) heard, refl)
@@ -122,16 +124,43 @@ module _ {F : Type 0} (gives : F → Option Ask → F → Type 0) (gives_ahead :
             (subst (λ ts. Heard hears h ts i) answered heard);
       }
 
-  pub asking_more : (o : Office) (s t u : Session) (f g h i : F) (asks : List Ask) (answers : List Told) → Asking o s f t g → number_of t.view ≡ number_of s.view → Gave gives gives_ahead g asks h
-      → Learns o.charter t.view asks answers u.view → Heard hears h answers i → Asking o s f u i
-  asking_more o s t u f g h i asks answers so same gave learns heard =
-      turn_more o s t u f g h i asks answers learns.exchanges learns.since so same gave learns.asked learns.answered heard learns.grew learns.told
+  pub asking_on : (o : Office) (s t u : Session) (f g h : F) → Asking o s f t g → number_of t.view ≡ number_of s.view → TakesTurn gives gives_ahead hears o t g u h → Asking o s f u h
+  asking_on o s t u f g h so same took =
+      let learns = took.tells.learns in
+      turn_more o s t u f g took.full h took.asks took.tells.answers learns.exchanges learns.since so same took.gave learns.asked learns.answered took.tells.heard learns.grew learns.told
 
-  -- the same, by the lists that hold the asks and the answers
-  pub asking_on : (o : Office) (s t u : Session) (f g h i : F) (asks qs : List Ask) (answers ts : List Told) (n : ℕ) → Asking o s f t g → number_of t.view ≡ number_of s.view → Gave gives gives_ahead g asks h
-      → Learns o.charter t.view (take n qs) answers u.view → n ≡ length qs → qs ≡ asks → ts ≡ answers → Heard hears h ts i → Asking o s f u i
-  asking_on o s t u f g h i asks qs answers ts n so same gave learns all are answered heard =
-      asking_more o s t u f g h i asks answers so same gave (subst (λ zs. Learns o.charter t.view zs answers u.view) (ap (λ m. take m qs) all ∙ take-length qs ∙ are) learns) (subst (λ ys. Heard hears h ys i) answered heard)
+  -- one turn
+  pub takes_turn : (o : Office) (s t : Session) (f g h : F) (asks : List Ask) → Gave gives gives_ahead f asks g → Tells hears o s g asks t h → TakesTurn gives gives_ahead hears o s f t h
+  takes_turn o s t f g h asks gave tells = record { asks = asks; full = g; gave = gave; tells = tells }
+
+-- what a feed is told in it: the answer to one ask, those to all, by the lists that hold asks and answers
+module _ {F : Type 0} (hears : F → Told → F → Type 0) where
+  pub tells_one : (o : Office) (s t : Session) (f g : F) (a : Ask) (answer : Told) → Learns o.charter s.view (a ∷ []) (answer ∷ []) t.view → hears f answer g → Tells hears o s f (a ∷ []) t g
+  tells_one o s t f g a answer learns heard = record { answers = answer ∷ []; learns = learns; heard = (g, heard, refl) }
+
+  pub tells_all : (o : Office) (s t : Session) (f g : F) (asks : List Ask) (answers ts : List Told) (n : ℕ) → Learns o.charter s.view (take n asks) answers t.view → n ≡ length asks → ts ≡ answers → Heard hears f ts g
+      → Tells hears o s f asks t g
+  tells_all o s t f g asks answers ts n learns all are heard = record {
+    answers = answers;
+    learns = subst (λ xs. Learns o.charter s.view xs answers t.view) (ap (λ m. take m asks) all ∙ take-length asks) learns;
+    heard = subst (λ ys. Heard hears f ys g) are heard;
+  }
+
+-- the same where an allocation failed
+module _ {F : Type 0} (hears : F → Told → F → Type 0) (stops : F → F → Type 0) where
+  pub halts_one : (o : Office) (s t : Session) (f g : F) (a : Ask) → t ≡ s → stops f g → Halts hears stops o s f (a ∷ []) t g
+  halts_one o s t f g a same stopped = record {
+    answered = 0;
+    answers = [];
+    learns = subst (λ (u : Session). Learns o.charter s.view [] [] u.view) (sym same) (record { exchanges = []; since = []; asked = refl; answered = refl; grew = sym (append-nil (history s.view)); told = refl });
+    not_all = omega arith;
+    halted = record { heard = f; told = refl; stopped = stopped };
+  }
+
+  pub halts_all : (o : Office) (s t : Session) (f g : F) (asks : List Ask) (answers ts : List Told) (n : ℕ) → Learns o.charter s.view (take n asks) answers t.view → n < length asks → ts ≡ answers → Halted hears stops f ts g
+      → Halts hears stops o s f asks t g
+  halts_all o s t f g asks answers ts n learns some are halted =
+      record { answered = n; answers = answers; learns = learns; not_all = some; halted = subst (λ ys. Halted hears stops f ys g) are halted }
 
 -- what a session asked stands in a journal that begins with its history and has just its own part
 own_told : (o : Office) (j : Journal) (k : ℕ) (s t : Session) (since : List Entry) (xs : List Exchange) → number_of s.view ≡ k → history s.view ≡ base o.charter → IsOf o t → number_of t.view ≡ number_of s.view
@@ -152,22 +181,14 @@ own_told o j k s t since xs number_is seen_base is same begins mine grew told =
     subst (λ es. AreTold (begun o.charter) k (base o.charter) es xs) (sym new) (told_longer (begun o.charter) k (base o.charter) since more xs are none)
 
 module _ {F : Type 0} (gives : F → Option Ask → F → Type 0) (gives_ahead : F → Ask → F → Type 0) (hears : F → Told → F → Type 0) (stops : F → F → Type 0) where
-  -- a feed that gave nothing more, one that was stopped, and one that was left alone
-  pub serves_end : (o : Office) (s t : Session) (f g h : F) → Asking gives gives_ahead hears o s f t g → gives g None h → Serves gives gives_ahead hears stops o s f ToTheEnd t h
-  serves_end o s t f g h so given =
-      record {
-        turns = so.turns;
-        last = [];
-        since = so.since;
-        grew = so.grew;
-        told = subst (AreTold (begun o.charter) (number_of s.view) (history s.view) so.since) (sym (append-nil (in_turns so.turns))) so.told;
-        ends = ((g, so.talks, given), refl);
-      }
+  -- a feed that was stopped, and one that was left alone
+  pub breaks_off : (o : Office) (s t : Session) (f g h : F) (asks : List Ask) → Gave gives gives_ahead f asks g → Halts hears stops o s g asks t h → BreaksOff gives gives_ahead hears stops o s f t h
+  breaks_off o s t f g h asks gave halts = record { asks = asks; full = g; gave = gave; halts = halts }
 
-  pub serves_stopped : (o : Office) (s t u : Session) (f g h z : F) (asks qs : List Ask) (answers ts : List Told) (n : ℕ) → Asking gives gives_ahead hears o s f t g → number_of t.view ≡ number_of s.view
-      → Gave gives gives_ahead g asks h → Learns o.charter t.view (take n qs) answers u.view → n < length qs → qs ≡ asks → ts ≡ answers → Halted hears stops h ts z
-      → Serves gives gives_ahead hears stops o s f UntilRefused u z
-  serves_stopped o s t u f g h z asks qs answers ts n so same gave learns some are answered halted =
+  pub serves_stopped : (o : Office) (s t u : Session) (f g h : F) → Asking gives gives_ahead hears o s f t g → number_of t.view ≡ number_of s.view → BreaksOff gives gives_ahead hears stops o t g u h
+      → Serves gives gives_ahead hears stops o s f UntilRefused u h
+  serves_stopped o s t u f g h so same broke =
+      let learns = broke.halts.learns in
       let next = grew_more gives gives_ahead hears o s t u f g learns.exchanges learns.since so same learns.grew learns.told in
       record {
         turns = so.turns;
@@ -178,13 +199,13 @@ module _ {F : Type 0} (gives : F → Option Ask → F → Type 0) (gives_ahead :
         ends = inl (record {
           before = g;
           talks = so.talks;
-          asks = asks;
-          full = h;
-          gave = gave;
-          answered = n;
-          first = ap (λ xs. take n xs) (sym are) ∙ learns.asked;
-          not_all = subst (λ xs. n < length xs) are some;
-          halted = subst (λ ys. Halted hears stops h ys z) (answered ∙ learns.answered) halted;
+          asks = broke.asks;
+          full = broke.full;
+          gave = broke.gave;
+          answered = broke.halts.answered;
+          first = learns.asked;
+          not_all = broke.halts.not_all;
+          halted = subst (λ ys. Halted hears stops broke.full ys h) learns.answered broke.halts.halted;
         });
       }
 

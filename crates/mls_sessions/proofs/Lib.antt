@@ -1,5 +1,6 @@
 mod OwnEntries
 mod Exchanges
+mod Learnt
 mod StepsKeep
 mod Turns
 mod SeatsKeep

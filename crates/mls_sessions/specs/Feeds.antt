@@ -12,6 +12,8 @@ use Rattle.mls_sessions.specs.Sessions.{Office, Session, history, number_of}
 use Rattle.mls_sessions.specs.declared.gate_table.View.{View}
 use Rattle.mls_sessions.specs.declared.asked.Asked.{Asked}
 use Rattle.mls_sessions.specs.declared.asked.Asked.TheVariants.{ToTheEnd, UntilRefused, NotAtAll}
+use Rattle.mls_sessions.specs.declared.given.Given.{Given}
+use Rattle.mls_sessions.specs.declared.given.Given.TheVariants.{Nothing, One, Several}
 use Rattle.mls_sessions.specs.declared.feed.Answer.{Answer as Told}
 use Rattle.mls_sessions.specs.declared.feed.Answer.TheVariants as told
 
@@ -113,6 +115,26 @@ pub record Gave {F : Type 0} (gives : F → Option Ask → F → Type 0) (gives_
   pub gives_it : gives f (Some first) asked
   pub gave_more : GaveAhead gives_ahead asked more g
 
+-- What a feed gave in one turn: one ask alone, or what stands in a list. (own)
+abbrev pub asks_given : Given → List Ask → List Ask
+asks_given Nothing asks = []
+asks_given (One a) asks = a ∷ []
+asks_given Several asks = asks
+
+-- A session asked this for a feed that hears answers in this way, and told it the answers. (own)
+pub record Tells {F : Type 0} (hears : F → Told → F → Type 0) (o : Office) (s : Session) (f : F) (asks : List Ask) (t : Session) (g : F) : Type 0 where
+  pub answers : List Told
+  pub learns : Learns o.charter s.view asks answers t.view
+  pub heard : Heard hears f answers g
+
+-- The same where an allocation failed before all was answered: it told the feed the answers to the first of it, and that it is stopped. (own)
+pub record Halts {F : Type 0} (hears : F → Told → F → Type 0) (stops : F → F → Type 0) (o : Office) (s : Session) (f : F) (asks : List Ask) (t : Session) (g : F) : Type 0 where
+  pub answered : ℕ
+  pub answers : List Told
+  pub learns : Learns o.charter s.view (take answered asks) answers t.view
+  pub not_all : answered < length asks
+  pub halted : Halted hears stops f answers g
+
 -- Of feeds that give asks and hear answers in these ways.
 module _ {F : Type 0} (gives : F → Option Ask → F → Type 0) (gives_ahead : F → Ask → F → Type 0) (hears : F → Told → F → Type 0) where
   -- The feed gave these asks, turn by turn, and was told these answers, those of a turn once it had given all of its asks. (own)
@@ -121,6 +143,13 @@ module _ {F : Type 0} (gives : F → Option Ask → F → Type 0) (gives_ahead :
   Talks f (turn ∷ turns) g =
       (asked : F) × (full : F) × (heard : F) × gives f (Some turn.0.0) asked × GaveAhead gives_ahead asked (asks_of turn.1) full
       × Heard hears full (answers_of (turn.0 ∷ turn.1)) heard × Talks heard turns g
+
+  -- A session asked for what the feed gave in one turn, and told it the answers. (own)
+  pub record TakesTurn (o : Office) (s : Session) (f : F) (t : Session) (g : F) : Type 0 where
+    pub asks : List Ask
+    pub full : F
+    pub gave : Gave gives gives_ahead f asks full
+    pub tells : Tells hears o s full asks t g
 
   -- It did so, and then gave nothing more. (own)
   abbrev pub Fed : F → List Turn → F → Type 0
@@ -166,6 +195,13 @@ module _ {F : Type 0} (gives : F → Option Ask → F → Type 0) (gives_ahead :
     pub first : take answered asks ≡ asks_of last
     pub not_all : answered < length asks
     pub halted : Halted hears stops full (answers_of last) g
+
+  -- A session asked for what the feed gave in one turn, and broke off where an allocation failed. (own)
+  pub record BreaksOff (o : Office) (s : Session) (f : F) (t : Session) (g : F) : Type 0 where
+    pub asks : List Ask
+    pub full : F
+    pub gave : Gave gives gives_ahead f asks full
+    pub halts : Halts hears stops o s full asks t g
 
   -- How a feed comes back that was asked so far: to its end; until it was stopped, or left alone where there was no room for what it asks; or left
   -- alone. (own)

@@ -4,8 +4,8 @@ ghost use Rattle.mls_sessions.specs.Sessions.{IsOf, number_of};
 ghost use Rattle.mls_sessions.specs.Feeds.{Serves};
 
 use crate::asked::Asked;
+use crate::exchange::take_turn;
 use crate::feed::{Answer, Feed, Stage};
-use crate::gathering::{gather, halt, tell};
 use crate::limits::AHEAD;
 use crate::office::Office;
 use crate::session::Session;
@@ -33,19 +33,19 @@ fn attend<R: Wait, F: Feed>(
     ensures done { result.2 ≡ Asked.ToTheEnd → F.stands_at result.1 ≡ Stage.Done }
     ensures served { Serves F.gives F.gives_ahead F.hears F.stops office.now session feed result.2 result.0 result.1 }
 {
-    while gather(&mut feed, &mut asks) {
-        answers.clear();
-        match session.ask_all(office, rt, &asks, &mut answers) {
-            Ok(()) => tell(&mut feed, &answers),
+    loop {
+        match take_turn(rt, office, &mut session, &mut feed, &mut asks, &mut answers) {
+            Ok(true) => {}
+            Ok(false) => {
+                office.lobby.leave();
+                return (session, feed, Asked::ToTheEnd);
+            }
             Err(_) => {
-                halt(&mut feed, &answers);
                 office.lobby.leave();
                 return (session, feed, Asked::UntilRefused);
             }
         }
     }
-    office.lobby.leave();
-    (session, feed, Asked::ToTheEnd)
 }
 
 /// The same, unless it is to be left alone. Where there is no room for what is asked in one turn, the feed is asked nothing.

@@ -1,8 +1,9 @@
 //! What a feed asks in one turn at the gate, and what it is told after it.
-ghost use Rattle.std.specs.Prelude.{◌≡◌, ◌<◌, ◌≤◌, ◌+◌, ◌∷◌, ◌++◌, [], true, false, length, None, vec_len, vec_capacity};
-ghost use Rattle.mls_sessions.specs.Feeds.{Gave, Heard, Halted};
+ghost use Rattle.std.specs.Prelude.{◌≡◌, ◌≢◌, ◌<◌, ◌≤◌, ◌+◌, ◌∷◌, ◌++◌, [], true, false, length, None, vec_len, vec_capacity};
+ghost use Rattle.mls_sessions.specs.Feeds.{Gave, Heard, Halted, asks_given};
 
 use crate::feed::{Answer, Feed, Stage};
+use crate::given::Given;
 use crate::limits::AHEAD;
 use mls_requests::Ask;
 
@@ -19,30 +20,34 @@ pub(crate) fn keep<T>(kept: &mut Vec<T>, item: T)
     }
 }
 
-/// What the feed asks next, and what it asks ahead, as long as there is room; or whether nothing comes any more.
-#[tactic(auto, using(crate::proofs::Feeds::gave_first, crate::proofs::Feeds::gave_one))]
-pub(crate) fn gather<F: Feed>(feed: &mut F, asks: &mut Vec<Ask>) -> bool
+/// What the feed asks next, and what it asks ahead, as long as there is room. One ask alone isn't put into the list.
+#[tactic(auto, using(crate::proofs::Feeds::gave_first, crate::proofs::Feeds::gave_two, crate::proofs::Feeds::gave_one))]
+pub(crate) fn gather<F: Feed>(feed: &mut F, asks: &mut Vec<Ask>) -> Given
     requires ready { F.stands_at feed.old ≡ Stage.Ready }
     requires room { AHEAD ≤ vec_capacity asks.old }
     ensures room { AHEAD ≤ vec_capacity asks.new }
-    ensures many { vec_len asks.new ≤ AHEAD }
-    ensures less { result ≡ true → F.asks_left feed.new < F.asks_left feed.old }
-    ensures waits { result ≡ true → (F.stands_at feed.new ≡ Stage.Waiting) × (F.waits_for feed.new ≡ vec_len asks.new) × (0 < vec_len asks.new) }
-    ensures gave { result ≡ true → Gave F.gives F.gives_ahead feed.old asks.new.items feed.new }
-    ensures done { result ≡ false → (F.stands_at feed.new ≡ Stage.Done) × F.gives feed.old None feed.new }
+    ensures many { result ≡ Given.Several → vec_len asks.new ≤ AHEAD }
+    ensures less { result ≢ Given.Nothing → F.asks_left feed.new < F.asks_left feed.old }
+    ensures waits { result ≢ Given.Nothing → (F.stands_at feed.new ≡ Stage.Waiting) × (F.waits_for feed.new ≡ length (asks_given result asks.new.items)) × (0 < length (asks_given result asks.new.items)) }
+    ensures gave { result ≢ Given.Nothing → Gave F.gives F.gives_ahead feed.old (asks_given result asks.new.items) feed.new }
+    ensures done { result ≡ Given.Nothing → (F.stands_at feed.new ≡ Stage.Done) × F.gives feed.old None feed.new }
 {
-    asks.clear();
     let Some(first) = feed.next() else {
-        return false;
+        return Given::Nothing;
     };
+    let Some(second) = feed.ahead() else {
+        return Given::One(first);
+    };
+    asks.clear();
     keep(asks, first);
+    keep(asks, second);
     while asks.len() < AHEAD {
         let Some(ask) = feed.ahead() else {
-            return true;
+            return Given::Several;
         };
         keep(asks, ask);
     }
-    true
+    Given::Several
 }
 
 /// Tells the feed the answers to the first of what it gave.

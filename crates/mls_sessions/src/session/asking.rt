@@ -1,5 +1,5 @@
 //! What a session asks of the monitor: an entry, or whether a triple is a current access; waiting for the gate, or not.
-ghost use Rattle.std.specs.Prelude.{◌≡◌, ◌≢◌, ◌<◌, ◌≤◌, [], length, take, vec_len, vec_capacity, IfOk, IfErr, IsOk, OnOk, OnErr};
+ghost use Rattle.std.specs.Prelude.{◌≡◌, ◌≢◌, ◌<◌, ◌≤◌, ◌∷◌, [], length, take, vec_len, vec_capacity, IfOk, IfErr, IsOk, OnOk, OnErr};
 ghost use Rattle.std.specs.FinSet as set;
 ghost use Rattle.mls_monitor.specs.Journal.{fold};
 ghost use Rattle.mls_sessions.specs.Rule.{begun};
@@ -126,6 +126,32 @@ impl Session {
         match win(gate, &mut self.seat, name) {
             Ok(monitor) => Ok(inspect(gate, &mut self.seat, &mut self.counts, monitor, s, o, x)),
             Err(_) => Err(Busy),
+        }
+    }
+
+    /// Waits for the gate, and asks this.
+    ///
+    /// # Errors
+    /// `AllocError` where an allocation failed; the session is then as before, and so is the journal.
+    #[tactic(auto, using(crate::proofs::Learnt::learns_entry, crate::proofs::Learnt::learns_look))]
+    pub(crate) fn ask<R: Wait>(
+        &mut self,
+        office: &Office,
+        rt: &R,
+        ask: Ask,
+    ) -> Result<Answer, AllocError>
+        requires { IsOf office.now self.old }
+        ensures office { IsOf office.now self.new }
+        ensures number { number_of self.new.view ≡ number_of self.old.view }
+        ensures ok { IfOk result (λ answer. Learns office.now.charter self.old.view (ask ∷ []) (answer ∷ []) self.new.view) }
+        ensures err { OnErr result (self.new ≡ self.old) }
+    {
+        match ask {
+            Ask::Submit(request) => {
+                let entry = self.submit(office, rt, request)?;
+                Ok(Answer::Entry(entry))
+            }
+            Ask::Check(s, o, x) => Ok(Answer::Held(self.check(office, rt, s, o, x))),
         }
     }
 
