@@ -1,11 +1,12 @@
 -- What serving a script is made of, and going over lines that ask nothing.
-use Rattle.std.proofs.Common.{◌≡◌, ℕ, List, [], ◌∷◌, ◌++◌, Option, Some, None, Result, Ok, Err, refl, sym, ap, ◌∙◌, append_assoc, append-nil, subst}
+use Rattle.std.proofs.Common.{◌≡◌, ℕ, List, [], ◌∷◌, ◌++◌, Option, Some, None, Result, Ok, Err, refl, sym, ap, ◌∙◌, append_assoc, subst}
 use Rattle.mls_requests.specs.declared.ask.Ask.{Ask}
 use Rattle.mls_requests.specs.declared.ask.Ask.TheVariants.{Submit, Check}
 use Rattle.mls_lines.specs.declared.fault.LineFault.{LineFault}
 use Rattle.mls_lines.specs.Names.{Names}
 use Rattle.mls_lines.specs.LineView.{LineView, Blank, Asks}
 use Rattle.mls_lines.specs.ScriptLine.{line_of}
+use Rattle.mls_scripts.specs.declared.answer.Answer.TheVariants.{Fault}
 use Rattle.mls_scripts.specs.Script.{Standing, answer_bytes, said_to, left_by, answer_to, after_line, answers, after_lines}
 use Rattle.mls_scripts.specs.Halves.{Asking, ask_in, aside, Halt, halt_by, next_of, heard_by, vars_told, told_by, after_ask, ByHalves}
 
@@ -86,43 +87,26 @@ pub record GoneOver (whole later : Halt) (before now : List ℕ) : Type 0 where
   pub asks : whole.asks ≡ later.asks
   pub rest : whole.rest ≡ later.rest
 
-pub gone_none : (whole : Halt) (before : List ℕ) → GoneOver whole whole before before
-gone_none whole before = record { text = refl; asks = refl; rest = refl }
-
 module _ (names : Names) (vars : List (List ℕ × ℕ)) where
   next_line : (lines more : List (List ℕ)) (line : List ℕ) → lines ≡ line ∷ more
       → next_of names vars lines ≡ halt_by (ask_in (line_of names vars line)) (aside (line_of names vars line)) more (next_of names vars more)
   unfolding next_of
   next_line lines more line cut = ap (next_of names vars) cut
 
-  -- one more that asks nothing
-  pub gone_more : (whole : Halt) (before now grows : List ℕ) (lines more : List (List ℕ)) (line : List ℕ) → GoneOver whole (next_of names vars lines) before now → lines ≡ line ∷ more
-      → ask_in (line_of names vars line) ≡ None → grows ≡ now ++ aside (line_of names vars line) → GoneOver whole (next_of names vars more) before grows
-  gone_more whole before now grows lines more line g cut none grown =
-      let e = next_line lines more line cut ∙ ap (λ q. halt_by q (aside (line_of names vars line)) more (next_of names vars more)) none in
-      record {
-        text = ap (λ t. t ++ (next_of names vars more).text) grown ∙ append_assoc now (aside (line_of names vars line)) _ ∙ ap (λ h. now ++ h.text) (sym e) ∙ g.text;
-        asks = g.asks ∙ ap (λ h. h.asks) e;
-        rest = g.rest ∙ ap (λ h. h.rest) e;
-      }
+  -- one that is a fault
+  pub at_fault : (whole : Halt) (lines more : List (List ℕ)) (line : List ℕ) (fault : LineFault) → whole ≡ next_of names vars lines → lines ≡ line ∷ more → Err fault ≡ line_of names vars line
+      → whole ≡ halt_by None (answer_bytes (Fault fault)) more (next_of names vars more)
+  at_fault whole lines more line fault so cut is =
+      so ∙ next_line lines more line cut ∙ ap (λ said. halt_by (ask_in said) (aside said) more (next_of names vars more)) (sym is)
 
-  -- one that asks
-  pub gone_to : (whole : Halt) (before now grows : List ℕ) (lines more : List (List ℕ)) (line : List ℕ) (q : Asking) → GoneOver whole (next_of names vars lines) before now → lines ≡ line ∷ more
-      → Some q ≡ ask_in (line_of names vars line) → grows ≡ now ++ aside (line_of names vars line)
-      → (grows ≡ before ++ whole.text) × (Some q ≡ whole.asks) × (more ≡ whole.rest)
-  gone_to whole before now grows lines more line q g cut some grown =
-      let e = next_line lines more line cut ∙ ap (λ a. halt_by a (aside (line_of names vars line)) more (next_of names vars more)) (sym some) in
-      (grown ∙ ap (λ h. now ++ h.text) (sym e) ∙ g.text, ap (λ h. h.asks) (sym e) ∙ sym g.asks, ap (λ h. h.rest) (sym e) ∙ sym g.rest)
-
-  -- none are left
-  pub gone_all : (whole : Halt) (before now : List ℕ) (lines : List (List ℕ)) → GoneOver whole (next_of names vars lines) before now → lines ≡ []
-      → (now ≡ before ++ whole.text) × (None ≡ whole.asks) × (lines ≡ whole.rest)
+  -- none
+  pub at_none : (whole : Halt) (lines : List (List ℕ)) → whole ≡ next_of names vars lines → lines ≡ [] → whole ≡ record { text = []; asks = None; rest = lines }
   unfolding next_of
-  gone_all whole before now lines g none =
-      let e : next_of names vars lines ≡ record { text = []; asks = None; rest = [] } = ap (next_of names vars) none in
-      (sym (append-nil now) ∙ ap (λ h. now ++ h.text) (sym e) ∙ g.text, ap (λ h. h.asks) (sym e) ∙ sym g.asks, none ∙ ap (λ h. h.rest) (sym e) ∙ sym g.rest)
+  at_none whole lines so none =
+      let ends : List (List ℕ) → Halt = λ ls. record { text = []; asks = None; rest = ls } in
+      so ∙ ap (next_of names vars) none ∙ ap ends (sym none)
 
-  -- of lines that a script looks at ahead of an answer: one that is blank
+  -- one that is blank
   pub past_blank : (whole : Halt) (lines more : List (List ℕ)) (line : List ℕ) → whole ≡ next_of names vars lines → lines ≡ line ∷ more → Ok Blank ≡ line_of names vars line → whole ≡ next_of names vars more
   past_blank whole lines more line so cut blank =
       so ∙ next_line lines more line cut ∙ ap (λ said. halt_by (ask_in said) (aside said) more (next_of names vars more)) (sym blank)

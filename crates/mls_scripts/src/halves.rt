@@ -1,13 +1,11 @@
 //! The two halves of a script's step: what a line asks, and what is made of the answer.
 ghost use Rattle.std.specs.Prelude.{◌≡◌, ◌<◌, ◌++◌, string_bytes, option_map, IfSome, IfOk, OnOk};
-ghost use Rattle.mls_lines.specs.ScriptLine.{line_of};
 ghost use Rattle.mls_scripts.specs.Script.{answer_bytes, vars_after};
-ghost use Rattle.mls_scripts.specs.Halves.{ask_in, aside, heard, vars_told};
-ghost use Rattle.mls_scripts.specs.Asking.{asking};
+ghost use Rattle.mls_scripts.specs.Halves.{heard, vars_told};
 
 use crate::answer::Answer;
 use crate::output::write_answer;
-use mls_lines::{Line, Names, Vars, read_line};
+use mls_lines::Vars;
 use mls_requests::{Ask, Reply};
 use mls_sessions::Answer as Told;
 use std::alloc::{AllocError, Allocator};
@@ -29,29 +27,6 @@ pub(crate) fn push_answer(text: &mut Vec<u8>, answer: Answer) -> Result<(), Allo
     match write_answer(text, answer) {
         Ok(()) => Ok(()),
         Err(_) => Err(AllocError),
-    }
-}
-
-/// What a line asks; where it asks nothing its answer is appended.
-///
-/// # Errors
-/// `AllocError` where an allocation failed.
-pub(crate) fn take_line<'a>(
-    names: &Names,
-    vars: &Vars,
-    line: &'a [u8],
-    text: &mut Vec<u8>,
-) -> Result<Option<Asking<'a>>, AllocError>
-    ensures asks { IfOk result (λ q. option_map asking q ≡ ask_in (line_of names.now vars.now.bound line.now)) }
-    ensures text { OnOk result (text.new.items ≡ text.old.items ++ aside (line_of names.now vars.now.bound line.now)) }
-{
-    match read_line(names, vars, line) {
-        Err(fault) => {
-            push_answer(text, Answer::Fault(fault))?;
-            Ok(None)
-        }
-        Ok(Line::Blank) => Ok(None),
-        Ok(Line::Ask { bind, ask }) => Ok(Some(Asking { bind, ask })),
     }
 }
 

@@ -1,14 +1,64 @@
 //! What a script that is fed asks next, what it asks ahead, and how that waits.
-ghost use Rattle.std.specs.Prelude.{◌≡◌, ◌<◌, ◌≤◌, ◌++◌, ◌∷◌, Some, [], length, option_map, IfSome, IfOk, OnOk, OnErr};
+ghost use Rattle.std.specs.Prelude.{◌≡◌, ◌≢◌, ◌<◌, ◌≤◌, ◌++◌, ◌∷◌, [], length, option_map, IfSome, IfOk, OnOk, OnErr};
 ghost use Rattle.mls_scripts.specs.Lines.{lines_of};
 ghost use Rattle.mls_scripts.specs.Halves.{next_of};
-ghost use Rattle.mls_scripts.specs.Asking.{asking};
+ghost use Rattle.mls_scripts.specs.Asking.{asking, halt_at};
 
-use crate::halves::{Asking, take_line};
+use crate::answer::Answer;
+use crate::halves::{Asking, push_answer};
 use crate::lines::first_line;
-use mls_lines::{Line, Names, Vars, read_line};
+use mls_lines::{Line, LineFault, Names, Vars, read_line};
 use std::alloc::AllocError;
 use std::collections::VecDeque;
+
+/// What stands next in a script.
+#[derive(Clone, Copy)]
+pub enum Next<'a> {
+    /// Nothing: the script ends.
+    End,
+    /// A line that asks nothing: its fault.
+    Fault(LineFault),
+    /// A line that asks.
+    Asks(Asking<'a>),
+}
+
+/// What stands next in a script, blank lines aside, and the bytes after it.
+#[derive(Clone, Copy)]
+pub struct Seen<'a> {
+    pub next: Next<'a>,
+    pub rest: &'a [u8],
+}
+
+/// Looks for the next line that isn't blank. It doesn't allocate.
+#[tactic(auto, using(crate::proofs::HalfSteps::past_blank))]
+pub(crate) fn look<'a>(names: &Names, vars: &Vars, bytes: &'a [u8]) -> Seen<'a>
+    ensures next { next_of names.now vars.now.bound (lines_of bytes.now) ≡ halt_at names.now vars.now.bound result.next (lines_of result.rest.now) }
+    ensures left { length result.rest.now ≤ length bytes.now }
+    ensures less { result.next ≢ Next.End → length result.rest.now < length bytes.now }
+{
+    let mut rest = bytes;
+    while let Some((line, more)) = first_line(rest) {
+        match read_line(names, vars, line) {
+            Ok(Line::Blank) => rest = more,
+            Err(fault) => {
+                return Seen {
+                    next: Next::Fault(fault),
+                    rest: more,
+                };
+            }
+            Ok(Line::Ask { bind, ask }) => {
+                return Seen {
+                    next: Next::Asks(Asking { bind, ask }),
+                    rest: more,
+                };
+            }
+        }
+    }
+    Seen {
+        next: Next::End,
+        rest,
+    }
+}
 
 /// Where a script halts: what it asks, where it doesn't end, and the bytes after that line.
 #[derive(Clone, Copy)]
@@ -34,48 +84,27 @@ pub(crate) fn go_over<'a>(
     ensures less { IfOk result (λ h. IfSome h.asks (λ _. length h.rest.now < length bytes.now)) }
 {
     let mut rest = bytes;
-    while let Some((line, more)) = first_line(rest) {
-        match take_line(names, vars, line, text) {
-            Err(_) => return Err(AllocError),
-            Ok(None) => rest = more,
-            Ok(Some(asks)) => {
+    loop {
+        let Seen { next, rest: more } = look(names, vars, rest);
+        match next {
+            Next::Fault(fault) => {
+                push_answer(text, Answer::Fault(fault))?;
+                rest = more;
+            }
+            Next::Asks(asks) => {
                 return Ok(Halt {
                     asks: Some(asks),
                     rest: more,
                 });
             }
-        }
-    }
-    Ok(Halt { asks: None, rest })
-}
-
-/// What a script asks ahead, and the bytes after that line.
-#[derive(Clone, Copy)]
-pub struct Ahead<'a> {
-    pub asks: Asking<'a>,
-    pub rest: &'a [u8],
-}
-
-/// What the next line asks that isn't blank. `None` where it is a fault, or where there is none. It doesn't allocate.
-#[tactic(auto, using(crate::proofs::HalfSteps::past_blank))]
-pub(crate) fn look_ahead<'a>(names: &Names, vars: &Vars, bytes: &'a [u8]) -> Option<Ahead<'a>>
-    ensures next { IfSome result (λ next. next_of names.now vars.now.bound (lines_of bytes.now) ≡ record { text = []; asks = Some (asking next.asks); rest = lines_of next.rest.now }) }
-    ensures less { IfSome result (λ next. length next.rest.now < length bytes.now) }
-{
-    let mut rest = bytes;
-    while let Some((line, more)) = first_line(rest) {
-        match read_line(names, vars, line) {
-            Err(_) => return None,
-            Ok(Line::Blank) => rest = more,
-            Ok(Line::Ask { bind, ask }) => {
-                return Some(Ahead {
-                    asks: Asking { bind, ask },
+            Next::End => {
+                return Ok(Halt {
+                    asks: None,
                     rest: more,
                 });
             }
         }
     }
-    None
 }
 
 /// Puts a copy behind those that wait.

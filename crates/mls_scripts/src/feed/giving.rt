@@ -5,7 +5,7 @@ ghost use Rattle.mls_scripts.specs.Fed.{Gives, GivesAhead, Takes};
 
 use crate::feed::ScriptFeed;
 use crate::halves::{bind_heard, hear, make_room, push_answer};
-use crate::looking::{enqueue, look_ahead};
+use crate::looking::{Next, Seen, enqueue, look};
 use mls_requests::Ask;
 use mls_sessions::{Answer as Told, Feed, Stage};
 
@@ -62,18 +62,19 @@ impl<'a> Feed for ScriptFeed<'a> {
         if self.stage != Stage::Waiting || self.room.is_some() {
             return None;
         }
-        let Some(next) = look_ahead(self.names, &self.vars, self.rest) else {
+        let Seen { next, rest } = look(self.names, &self.vars, self.rest);
+        let Next::Asks(asks) = next else {
             return None;
         };
-        let ask = next.asks.ask;
-        let Ok(room) = make_room(&mut self.vars, next.asks.bind) else {
+        let ask = asks.ask;
+        let Ok(room) = make_room(&mut self.vars, asks.bind) else {
             return None;
         };
         if enqueue(&mut self.asked, &ask).is_err() {
             return None;
         }
         self.room = room;
-        self.rest = next.rest;
+        self.rest = rest;
         Some(ask)
     }
 

@@ -4,11 +4,11 @@ use Rattle.mls_scripts.specs.Halves.{next_of}
 use Rattle.mls_scripts.proofs.HalfSteps.{GoneOver}
 use Rattle.mls_scripts.proofs.looking.go_over.Given as goal
 
-abbrev pub invariant-loop-line : goal.invariant-loop-line
-invariant-loop-line l = record {
+abbrev pub invariant-loop-fault : goal.invariant-loop-fault
+invariant-loop-fault l = record {
   gone : GoneOver (next_of l.names l.vars.bound (lines_of l.bytes)) (next_of l.names l.vars.bound (lines_of l.rest)) l.initial.text.items l.text.items;
   left : length l.rest ≤ length l.bytes;
 }
 
-abbrev pub decreases-loop-line : goal.decreases-loop-line
-decreases-loop-line l = length l.rest
+abbrev pub decreases-loop-fault : goal.decreases-loop-fault
+decreases-loop-fault l = length l.rest

@@ -1,7 +1,7 @@
 use Rattle.std.proofs.Common.{◌≡◌, ◌≤◌, length}
 use Rattle.mls_scripts.specs.Lines.{lines_of}
 use Rattle.mls_scripts.specs.Halves.{next_of}
-use Rattle.mls_scripts.proofs.looking.look_ahead.Given as goal
+use Rattle.mls_scripts.proofs.looking.look.Given as goal
 
 abbrev pub invariant-loop-line : goal.invariant-loop-line
 invariant-loop-line l = record {
