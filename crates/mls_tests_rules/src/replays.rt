@@ -152,13 +152,21 @@ fn a_replay_leads_where_the_requests_led(rt: HostRuntime) -> Result<(), Fail> {
     Ok(())
 }
 
+/// Gives four of the six entries to sessions of large numbers.
+fn ask_in_large_sessions(rt: &impl Abort, entries: &mut [Entry]) {
+    let [first, second, _, fourth, _, sixth] = entries else {
+        panic!(rt; "six entries")
+    };
+    first.session = u32::MAX;
+    second.session = 65_536;
+    fourth.session = 64;
+    sixth.session = u32::MAX - 1;
+}
+
 #[test]
 fn sessions_are_kept_whatever_their_numbers(rt: HostRuntime) -> Result<(), Fail> {
     let mut entries = climb();
-    entries[0].session = u32::MAX;
-    entries[1].session = 65_536;
-    entries[3].session = 64;
-    entries[5].session = u32::MAX - 1;
+    ask_in_large_sessions(&rt, &mut entries);
     is_replayed(&rt, rt.alloc(), &entries)?;
     Ok(())
 }

@@ -142,8 +142,8 @@ fn run_hasty<R: Threads + Wait + Sync>(
     rt: &R,
     alloc: Global,
 ) -> Result<(bool, usize, bool), AllocError> {
-    let monitor = standard_monitor(alloc)?;
     let feeds = make_feeds(alloc)?;
+    let monitor = standard_monitor(alloc)?;
     let left = match run_sessions(rt, alloc, monitor, feeds) {
         Ok(run) => {
             let journal = run.monitor.entries();

@@ -105,8 +105,8 @@ fn run<R: Threads + Wait + Sync>(
     feeds: usize,
     each: u64,
 ) -> Result<Left, AllocError> {
-    let monitor = standard_monitor(alloc)?;
     let feeds = make_feeds(alloc, feeds, each)?;
+    let monitor = standard_monitor(alloc)?;
     let left = match run_sessions(rt, alloc, monitor, feeds) {
         Ok(run) => {
             let left = left_by(None, &run.monitor, &run.feeds, each);
@@ -173,8 +173,8 @@ fn entries_of_one<R: Threads + Wait + Sync>(
     alloc: Global,
     each: u64,
 ) -> Result<usize, AllocError> {
-    let monitor = standard_monitor(alloc)?;
     let feeds = make_beside(alloc, each)?;
+    let monitor = standard_monitor(alloc)?;
     let left = match run_sessions(rt, alloc, monitor, feeds) {
         Ok(run) => {
             let is_told = run.feeds.last().is_some_and(|feed| feed.yes == each);

@@ -101,8 +101,8 @@ fn are_told<R: Threads + Wait + Sync>(
     alloc: Global,
     flag: &AtomicBool,
 ) -> Result<bool, AllocError> {
-    let monitor = standard_monitor(alloc)?;
     let feeds = make_two(alloc, flag)?;
+    let monitor = standard_monitor(alloc)?;
     let are_told = match run_sessions(rt, alloc, monitor, feeds) {
         Ok(run) => {
             let are_told = run.feeds.iter().all(|feed| feed.answers == 1);

@@ -124,8 +124,8 @@ fn run_keepers<R: Threads + Wait + Sync>(
     rt: &R,
     alloc: Global,
 ) -> Result<(u32, usize), AllocError> {
-    let monitor = standard_monitor(alloc)?;
     let feeds = make_feeds(alloc)?;
+    let monitor = standard_monitor(alloc)?;
     let found = match run_sessions(rt, alloc, monitor, feeds) {
         Ok(run) => {
             let journal = run.monitor.entries();
