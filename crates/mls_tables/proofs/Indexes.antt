@@ -90,12 +90,12 @@ Indexes-object_gone p o objects subjects objects' holders h here is rows = recor
   column b (inl same) = ap (λ k. get_or (set subjects o []) k []) same ∙ get_or-set_same subjects o [] [] here ∙ sym (listed-none MAX_SUBJECTS _ (λ s. ap (λ e. p s b && not e) (eq-eqb b o same) ∙ and-false (p s b)))
   column b (inr other) = get_or-set_other subjects o b [] [] other ∙ h.columns b ∙ ap (λ q. listed q MAX_SUBJECTS) (λ i s. (sym (and-true (p s b)) ∙ ap (λ e. p s b && not e) (sym (ne_eqb b o other))) i)
 
--- the same by what taking it out of each list and emptying its own say, wherever they found it
-pub object_gone : (o read emptied : ℕ) (objects subjects objects' subjects' : List (List ℕ)) (holders : List ℕ) → TakenOut holders o objects objects'
-    → holders ≡ get_or subjects read [] → subjects' ≡ set subjects emptied [] → read ≡ o → emptied ≡ o → o < length subjects
+-- the same by what taking it out of each list of its holders and emptying its own say
+pub object_gone : (o : ℕ) (objects subjects objects' subjects' : List (List ℕ)) (holders : List ℕ) → TakenOut holders o objects objects'
+    → holders ≡ get_or subjects o [] → subjects' ≡ set subjects o [] → o < length subjects
     → Unlisted (λ a b. eqb b o) objects subjects objects' subjects'
-object_gone o read emptied objects subjects objects' subjects' holders taken is cleared own_list own_place here = record {
+object_gone o objects subjects objects' subjects' holders taken is cleared here = record {
   told = λ p h.
-      subst (Indexes (λ a b. p a b && not (eqb b o)) objects') (sym (cleared ∙ ap (λ k. set subjects k []) own_place))
-      (Indexes-object_gone p o objects subjects objects' holders h here (is ∙ ap (λ k. get_or subjects k []) own_list) (taken.told p MAX_OBJECTS h.rows));
+      subst (Indexes (λ a b. p a b && not (eqb b o)) objects') (sym cleared)
+      (Indexes-object_gone p o objects subjects objects' holders h here is (taken.told p MAX_OBJECTS h.rows));
 }

@@ -1,5 +1,5 @@
 -- A number entered into a strictly increasing list, or taken out of it, at the place that a search found.
-use Rattle.std.specs.Prelude.{◌≡◌, ℕ, zero, suc, ◌+◌, ◌<◌, ◌≤◌, Bool, true, false, cond, not, ◌&&◌, ◌||◌, List, [], ◌∷◌, length, take, drop, filter, Result, Ok, Err, refl}
+use Rattle.std.specs.Prelude.{◌≡◌, ℕ, zero, suc, ◌+◌, ◌-◌, ◌<◌, ◌≤◌, Bool, true, false, cond, not, ◌&&◌, ◌||◌, List, [], ◌∷◌, length, take, drop, filter, Result, Ok, Err, refl}
 use Rattle.std.specs.List.{list_any, insert, remove}
 use Rattle.std.specs.List.Sorted.{IsStrictlyIncreasing, IsStrictlySortedBy, IsBinarySearchResult}
 use Rattle.std.specs.Ordering.{nat_cmp}
@@ -28,6 +28,12 @@ rises xs up i j before within = from (cases_order i j) where
 pub found : (xs : List ℕ) (x : ℕ) (r : Result ℕ ℕ) → IsBinarySearchResult (λ y. nat_cmp y x) xs r → IsStrictlyIncreasing xs → FoundAt xs x r
 found xs x (Ok k) is up = searched xs x (Ok k) is (rises xs up)
 found xs x (Err k) is up = searched xs x (Err k) is (rises xs up)
+
+-- a number greater than the last of a list that rises would stand behind all
+pub behind_last : (xs : List ℕ) (x : ℕ) → IsStrictlyIncreasing xs → 0 < length xs → get_or xs (length xs - 1) 0 < x → FoundAt xs x (Err (length xs))
+behind_last xs x up some last =
+    let below : (j : ℕ) → j < length xs → get_or xs j 0 < x = λ j within. let low = rises xs up j (length xs - 1) (omega arith) (omega arith) in omega arith in
+    (omega arith, below, λ j behind within. absurd (omega arith))
 
 module _ (xs : List ℕ) (x k : ℕ) (up : IsStrictlyIncreasing xs) (place : FoundAt xs x (Err k)) where
   -- a number entered between those that are less and those that are greater

@@ -6,7 +6,7 @@ ghost use Rattle.mls_tables.specs.Held.{Indexes, Unlisted};
 use crate::ids::{ObjectId, SubjectId};
 use crate::lists::Lists;
 use crate::objects::{enter_object, take_from_each, take_object};
-use crate::subjects::{enter_subject, take_subject};
+use crate::subjects::{clear_subjects, enter_subject, subjects_of, take_subject};
 use std::alloc::{AllocError, Allocator, Global};
 
 /// For each subject the objects that it accesses, and for each object the subjects that access it, both ascending.
@@ -46,7 +46,7 @@ impl<A: Allocator> Index<A> {
         requires { o < length self.now.subjects.lists }
         ensures { result.now ≡ slice_index_or self.now.subjects.lists o [] }
     {
-        self.subjects.list(usize::from(o.number()))
+        subjects_of(&self.subjects, o)
     }
 
     /// Makes sure that there is a list for the next object.
@@ -108,9 +108,8 @@ impl<A: Allocator> Index<A> {
         ensures columns { length self.new.subjects.lists ≡ length self.old.subjects.lists }
         ensures gone { Unlisted (λ a b. b == o) self.old.objects.lists self.old.subjects.lists self.new.objects.lists self.new.subjects.lists }
     {
-        let column = usize::from(o.number());
-        take_from_each(&mut self.objects, self.subjects.list(column), o);
-        self.subjects.clear(column);
+        take_from_each(&mut self.objects, subjects_of(&self.subjects, o), o);
+        clear_subjects(&mut self.subjects, o);
     }
 }
 

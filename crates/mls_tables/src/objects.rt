@@ -7,13 +7,31 @@ ghost use Rattle.mls_tables.specs.Rows.{IsInRange, FoundAt, IsRows, TakenOut};
 use crate::ids::{ObjectId, SubjectId};
 use crate::lists::Lists;
 use std::alloc::Allocator;
+use std::cmp::Ordering;
 
 /// Where an object stands in a list, or else where it would, by binary search.
-fn place_of_object(list: &[ObjectId], o: ObjectId) -> Result<usize, usize>
+fn searched(list: &[ObjectId], o: ObjectId) -> Result<usize, usize>
     ensures range { IsInRange result (length list.now) }
     ensures place { IsStrictlyIncreasing list.now → FoundAt list.now o result }
 {
     list.binary_search_by_key(&o.number(), |x| x.number())
+}
+
+/// Where an object stands in a list, or else where it would. The end is looked at first: objects are created in ascending order, and
+/// dropped from the largest down.
+#[tactic(auto, using(crate::proofs::Ordered::behind_last))]
+fn place_of_object(list: &[ObjectId], o: ObjectId) -> Result<usize, usize>
+    ensures range { IsInRange result (length list.now) }
+    ensures place { IsStrictlyIncreasing list.now → FoundAt list.now o result }
+{
+    let Some(last) = list.last() else {
+        return Err(0);
+    };
+    match o.number().cmp(&last.number()) {
+        Ordering::Less => searched(list, o),
+        Ordering::Equal => Ok(list.len() - 1),
+        Ordering::Greater => Err(list.len()),
+    }
 }
 
 impl<A: Allocator> Lists<ObjectId, A> {

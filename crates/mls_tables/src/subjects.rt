@@ -1,5 +1,5 @@
 //! Lists of subjects, which ascend.
-ghost use Rattle.std.specs.Prelude.{◌≡◌, ℕ, ◌<◌, ◌==◌, ◌&&◌, ◌||◌, Bool, not, [], length, slice_index_or};
+ghost use Rattle.std.specs.Prelude.{◌≡◌, ℕ, ◌<◌, ◌==◌, ◌&&◌, ◌||◌, Bool, not, [], length, slice_index_or, slice_set};
 ghost use Rattle.std.specs.List.Sorted.{IsStrictlyIncreasing};
 ghost use Rattle.mls_tables.specs.Rows.{IsInRange, FoundAt, IsRows};
 
@@ -15,6 +15,14 @@ fn place_of_subject(list: &[SubjectId], s: SubjectId) -> Result<usize, usize>
     list.binary_search_by_key(&s.number(), |x| x.number())
 }
 
+/// The list of an object.
+pub(crate) fn subjects_of<A: Allocator>(subjects: &Lists<SubjectId, A>, o: ObjectId) -> &[SubjectId]
+    requires { o < length subjects.now.lists }
+    ensures { result.now ≡ slice_index_or subjects.now.lists o [] }
+{
+    subjects.list(usize::from(o.0))
+}
+
 /// Takes a subject out of the list of an object.
 pub(crate) fn take_subject<A: Allocator>(
     subjects: &mut Lists<SubjectId, A>,
@@ -28,6 +36,14 @@ pub(crate) fn take_subject<A: Allocator>(
     let column = usize::from(o.0);
     let place = place_of_subject(subjects.list(column), s);
     subjects.leave(column, place);
+}
+
+/// Empties the list of an object.
+pub(crate) fn clear_subjects<A: Allocator>(subjects: &mut Lists<SubjectId, A>, o: ObjectId)
+    requires { o < length subjects.old.lists }
+    ensures { subjects.new.lists ≡ slice_set subjects.old.lists o [] }
+{
+    subjects.clear(usize::from(o.0));
 }
 
 /// Enters a subject into the list of an object, which has room for it.

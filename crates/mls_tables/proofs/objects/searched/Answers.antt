@@ -1,7 +1,7 @@
 use Rattle.std.proofs.Common.{rules}
 use Rattle.std.proofs.lemmas.Fn.{always_returns_same}
 use Rattle.mls_tables.proofs.Ordered.{found}
-use Rattle.mls_tables.proofs.objects.place_of_object.Goals as goal
+use Rattle.mls_tables.proofs.objects.searched.Goals as goal
 
 pub returns-clause-place : goal.returns-clause-place
 returns-clause-place c up =
