@@ -11,13 +11,25 @@ use Rattle.mls_sessions.specs.Rule.{begun, base, news, member}
 use Rattle.mls_sessions.specs.Sessions.{Office, Session, session_at, IsOf, HasAll, newcomers, history, own, member_of, number_of}
 use Rattle.mls_sessions.specs.declared.gate_table.View.TheVariants.{Sessions}
 use Rattle.mls_sessions.specs.Runs.{Returned}
-use Rattle.mls_sessions.specs.Feeds.{Exchange, Turn, asks_of, answers_of, in_turns, AreTold, Learns, GaveAhead, Heard, Halted, Gave, Talks, Tells, Halts, TakesTurn, BreaksOff, Ends, Serves, Row, AllToTheEnd, AllServe, AllServed, AllFed, AllTold}
+use Rattle.mls_sessions.specs.Feeds.{Exchange, Turn, asks_of, answers_of, in_turns, AreTold, Learns, GaveAhead, Heard, Halted, Gave, Talks, Tells, Halts, TakesTurn, BreaksOff, Ends, Serves, Row, NoWorse, IsWorst, AllNoWorse, AllServe, AllServed, AllFed, AllTold}
 use Rattle.mls_sessions.specs.declared.asked.Asked.{Asked}
 use Rattle.mls_sessions.specs.declared.asked.Asked.TheVariants.{ToTheEnd, UntilRefused, NotAtAll}
 use Rattle.mls_sessions.specs.declared.feed.Answer.{Answer as Told}
 use Rattle.mls_sessions.proofs.OwnEntries.{own-append}
 use Rattle.mls_sessions.proofs.Exchanges.{told_then, told_longer}
 use Rattle.mls_sessions.proofs.Learnt.{history_is}
+
+abbrev goes_on : Asked → Type 0
+goes_on ToTheEnd = Unit {0}
+goes_on UntilRefused = ⊥
+goes_on NotAtAll = Unit {0}
+
+no_worse : (a b c : Asked) → NoWorse a b → NoWorse b c → NoWorse a c
+no_worse a b UntilRefused ab bc = tt
+no_worse a UntilRefused NotAtAll ab bc = absurd (bc refl)
+no_worse a NotAtAll NotAtAll ab bc = ab
+no_worse a ToTheEnd NotAtAll ab bc = λ is. subst goes_on (sym ab ∙ is) tt
+no_worse a b ToTheEnd ab bc = subst (NoWorse a) bc ab
 
 abbrev head_or : {A : Type 0} → A → List A → A
 head_or d [] = d
@@ -218,29 +230,29 @@ module _ {F : Type 0} (gives : F → Option Ask → F → Type 0) (gives_ahead :
   -- none, and one more
   pub served_none : (o : Office) (ss ts : List Session) (fs gs : List F) → length ss ≡ 0 → length fs ≡ 0 → ts ≡ [] → gs ≡ [] → AllServed gives gives_ahead hears stops o ss fs ToTheEnd ts gs
   served_none o ss ts fs gs none nor back fed =
-      record { rows = []; serve = tt; to_the_end = λ _. tt; sessions = nil_from_length ss none; feeds = nil_from_length fs nor; sessions_back = back; feeds_back = fed }
+      record { rows = []; serve = tt; no_worse = tt; sessions = nil_from_length ss none; feeds = nil_from_length fs nor; sessions_back = back; feeds_back = fed }
 
   serve_snoc : (o : Office) (rows : List (Row F)) (row : Row F) → AllServe gives gives_ahead hears stops o rows → Serves gives gives_ahead hears stops o row.session row.feed row.asked row.session_back row.feed_back
       → AllServe gives gives_ahead hears stops o (rows ++ row ∷ [])
   serve_snoc o [] row all is = (is, tt)
   serve_snoc o (x ∷ rows) row all is = (all.0, serve_snoc o rows row all.1 is)
 
-  end_snoc : (rows : List (Row F)) (row : Row F) → AllToTheEnd rows → row.asked ≡ ToTheEnd → AllToTheEnd (rows ++ row ∷ [])
-  end_snoc [] row all is = (is, tt)
-  end_snoc (x ∷ rows) row all is = (all.0, end_snoc rows row all.1 is)
+  no_worse_snoc : (rows : List (Row F)) (row : Row F) (asked both : Asked) → AllNoWorse rows asked → NoWorse asked both → NoWorse row.asked both → AllNoWorse (rows ++ row ∷ []) both
+  no_worse_snoc [] row asked both all less is = (is, tt)
+  no_worse_snoc (x ∷ rows) row asked both all less is = (no_worse x.asked asked both all.0 less, no_worse_snoc rows row asked both all.1 less is)
 
   column : {A : Type 0} (of : Row F → A) (rows : List (Row F)) (row : Row F) (xs : List A) → xs ≡ map of rows → xs ++ of row ∷ [] ≡ map of (rows ++ row ∷ [])
   column of rows row xs is = ap (λ ys. ys ++ of row ∷ []) is ∙ sym (map-append of rows (row ∷ []))
 
   served_snoc : (o : Office) (ss ts : List Session) (fs gs : List F) (s t : Session) (f g : F) (asked mine both : Asked) → AllServed gives gives_ahead hears stops o ss fs asked ts gs
-      → Serves gives gives_ahead hears stops o s f mine t g → (both ≡ ToTheEnd → (asked ≡ ToTheEnd) × (mine ≡ ToTheEnd))
+      → Serves gives gives_ahead hears stops o s f mine t g → IsWorst asked mine both
       → AllServed gives gives_ahead hears stops o (ss ++ s ∷ []) (fs ++ f ∷ []) both (ts ++ t ∷ []) (gs ++ g ∷ [])
-  served_snoc o ss ts fs gs s t f g asked mine both all is ends =
+  served_snoc o ss ts fs gs s t f g asked mine both all is worst =
       let row : Row F = record { session = s; feed = f; asked = mine; session_back = t; feed_back = g } in
       record {
         rows = all.rows ++ row ∷ [];
         serve = serve_snoc o all.rows row all.serve is;
-        to_the_end = λ end. end_snoc all.rows row (all.to_the_end (ends end).0) (ends end).1;
+        no_worse = no_worse_snoc all.rows row asked both all.no_worse worst.first worst.second;
         sessions = column (λ (r : Row F). r.session) all.rows row ss all.sessions;
         feeds = column (λ (r : Row F). r.feed) all.rows row fs all.feeds;
         sessions_back = column (λ (r : Row F). r.session_back) all.rows row ts all.sessions_back;
@@ -249,24 +261,24 @@ module _ {F : Type 0} (gives : F → Option Ask → F → Type 0) (gives_ahead :
 
   -- the same, by the lists that hold those that came back
   pub served_put : (o : Office) (ss ts back : List Session) (fs gs fed : List F) (s t : Session) (f g : F) (asked mine both : Asked) → AllServed gives gives_ahead hears stops o ss fs asked ts gs
-      → Serves gives gives_ahead hears stops o s f mine t g → (back ≡ ts ++ t ∷ []) × (fed ≡ gs ++ g ∷ []) → (both ≡ ToTheEnd → (asked ≡ ToTheEnd) × (mine ≡ ToTheEnd))
+      → Serves gives gives_ahead hears stops o s f mine t g → (back ≡ ts ++ t ∷ []) × (fed ≡ gs ++ g ∷ []) → IsWorst asked mine both
       → AllServed gives gives_ahead hears stops o (ss ++ s ∷ []) (fs ++ f ∷ []) both back fed
-  served_put o ss ts back fs gs fed s t f g asked mine both all is put ends =
+  served_put o ss ts back fs gs fed s t f g asked mine both all is put worst =
       subst (λ xs. AllServed gives gives_ahead hears stops o (ss ++ s ∷ []) (fs ++ f ∷ []) both xs fed) (sym put.0)
-      (subst (λ ys. AllServed gives gives_ahead hears stops o (ss ++ s ∷ []) (fs ++ f ∷ []) both (ts ++ t ∷ []) ys) (sym put.1) (served_snoc o ss ts fs gs s t f g asked mine both all is ends))
+      (subst (λ ys. AllServed gives gives_ahead hears stops o (ss ++ s ∷ []) (fs ++ f ∷ []) both (ts ++ t ∷ []) ys) (sym put.1) (served_snoc o ss ts fs gs s t f g asked mine both all is worst))
 
   -- of a closed office: what its sessions asked stands in the journal
-  rows_told : (o : Office) (j : Journal) (k : ℕ) (rows : List (Row F)) → AllServe gives gives_ahead hears stops o rows → Numbered o k (map (λ (r : Row F). r.session) rows)
+  rows_told : (o : Office) (j : Journal) (k : ℕ) (worst : Asked) (rows : List (Row F)) → AllServe gives gives_ahead hears stops o rows → AllNoWorse rows worst → Numbered o k (map (λ (r : Row F). r.session) rows)
       → Returned o (map (λ (r : Row F). r.session) rows) (map (λ (r : Row F). r.session_back) rows) → HasAll o j (map (λ (r : Row F). r.session_back) rows)
-      → AllTold gives gives_ahead hears stops (begun o.charter) (base o.charter) (news o.charter j) k (map (λ (r : Row F). r.feed) rows) (map (λ (r : Row F). r.feed_back) rows)
-  rows_told o j k [] all numbered returned has = tt
-  rows_told o j k (row ∷ rows) all numbered returned has =
+      → AllTold gives gives_ahead hears stops worst (begun o.charter) (base o.charter) (news o.charter j) k (map (λ (r : Row F). r.feed) rows) (map (λ (r : Row F). r.feed_back) rows)
+  rows_told o j k worst [] all least numbered returned has = tt
+  rows_told o j k worst (row ∷ rows) all least numbered returned has =
       let is = all.0 in (
-        (row.asked, is.turns, is.last, is.ends, own_told o j k row.session row.session_back is.since (in_turns is.turns ++ is.last) numbered.0 numbered.1 returned.0 returned.1 has.0 has.1 is.grew is.told),
-        rows_told o j (k + 1) rows all.1 numbered.2 returned.2 has.2,
+        (row.asked, is.turns, is.last, least.0, is.ends, own_told o j k row.session row.session_back is.since (in_turns is.turns ++ is.last) numbered.0 numbered.1 returned.0 returned.1 has.0 has.1 is.grew is.told),
+        rows_told o j (k + 1) worst rows all.1 least.1 numbered.2 returned.2 has.2,
       )
 
-  rows_fed : (o : Office) (j : Journal) (k : ℕ) (rows : List (Row F)) → AllServe gives gives_ahead hears stops o rows → AllToTheEnd rows → Numbered o k (map (λ (r : Row F). r.session) rows)
+  rows_fed : (o : Office) (j : Journal) (k : ℕ) (rows : List (Row F)) → AllServe gives gives_ahead hears stops o rows → AllNoWorse rows ToTheEnd → Numbered o k (map (λ (r : Row F). r.session) rows)
       → Returned o (map (λ (r : Row F). r.session) rows) (map (λ (r : Row F). r.session_back) rows) → HasAll o j (map (λ (r : Row F). r.session_back) rows)
       → AllFed gives gives_ahead hears (begun o.charter) (base o.charter) (news o.charter j) k (map (λ (r : Row F). r.feed) rows) (map (λ (r : Row F). r.feed_back) rows)
   rows_fed o j k [] all end numbered returned has = tt
@@ -279,15 +291,15 @@ module _ {F : Type 0} (gives : F → Option Ask → F → Type 0) (gives_ahead :
       )
 
   pub all_told : (o : Office) (j : Journal) (ss ts : List Session) (fs gs : List F) (asked : Asked) → ss ≡ newcomers o o.charter.count → AllServed gives gives_ahead hears stops o ss fs asked ts gs → Returned o ss ts → HasAll o j ts
-      → AllTold gives gives_ahead hears stops (begun o.charter) (base o.charter) (news o.charter j) 0 fs gs
+      → AllTold gives gives_ahead hears stops asked (begun o.charter) (base o.charter) (news o.charter j) 0 fs gs
   all_told o j ss ts fs gs asked new all returned has =
       let rows : List (Row F) = all.rows in
       let numbered : Numbered o 0 (map (λ (r : Row F). r.session) rows) = subst (Numbered o 0) (sym new ∙ all.sessions) (newcomers_numbered o o.charter.count).0 in
       let back : Returned o (map (λ (r : Row F). r.session) rows) (map (λ (r : Row F). r.session_back) rows) =
       subst (λ xs. Returned o xs (map (λ (r : Row F). r.session_back) rows)) all.sessions (subst (λ xs. Returned o ss xs) all.sessions_back returned) in
-      subst (λ xs. AllTold gives gives_ahead hears stops (begun o.charter) (base o.charter) (news o.charter j) 0 xs gs) (sym all.feeds)
-      (subst (λ xs. AllTold gives gives_ahead hears stops (begun o.charter) (base o.charter) (news o.charter j) 0 (map (λ (r : Row F). r.feed) rows) xs) (sym all.feeds_back)
-      (rows_told o j 0 rows all.serve numbered back (subst (HasAll o j) all.sessions_back has)))
+      subst (λ xs. AllTold gives gives_ahead hears stops asked (begun o.charter) (base o.charter) (news o.charter j) 0 xs gs) (sym all.feeds)
+      (subst (λ xs. AllTold gives gives_ahead hears stops asked (begun o.charter) (base o.charter) (news o.charter j) 0 (map (λ (r : Row F). r.feed) rows) xs) (sym all.feeds_back)
+      (rows_told o j 0 asked rows all.serve all.no_worse numbered back (subst (HasAll o j) all.sessions_back has)))
 
   pub all_fed : (o : Office) (j : Journal) (ss ts : List Session) (fs gs : List F) (asked : Asked) → ss ≡ newcomers o o.charter.count → AllServed gives gives_ahead hears stops o ss fs asked ts gs → asked ≡ ToTheEnd
       → Returned o ss ts → HasAll o j ts → AllFed gives gives_ahead hears (begun o.charter) (base o.charter) (news o.charter j) 0 fs gs
@@ -298,12 +310,20 @@ module _ {F : Type 0} (gives : F → Option Ask → F → Type 0) (gives_ahead :
       subst (λ xs. Returned o xs (map (λ (r : Row F). r.session_back) rows)) all.sessions (subst (λ xs. Returned o ss xs) all.sessions_back returned) in
       subst (λ xs. AllFed gives gives_ahead hears (begun o.charter) (base o.charter) (news o.charter j) 0 xs gs) (sym all.feeds)
       (subst (λ xs. AllFed gives gives_ahead hears (begun o.charter) (base o.charter) (news o.charter j) 0 (map (λ (r : Row F). r.feed) rows) xs) (sym all.feeds_back)
-      (rows_fed o j 0 rows all.serve (all.to_the_end end) numbered back (subst (HasAll o j) all.sessions_back has)))
+      (rows_fed o j 0 rows all.serve (subst (AllNoWorse rows) end all.no_worse) numbered back (subst (HasAll o j) all.sessions_back has)))
 
   -- of feeds that were left alone nothing stands in a journal as it was
-  told_none : (start : State) (before : List Entry) (k : ℕ) (fs : List F) → AllTold gives gives_ahead hears stops start before [] k fs fs
-  told_none start before k [] = tt
-  told_none start before k (f ∷ fs) = ((NotAtAll, [], [], record { same = refl; no_turns = refl; no_last = refl }, refl), told_none start before (k + 1) fs)
+  told_none : (worst : Asked) → NoWorse NotAtAll worst → (start : State) (before : List Entry) (k : ℕ) (fs : List F) → AllTold gives gives_ahead hears stops worst start before [] k fs fs
+  told_none worst least start before k [] = tt
+  told_none worst least start before k (f ∷ fs) =
+      ((NotAtAll, [], [], least, record { same = refl; no_turns = refl; no_last = refl }, refl), told_none worst least start before (k + 1) fs)
 
-  pub untold : (start : State) (before : List Entry) (k : ℕ) (fs : List F) → AllTold gives gives_ahead hears stops start before (drop (length before) before) k fs fs
-  untold start before k fs = subst (λ es. AllTold gives gives_ahead hears stops start before es k fs fs) (sym (ap (drop (length before)) (sym (append-nil before)) ∙ drop-append_seam before [])) (told_none start before k fs)
+  told_nothing : (worst : Asked) → NoWorse NotAtAll worst → (start : State) (before : List Entry) (k : ℕ) (fs : List F) → AllTold gives gives_ahead hears stops worst start before (drop (length before) before) k fs fs
+  told_nothing worst least start before k fs =
+      subst (λ es. AllTold gives gives_ahead hears stops worst start before es k fs fs) (sym (ap (drop (length before)) (sym (append-nil before)) ∙ drop-append_seam before [])) (told_none worst least start before k fs)
+
+  pub untold : (start : State) (before : List Entry) (k : ℕ) (fs : List F) → AllTold gives gives_ahead hears stops NotAtAll start before (drop (length before) before) k fs fs
+  untold start before k fs = told_nothing NotAtAll (λ is. subst goes_on is tt) start before k fs
+
+  pub untold_refused : (start : State) (before : List Entry) (k : ℕ) (fs : List F) → AllTold gives gives_ahead hears stops UntilRefused start before (drop (length before) before) k fs fs
+  untold_refused start before k fs = told_nothing UntilRefused tt start before k fs

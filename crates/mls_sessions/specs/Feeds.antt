@@ -1,5 +1,5 @@
 -- What a feed asks and is told in a run, and what of it stands in the journal.
-use Rattle.std.specs.Prelude.{◌≡◌, ◌⊎◌, ℕ, ◌+◌, ◌<◌, List, [], ◌∷◌, ◌++◌, length, take, map, Option, Some, None}
+use Rattle.std.specs.Prelude.{◌≡◌, ◌≢◌, ◌⊎◌, ℕ, ◌+◌, ◌<◌, List, [], ◌∷◌, ◌++◌, length, take, map, Option, Some, None}
 use Rattle.std.specs.FinSet as set
 use Rattle.mls_state.specs.State.{State}
 use Rattle.mls_requests.specs.declared.ask.Ask.{Ask}
@@ -12,6 +12,8 @@ use Rattle.mls_sessions.specs.Sessions.{Office, Session, history, number_of}
 use Rattle.mls_sessions.specs.declared.gate_table.View.{View}
 use Rattle.mls_sessions.specs.declared.asked.Asked.{Asked}
 use Rattle.mls_sessions.specs.declared.asked.Asked.TheVariants.{ToTheEnd, UntilRefused, NotAtAll}
+use Rattle.mls_sessions.specs.declared.run_fault.RunFaultKind.{RunFaultKind}
+use Rattle.mls_sessions.specs.declared.run_fault.RunFaultKind.TheVariants.{BadCount, Memory, Thread}
 use Rattle.mls_sessions.specs.declared.given.Given.{Given}
 use Rattle.mls_sessions.specs.declared.given.Given.TheVariants.{Nothing, One, Several}
 use Rattle.mls_sessions.specs.declared.feed.Answer.{Answer as Told}
@@ -56,13 +58,13 @@ pub record Gets (k : ℕ) (old : Journal) (a : Ask) (t : Told) (new : Journal) :
   pub mine : AllOf k since
   pub told : IsTold old.start k old.entries a t since
 
--- The same, with the answer kept behind others. (own)
+-- A monitor was asked this for session k, and what it answered is kept behind the answers before. (own)
 pub record GetsMore (k : ℕ) (old : Journal) (a : Ask) (before after : List Told) (new : Journal) : Type 0 where
   pub answer : Told
   pub kept : after ≡ before ++ answer ∷ []
   pub gets : Gets k old a answer new
 
--- The same of asks, one after the other. (own)
+-- A monitor was asked these for session k, one after the other, and gave these answers in that order. (own)
 pub record AllGet (k : ℕ) (old : Journal) (asks : List Ask) (answers : List Told) (new : Journal) : Type 0 where
   pub exchanges : List Exchange
   pub since : List Entry
@@ -127,7 +129,8 @@ pub record Tells {F : Type 0} (hears : F → Told → F → Type 0) (o : Office)
   pub learns : Learns o.charter s.view asks answers t.view
   pub heard : Heard hears f answers g
 
--- The same where an allocation failed before all was answered: it told the feed the answers to the first of it, and that it is stopped. (own)
+-- A session asked this for a feed until an allocation failed, before all was answered: it told the feed the answers to the first of it, and that it
+-- is stopped. (own)
 pub record Halts {F : Type 0} (hears : F → Told → F → Type 0) (stops : F → F → Type 0) (o : Office) (s : Session) (f : F) (asks : List Ask) (t : Session) (g : F) : Type 0 where
   pub answered : ℕ
   pub answers : List Told
@@ -151,7 +154,7 @@ module _ {F : Type 0} (gives : F → Option Ask → F → Type 0) (gives_ahead :
     pub gave : Gave gives gives_ahead f asks full
     pub tells : Tells hears o s full asks t g
 
-  -- It did so, and then gave nothing more. (own)
+  -- The feed talked turn by turn, and then gave nothing more. (own)
   abbrev pub Fed : F → List Turn → F → Type 0
   Fed f turns g = (h : F) × Talks f turns h × gives h None g
 
@@ -176,10 +179,27 @@ pub record Row (F : Type 0) : Type 0 where
   pub session_back : Session
   pub feed_back : F
 
--- Each asked to the end. (own)
-abbrev pub AllToTheEnd : {F : Type 0} → List (Row F) → Type 0
-AllToTheEnd [] = Unit {0}
-AllToTheEnd (row ∷ rows) = (row.asked ≡ ToTheEnd) × AllToTheEnd rows
+-- That a feed was asked so far is no worse than that another was: an allocation that failed is worse than a thread that couldn't be started. (own)
+abbrev pub NoWorse : Asked → Asked → Type 0
+NoWorse a UntilRefused = Unit {0}
+NoWorse a NotAtAll = a ≢ UntilRefused
+NoWorse a ToTheEnd = a ≡ ToTheEnd
+
+-- Neither of two is worse than this. (own)
+pub record IsWorst (one other worst : Asked) : Type 0 where
+  pub first : NoWorse one worst
+  pub second : NoWorse other worst
+
+-- None is worse than this. (own)
+abbrev pub AllNoWorse : {F : Type 0} → List (Row F) → Asked → Type 0
+AllNoWorse [] worst = Unit {0}
+AllNoWorse (row ∷ rows) worst = NoWorse row.asked worst × AllNoWorse rows worst
+
+-- The worst that can have become of a feed in a run that ended so. (own)
+abbrev pub worst_of : RunFaultKind → Asked
+worst_of BadCount = NotAtAll
+worst_of Memory = UntilRefused
+worst_of Thread = NotAtAll
 
 -- Of feeds that give asks, hear answers and stop in these ways.
 module _ {F : Type 0} (gives : F → Option Ask → F → Type 0) (gives_ahead : F → Ask → F → Type 0) (hears : F → Told → F → Type 0) (stops : F → F → Type 0) where
@@ -224,20 +244,21 @@ module _ {F : Type 0} (gives : F → Option Ask → F → Type 0) (gives_ahead :
   AllServe o [] = Unit {0}
   AllServe o (row ∷ rows) = Serves o row.session row.feed row.asked row.session_back row.feed_back × AllServe o rows
 
-  -- The same of sessions and feeds that were given, and of those that came back, in their order; all to the end, where that is said of them. (own)
+  -- Each of these sessions asked what its feed gave, and they came back with their feeds, all in their order; none was asked less far than is said. (own)
   pub record AllServed (o : Office) (ss : List Session) (fs : List F) (asked : Asked) (ts : List Session) (gs : List F) : Type 0 where
     pub rows : List (Row F)
     pub serve : AllServe o rows
-    pub to_the_end : asked ≡ ToTheEnd → AllToTheEnd rows
+    pub no_worse : AllNoWorse rows asked
     pub sessions : ss ≡ map (λ (row : Row F). row.session) rows
     pub feeds : fs ≡ map (λ (row : Row F). row.feed) rows
     pub sessions_back : ts ≡ map (λ (row : Row F). row.session_back) rows
     pub feeds_back : gs ≡ map (λ (row : Row F). row.feed_back) rows
 
-  -- Each feed, the first as that of session k, was asked so far, and was told just the answers to those of its asks that the journal answers; they
-  -- stand in their order. (own)
-  abbrev pub AllTold : State → List Entry → List Entry → ℕ → List F → List F → Type 0
-  AllTold start before since k [] [] = Unit {0}
-  AllTold start before since k (f ∷ fs) (g ∷ gs) =
-      ((asked : Asked) × (turns : List Turn) × (last : List Exchange) × Ends asked f turns last g × AreTold start k before since (in_turns turns ++ last)) × AllTold start before since (k + 1) fs gs
-  AllTold start before since k fs gs = ⊥
+  -- Each feed, the first as that of session k, was asked to some point, which is no worse than this, and was told just the answers to those of its
+  -- asks that the journal answers; they stand in their order. (own)
+  abbrev pub AllTold : Asked → State → List Entry → List Entry → ℕ → List F → List F → Type 0
+  AllTold worst start before since k [] [] = Unit {0}
+  AllTold worst start before since k (f ∷ fs) (g ∷ gs) =
+      ((asked : Asked) × (turns : List Turn) × (last : List Exchange) × NoWorse asked worst × Ends asked f turns last g × AreTold start k before since (in_turns turns ++ last))
+      × AllTold worst start before since (k + 1) fs gs
+  AllTold worst start before since k fs gs = ⊥

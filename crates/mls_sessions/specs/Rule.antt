@@ -20,7 +20,7 @@ begun c = c.start
 abbrev pub base : Charter → List Entry
 base c = c.entries
 
--- Its length. (own)
+-- How many entries that journal has. (own)
 abbrev pub base_length : Charter → ℕ
 base_length c = length (base c)
 

@@ -117,7 +117,7 @@ abbrev pub newcomers : Office → ℕ → List Session
 newcomers o zero = []
 newcomers o (suc k) = newcomers o k ++ session_at o.table (Sessions o.charter (member k [] ∷ [])) ∷ []
 
--- They are sessions of the office, and their numbers ascend from k on. (own)
+-- All are sessions of the office, and their numbers ascend from k on. (own)
 abbrev pub Ascending : Office → ℕ → List Session → Type 0
 Ascending o k [] = Unit {0}
 Ascending o k (s ∷ sessions) = IsOf o s × (k ≤ number_of s.view) × Ascending o (number_of s.view + 1) sessions

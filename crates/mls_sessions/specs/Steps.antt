@@ -52,7 +52,7 @@ abbrev pub news_or : Charter → Option Journal → List Entry
 news_or c (Some j) = news c j
 news_or c None = []
 
--- The same of what a seat holds of the slot. (own)
+-- What a seat holds that was taken out of the slot, beyond the journal when the office was opened. (own)
 abbrev pub news_in : Charter → List (ℕ × Option Journal) → List Entry
 news_in c [] = []
 news_in c (x ∷ out) = news_or c x.1
@@ -101,7 +101,7 @@ abbrev pub first_of_two : View → View
 first_of_two (Sessions c (x ∷ y ∷ rest)) = Sessions c (member x.number (longer x.later y.later) ∷ [])
 first_of_two v = v
 
--- And this the second. (own)
+-- Where two sessions met, the second of them with the longer history. (own)
 abbrev pub second_of_two : View → View
 second_of_two (Sessions c (x ∷ y ∷ rest)) = Sessions c (member y.number (longer x.later y.later) ∷ [])
 second_of_two v = Spent

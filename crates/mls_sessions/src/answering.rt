@@ -4,7 +4,6 @@ ghost use Rattle.mls_sessions.specs.Feeds.{GetsMore, AllGet};
 
 use crate::boxed_monitor::BoxedMonitor;
 use crate::feed::Answer;
-use crate::gathering::keep;
 use mls_requests::Ask;
 use std::alloc::AllocError;
 
@@ -27,11 +26,11 @@ fn answer(
     match ask {
         Ask::Submit(request) => {
             let entry = monitor.submit(number, request)?;
-            keep(answers, Answer::Entry(entry));
+            answers.push_reserved(Answer::Entry(entry));
         }
         Ask::Check(s, o, x) => {
             let is_held = monitor.check(s, o, x);
-            keep(answers, Answer::Held(is_held));
+            answers.push_reserved(Answer::Held(is_held));
         }
     }
     Ok(())

@@ -1,5 +1,5 @@
 //! How far a feed was asked.
-ghost use Rattle.std.specs.Prelude.{◌≡◌};
+ghost use Rattle.mls_sessions.specs.Feeds.{IsWorst};
 
 /// How far a feed was asked.
 #[derive(Clone, Copy, Debug, PartialEq, Eq)]
@@ -15,8 +15,7 @@ pub enum Asked {
 impl Asked {
     /// The worse of two: an allocation that failed counts before a thread that couldn't be started.
     pub(crate) fn worse(self, other: Asked) -> Asked
-        ensures first { result ≡ Asked.ToTheEnd → self ≡ Asked.ToTheEnd }
-        ensures second { result ≡ Asked.ToTheEnd → other ≡ Asked.ToTheEnd }
+        ensures { IsWorst self other result }
     {
         match (self, other) {
             (Asked::UntilRefused, _) => Asked::UntilRefused,

@@ -48,12 +48,13 @@ fn attend<R: Wait, F: Feed>(
     }
 }
 
-/// The same, unless it is to be left alone. Where there is no room for what is asked in one turn, the feed is asked nothing.
+/// Asks for all that the feed gives, unless the flag says to leave it alone. Where there is no room for what is asked in one turn, the feed is
+/// asked nothing.
 #[tactic(auto, using(crate::proofs::Feeds::serves_not, crate::proofs::Feeds::serves_no_room))]
 pub(crate) fn attend_unless<R: Wait, F: Feed>(
     rt: &R,
     alloc: Global,
-    here: &AtomicBool,
+    left_alone: &AtomicBool,
     office: &Office,
     session: Session,
     feed: F,
@@ -63,7 +64,7 @@ pub(crate) fn attend_unless<R: Wait, F: Feed>(
     ensures done { result.2 ≡ Asked.ToTheEnd → F.stands_at result.1 ≡ Stage.Done }
     ensures served { Serves F.gives F.gives_ahead F.hears F.stops office.now session feed result.2 result.0 result.1 }
 {
-    if here.load(Ordering::SeqCst) {
+    if left_alone.load(Ordering::SeqCst) {
         return (session, feed, Asked::NotAtAll);
     }
     let Ok(asks) = Vec::with_capacity(alloc, AHEAD) else {

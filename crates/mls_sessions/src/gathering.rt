@@ -1,24 +1,11 @@
 //! What a feed asks in one turn at the gate, and what it is told after it.
-ghost use Rattle.std.specs.Prelude.{◌≡◌, ◌≢◌, ◌<◌, ◌≤◌, ◌+◌, ◌∷◌, ◌++◌, [], true, false, length, None, vec_len, vec_capacity};
+ghost use Rattle.std.specs.Prelude.{◌≡◌, ◌≢◌, ◌<◌, ◌≤◌, length, None, vec_len, vec_capacity};
 ghost use Rattle.mls_sessions.specs.Feeds.{Gave, Heard, Halted, asks_given};
 
 use crate::feed::{Answer, Feed, Stage};
 use crate::given::Given;
 use crate::limits::AHEAD;
 use mls_requests::Ask;
-
-/// Puts one more behind those that are there, where there is room.
-pub(crate) fn keep<T>(kept: &mut Vec<T>, item: T)
-    requires { vec_len kept.old < vec_capacity kept.old }
-    ensures items { kept.new.items ≡ kept.old.items ++ item ∷ [] }
-    ensures count { vec_len kept.new ≡ vec_len kept.old + 1 }
-    ensures room { vec_capacity kept.old ≤ vec_capacity kept.new }
-{
-    match kept.push(item) {
-        Ok(()) => {}
-        Err(_) => unreachable!(),
-    }
-}
 
 /// What the feed asks next, and what it asks ahead, as long as there is room. One ask alone isn't put into the list.
 #[tactic(auto, using(crate::proofs::Feeds::gave_first, crate::proofs::Feeds::gave_two, crate::proofs::Feeds::gave_one))]
@@ -39,13 +26,13 @@ pub(crate) fn gather<F: Feed>(feed: &mut F, asks: &mut Vec<Ask>) -> Given
         return Given::One(first);
     };
     asks.clear();
-    keep(asks, first);
-    keep(asks, second);
+    asks.push_reserved(first);
+    asks.push_reserved(second);
     while asks.len() < AHEAD {
         let Some(ask) = feed.ahead() else {
             return Given::Several;
         };
-        keep(asks, ask);
+        asks.push_reserved(ask);
     }
     Given::Several
 }

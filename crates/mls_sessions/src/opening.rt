@@ -76,9 +76,6 @@ pub(crate) fn give_all(
 {
     for number in 0..count {
         let place = gate.split_seat::<Give>(seat);
-        match sessions.push(Session::enter(place, number, base)) {
-            Ok(()) => {}
-            Err(_) => unreachable!(),
-        }
+        sessions.push_reserved(Session::enter(place, number, base));
     }
 }

@@ -2,6 +2,7 @@
 ghost use Rattle.std.specs.Prelude.{◌≡◌, ◌+◌, ◌<◌, ◌≤◌, ◌∷◌, ◌++◌, [], vec_len, vec_capacity, IfSome, IfNone};
 ghost use Rattle.mls_sessions.specs.Sessions.{IsOf, Ascending};
 ghost use Rattle.mls_sessions.specs.Runs.{AllAt};
+ghost use Rattle.mls_sessions.specs.Feeds.{IsWorst};
 
 use crate::asked::Asked;
 use crate::feed::{Feed, Stage};
@@ -23,17 +24,11 @@ pub(crate) fn put_last<F: Feed + Drop>(
     ensures counts { (vec_len result.0 ≡ vec_len back + 1) × (vec_len result.1 ≡ vec_len fed + 1) }
     ensures room { (vec_capacity back ≤ vec_capacity result.0) × (vec_capacity fed ≤ vec_capacity result.1) }
     ensures done { result.2 ≡ Asked.ToTheEnd → AllAt F.stands_at Stage.Done result.1.items }
-    ensures both { result.2 ≡ Asked.ToTheEnd → (asked ≡ Asked.ToTheEnd) × (last.2 ≡ Asked.ToTheEnd) }
+    ensures both { IsWorst asked last.2 result.2 }
 {
     let (session, feed, mine) = last;
-    match back.push(session) {
-        Ok(()) => {}
-        Err(_) => unreachable!(),
-    }
-    match fed.push(feed) {
-        Ok(()) => {}
-        Err(_) => unreachable!(),
-    }
+    back.push_reserved(session);
+    fed.push_reserved(feed);
     (back, fed, asked.worse(mine))
 }
 

@@ -5,7 +5,7 @@ ghost use Rattle.mls_sessions.specs.Journals.{journal_of};
 ghost use Rattle.mls_sessions.specs.Sessions.{IsOf, Ascending, newcomers, is_count};
 ghost use Rattle.mls_sessions.specs.Rule.{begun, base, news};
 ghost use Rattle.mls_sessions.specs.Runs.{AllAt, Returned, Grew};
-ghost use Rattle.mls_sessions.specs.Feeds.{AllServed, AllFed, AllTold};
+ghost use Rattle.mls_sessions.specs.Feeds.{AllServed, AllFed, AllTold, worst_of};
 
 use crate::asked::Asked;
 use crate::attend::{Back, attend_unless};
@@ -52,8 +52,8 @@ fn attend_all<R: Threads + Wait + Sync, F: Feed + Send + Drop>(
     let Some(feed) = pop_feed(&mut feeds) else {
         unreachable!()
     };
-    let here = AtomicBool::new(false);
-    let flag = &here;
+    let left_alone = AtomicBool::new(false);
+    let flag = &left_alone;
     thread::scope(
         thread::scope_env(),
         rt,
@@ -118,7 +118,7 @@ pub(crate) fn run_open<R: Threads + Wait + Sync, F: Feed + Send + Drop>(
     ensures count { vec_len result.1 ≡ vec_len feeds }
     ensures done { result.2 ≡ Asked.ToTheEnd → AllAt F.stands_at Stage.Done result.1.items }
     ensures fed { result.2 ≡ Asked.ToTheEnd → AllFed F.gives F.gives_ahead F.hears (begun opened.0.charter) (base opened.0.charter) (news opened.0.charter (journal_of result.0)) 0 feeds.items result.1.items }
-    ensures told { AllTold F.gives F.gives_ahead F.hears F.stops (begun opened.0.charter) (base opened.0.charter) (news opened.0.charter (journal_of result.0)) 0 feeds.items result.1.items }
+    ensures told { AllTold F.gives F.gives_ahead F.hears F.stops result.2 (begun opened.0.charter) (base opened.0.charter) (news opened.0.charter (journal_of result.0)) 0 feeds.items result.1.items }
 {
     let (office, sessions) = opened;
     let (back, fed, asked) = attend_all(rt, alloc, &office, sessions, feeds, back, fed);
@@ -132,7 +132,8 @@ pub(crate) fn run_open<R: Threads + Wait + Sync, F: Feed + Send + Drop>(
 fn ended<F: Feed>(left: (Monitor, Vec<F>, Asked)) -> Result<RunDone<F>, RunFault<F>>
     ensures done { IfOk result (λ run. left.2 ≡ Asked.ToTheEnd) }
     ensures ok { IfOk result (λ run. (run.monitor ≡ left.0) × (run.feeds ≡ left.1)) }
-    ensures err { IfErr result (λ fault. (fault.monitor ≡ left.0) × (fault.feeds ≡ left.1) × (fault.kind ≢ RunFaultKind.BadCount)) }
+    ensures err { IfErr result (λ fault. (fault.monitor ≡ left.0) × (fault.feeds ≡ left.1)) }
+    ensures kind { IfErr result (λ fault. (left.2 ≡ worst_of fault.kind) × (fault.kind ≢ RunFaultKind.BadCount)) }
 {
     let (monitor, feeds, asked) = left;
     match asked {
@@ -157,7 +158,7 @@ fn ended<F: Feed>(left: (Monitor, Vec<F>, Asked)) -> Result<RunDone<F>, RunFault
 /// `BadCount` where there isn't one feed, to [`MAX_SESSIONS`] feeds; the monitor and the feeds are then as they were handed in.
 /// Else `Memory` where an allocation failed, also in a session's request: that feed is told so, and the others run on. Else
 /// `Thread` where a thread couldn't be started: its feed is asked nothing, and the others run on.
-#[tactic(auto, using(crate::proofs::Runs::grew_none, crate::proofs::Feeds::untold))]
+#[tactic(auto, using(crate::proofs::Runs::grew_none, crate::proofs::Feeds::untold, crate::proofs::Feeds::untold_refused))]
 pub fn run_sessions<R: Threads + Wait + Sync, F: Feed + Send + Drop>(
     rt: &R,
     alloc: Global,
@@ -171,7 +172,7 @@ pub fn run_sessions<R: Threads + Wait + Sync, F: Feed + Send + Drop>(
     ensures err { IfErr result (λ fault. Grew monitor.start monitor.entries (vec_len feeds) fault.monitor) }
     ensures feeds { IfOk result (λ run. vec_len run.feeds ≡ vec_len feeds) }
     ensures fed { IfOk result (λ run. AllFed F.gives F.gives_ahead F.hears monitor.start monitor.entries (drop (length monitor.entries) run.monitor.entries) 0 feeds.items run.feeds.items) }
-    ensures told { IfErr result (λ fault. AllTold F.gives F.gives_ahead F.hears F.stops monitor.start monitor.entries (drop (length monitor.entries) fault.monitor.entries) 0 feeds.items fault.feeds.items) }
+    ensures told { IfErr result (λ fault. AllTold F.gives F.gives_ahead F.hears F.stops (worst_of fault.kind) monitor.start monitor.entries (drop (length monitor.entries) fault.monitor.entries) 0 feeds.items fault.feeds.items) }
     ensures back { IfErr result (λ fault. vec_len fault.feeds ≡ vec_len feeds) }
     ensures kind { IfErr result (λ fault. fault.kind ≡ RunFaultKind.BadCount → is_count (vec_len feeds) ≡ false) }
     ensures bad { is_count (vec_len feeds) ≡ false → IfErr result (λ fault. (fault.kind ≡ RunFaultKind.BadCount) × (fault.monitor ≡ monitor) × (fault.feeds.items ≡ feeds.items)) }
@@ -183,7 +184,7 @@ pub fn run_sessions<R: Threads + Wait + Sync, F: Feed + Send + Drop>(
             feeds,
         });
     }
-    let n = (feeds.len() % 65536) as u16;
+    let n = feeds.len() as u16;
     let Ok((back, fed)) = make_room(alloc, feeds.len()) else {
         return Err(RunFault {
             kind: RunFaultKind::Memory,

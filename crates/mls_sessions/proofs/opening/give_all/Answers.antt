@@ -21,9 +21,9 @@ loop-number-preserved c = let key = c.args.gate.now.key in let k : ℕ = c.loop-
     let next : suc k ≡ k + 1 = omega arith in (
       search rules,
       left,
-      c.in-Ok.ensures.items ∙ ((λ i. c.loop-number.invariant.2 i ++ (c.enter.ensures ∙ (λ j. session_at (cut.3 j) (right j)) ∙ ap (λ (t : TableId). session_at t (Sessions key (member k [] ∷ []))) (c.loop-number.invariant.0 ∙ c.requires.office.0)) i ∷ []) ∙ ap (newcomers (office_at c.args.gate.now.table_id key)) next),
+      c.push_reserved.ensures.items ∙ ((λ i. c.loop-number.invariant.2 i ++ (c.enter.ensures ∙ (λ j. session_at (cut.3 j) (right j)) ∙ ap (λ (t : TableId). session_at t (Sessions key (member k [] ∷ []))) (c.loop-number.invariant.0 ∙ c.requires.office.0)) i ∷ []) ∙ ap (newcomers (office_at c.args.gate.now.table_id key)) next),
       search rules,
-      (let more = c.push.ensures.capacity in let had = c.loop-number.invariant.4 in omega arith),
+      (let more = c.push_reserved.ensures.capacity in let had = c.loop-number.invariant.4 in omega arith),
     )
 
 pub enter-requires : goal.enter-requires

@@ -1,6 +1,5 @@
-use Rattle.std.proofs.Common.{sym, subst, vec_len, ◌∙◌, arith}
+use Rattle.std.proofs.Common.{sym, subst, vec_len, arith}
 use Rattle.std.proofs.lemmas.Bool.Decides.{nat_tests}
-use Rattle.std.proofs.Math.Nat.{mod-eq_of_lt}
 use Rattle.std.proofs.lemmas.Result.{IfOk-weaker, IfErr-weaker}
 use Rattle.mls_monitor.specs.Journal.{Monitor}
 use Rattle.mls_sessions.specs.Runs.{Grew}
@@ -13,9 +12,9 @@ returns-in-Err-clause-err g c = subst (λ (m : Monitor). Grew c.args.monitor.sta
 pub returns-in-Ok-open-clause-ok : goal.returns-in-Ok-open-clause-ok
 returns-in-Ok-open-clause-ok g c =
     IfOk-weaker c.ended.result _ _ (λ run same. subst (λ (m : Monitor). Grew c.args.monitor.start c.args.monitor.entries (vec_len c.args.feeds) m) (sym same.0)
-    (grew_as c.in-Ok-open.ensures.start c.in-Ok-open.ensures.base (grind (arith, nat_tests, c.in-Ok-open.ensures.count, c.if-len.false, c.len.ensures, c.len-2.ensures, c.len-3.ensures)) c.run_open.ensures.grew)) c.ended.ensures.ok
+    (grew_as c.in-Ok-open.ensures.start c.in-Ok-open.ensures.base (grind (arith, nat_tests, c.in-Ok-open.ensures.count, c.if-len.false, c.len.ensures, c.len-n.ensures)) c.run_open.ensures.grew)) c.ended.ensures.ok
 
 pub returns-in-Ok-open-clause-err : goal.returns-in-Ok-open-clause-err
 returns-in-Ok-open-clause-err g c =
     IfErr-weaker c.ended.result _ _ (λ fault same. subst (λ (m : Monitor). Grew c.args.monitor.start c.args.monitor.entries (vec_len c.args.feeds) m) (sym same.0)
-    (grew_as c.in-Ok-open.ensures.start c.in-Ok-open.ensures.base (c.in-Ok-open.ensures.count ∙ (mod-eq_of_lt (grind (arith, nat_tests, c.if-len.false, c.len.ensures, c.len-2.ensures)) ∙ c.len-2.ensures)) c.run_open.ensures.grew)) c.ended.ensures.err
+    (grew_as c.in-Ok-open.ensures.start c.in-Ok-open.ensures.base (grind (arith, nat_tests, c.in-Ok-open.ensures.count, c.if-len.false, c.len.ensures, c.len-n.ensures)) c.run_open.ensures.grew)) c.ended.ensures.err
