@@ -53,7 +53,7 @@ heard_by (Submit r) (told.Held held) = Nothing
 heard_by (Check t o x) (told.Entry e) = Nothing
 heard_by (Check t o x) (told.Held held) = Held held
 
--- The same, where something was asked. (own)
+-- What an answer is to what was asked, if anything was: to nothing it is none. (own)
 abbrev pub heard : Option Ask → Told → Answer
 heard None answer = Nothing
 heard (Some a) answer = heard_by a answer
