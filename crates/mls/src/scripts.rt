@@ -62,6 +62,9 @@ pub fn read_scripts(
 }
 
 /// The bytes of texts.
+///
+/// # Errors
+/// `AllocError` where the allocation failed.
 pub fn lent<'a>(alloc: Global, texts: &'a [Vec<u8>]) -> Result<Vec<&'a [u8]>, AllocError>
     requires { All (λ text. vec_len text ≤ SCRIPT_LIMIT) texts.now }
     ensures count { IfOk result (λ slices. vec_len slices ≡ length texts.now) }

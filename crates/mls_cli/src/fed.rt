@@ -72,7 +72,7 @@ fn print_feeds(
     push_ending(alloc, monitor, output)
 }
 
-/// The same, as text.
+/// What a run prints, in a text of its own.
 fn feeds_output(
     alloc: Global,
     monitor: &Monitor,

@@ -125,8 +125,8 @@ fn run_start<R: Threads + Wait + Sync>(
 /// is asked for. It waits for the threads.
 ///
 /// # Errors
-/// The first of these: `Load` where the start is refused, `Thread` where a thread couldn't be started and no session was refused
-/// memory, `Memory` where an allocation failed.
+/// `Load` where the start is refused. `Memory` where an allocation failed for the start, the office or a request, or, where all threads were
+/// started, for what is printed. `Thread` where a thread couldn't be started, and no request was refused memory.
 pub fn run_threads<R: Threads + Wait + Sync>(
     rt: &R,
     alloc: Global,

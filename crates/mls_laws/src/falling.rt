@@ -23,9 +23,9 @@ pub fn labels_change_only_when_it_is_granted()
         × (e.reply ≡ Yes) × (map.get (fold v entries).current s ≡ Some l)) }
 {}
 
-/// No label falls by itself: along a journal without an entry of a trusted subject, the label that an object has at the end
-/// dominates the one that it had.
-pub fn no_label_falls_by_itself()
+/// No object's label falls by itself: along a journal without an entry of a trusted subject, the label that an object has at the end dominates
+/// the one that it had. (A subject may lower its own current level.)
+pub fn no_object_label_falls_by_itself()
     ensures { (v : State) (entries : List Entry) (o : ℕ) → IsSecure v →
         ((n : ℕ) (e : Entry) → slice_get entries n ≡ Some e → set.contains v.trusted e.request.subject ≡ false) →
         IsTrue (is_active v o) → IsTrue (is_active (fold v entries) o) →

@@ -24,7 +24,7 @@ pub use examples::{
     a_secure_state_has_an_access, each_reply_is_given, some_accesses_have_a_reason,
     something_flows, system_z_grants_what_the_monitor_denies,
 };
-pub use falling::{labels_change_only_when_it_is_granted, no_label_falls_by_itself};
+pub use falling::{labels_change_only_when_it_is_granted, no_object_label_falls_by_itself};
 pub use flow::{
     integrity_is_not_lifted, nothing_flows_down, objects_that_feed_each_other_have_one_integrity,
     objects_that_flow_to_each_other_have_one_label, subjects_see_what_they_are_cleared_for,
