@@ -22,7 +22,8 @@
 extern "C" {
 #endif
 
-/* Statuses: MLS_OK, or below 0 where the call changed nothing. The decision is never in the status. */
+/* Statuses: MLS_OK, or below 0, where the handle is as it was; then only what the comments of the calls name is written, as the fault of
+ * MLS_ESTART, MLS_EJOURNAL and MLS_EREPLAY and the length of MLS_ERANGE. The decision is never in the status. */
 enum {
     MLS_OK = 0,
     MLS_ECLOSED = -1,   /* the handle is closed */
