@@ -1,5 +1,5 @@
 use Rattle.std.proofs.Common.{length}
-use Rattle.mls_tests_runs.proofs.feeds.feed_all.Given as goal
+use Rattle.mls_tests.proofs.feeds.feed_all.Given as goal
 
 abbrev pub invariant-loop-ask : goal.invariant-loop-ask
 invariant-loop-ask l = Unit {0}

@@ -1,6 +1,6 @@
 //! The standard start, as a start file says it.
 
-/// The standard start's file.
+/// The standard start's file, `examples/standard.json`.
 pub const STANDARD: &str = r#"{
  "security": {"levels": ["U", "C", "S", "T"], "categories": ["A", "B"]},
  "integrity": {"levels": ["lo", "hi"], "categories": []},

@@ -1,10 +1,10 @@
 //! The standard start and the standard file: each read of what they open with, beside the tables of the format.
+use crate::standard_file::STANDARD;
 use mls_builder::Start;
-use mls_lines::Names;
-use mls_starts::{Loaded, read_start, standard_start};
+use mls_cli::{LoadFault, Loaded, Names, read_start, standard_start};
+use mls_labels::{Label, Scheme};
 use mls_state::{State, is_secure};
 use mls_tables::{Mode, Modes, ObjectId, SubjectId};
-use mls_tests_files::STANDARD;
 use std::alloc::{Allocator, Global};
 use std::process::Abort;
 
@@ -124,6 +124,14 @@ fn are_modes(modes: Modes, listed: &[Mode]) -> bool {
         .all(|x| modes.has(*x) == listed.contains(x))
 }
 
+/// Whether a text is that of a label.
+fn is_label(scheme: &Scheme<Global>, text: &str, label: Label) -> bool {
+    match scheme.read(text) {
+        Ok(found) => found == label,
+        Err(_) => false,
+    }
+}
+
 /// Asserts that a subject is as its row says.
 fn has_subject(
     rt: &impl Abort,
@@ -134,9 +142,9 @@ fn has_subject(
 ) {
     assert!(rt; state.is_subject(s) && names.subject(row.name) == Some(s));
     let (security, integrity) = (names.security(), names.integrity());
-    assert!(rt; security.read(row.maximum) == Ok(state.maximum(s).label()));
-    assert!(rt; security.read(row.current) == Ok(state.current(s).label()));
-    assert!(rt; integrity.read(row.integrity) == Ok(state.subject_integrity(s).label()));
+    assert!(rt; is_label(security, row.maximum, state.maximum(s).label()));
+    assert!(rt; is_label(security, row.current, state.current(s).label()));
+    assert!(rt; is_label(integrity, row.integrity, state.subject_integrity(s).label()));
     assert!(rt; state.is_trusted(s) == row.trusted);
 }
 
@@ -151,8 +159,8 @@ fn has_object(
     assert!(rt; state.is_active(o) && names.object(row.name) == Some(o));
     assert!(rt; state.parent(o) == row.parent && are_numbered(state.children(o), row.children));
     let (security, integrity) = (names.security(), names.integrity());
-    assert!(rt; security.read(row.security) == Ok(state.object_label(o).label()));
-    assert!(rt; integrity.read(row.integrity) == Ok(state.object_integrity(o).label()));
+    assert!(rt; is_label(security, row.security, state.object_label(o).label()));
+    assert!(rt; is_label(integrity, row.integrity, state.object_integrity(o).label()));
 }
 
 /// Asserts that a subject is permitted these modes at the objects in their order, and accesses nothing.
@@ -208,38 +216,39 @@ fn has_tables(rt: &impl Abort, names: &Names<Global>, state: &State<Global>) {
     has_matrix(rt, state);
 }
 
-/// Asserts what the start counts, and that its opening has the tables.
+/// Asserts what a start counts, and that its opening has the tables.
 fn opens_with_tables(rt: &impl Abort, alloc: Global, names: &Names<Global>, start: &Start<Global>) {
     assert!(rt; start.subject_count() == 4 && start.object_count() == 4);
     assert!(rt; start.cell_count() == 12);
     assert!(rt; start.security() == names.security().bounds());
     assert!(rt; start.integrity() == names.integrity().bounds());
     match start.opening(alloc) {
-        Ok(state) => has_tables(rt, names, &state),
-        Err(_) => assert!(rt; false, "memory"),
+        Ok(state) => {
+            has_tables(rt, names, &state);
+            drop(state);
+        }
+        Err(_) => panic!(rt; "out of memory"),
     }
 }
 
-/// Asserts that of a start with its names.
-fn has_names_and_tables(rt: &impl Abort, alloc: Global, loaded: Loaded<Global>) {
-    let (names, start) = loaded.into_parts();
-    opens_with_tables(rt, alloc, &names, &start);
-    drop(start);
-    drop(names);
+/// Asserts that of a start that was made or read, with its names.
+fn is_standard(rt: &impl Abort, alloc: Global, loaded: Result<Loaded<Global>, LoadFault>) {
+    match loaded {
+        Ok(loaded) => {
+            opens_with_tables(rt, alloc, loaded.names(), loaded.start());
+            drop(loaded);
+        }
+        Err(_) => panic!(rt; "refused"),
+    }
 }
 
 #[test]
 fn the_standard_start_has_its_tables(rt: HostRuntime) {
-    match standard_start(rt.alloc()) {
-        Ok(loaded) => has_names_and_tables(&rt, rt.alloc(), loaded),
-        Err(_) => assert!(rt; false, "memory"),
-    }
+    is_standard(&rt, rt.alloc(), standard_start(rt.alloc()));
 }
 
 #[test]
 fn the_standard_file_has_its_tables(rt: HostRuntime) {
-    match read_start(rt.alloc(), STANDARD.as_bytes()) {
-        Ok(loaded) => has_names_and_tables(&rt, rt.alloc(), loaded),
-        Err(_) => assert!(rt; false, "refused"),
-    }
+    let loaded = read_start(rt.alloc(), STANDARD.as_bytes());
+    is_standard(&rt, rt.alloc(), loaded);
 }

@@ -63,7 +63,8 @@ fn bind_all<A: Allocator + Copy>(rt: &impl Abort, vars: &mut Vars<A>) -> u32 {
     refusals
 }
 
-/// Reserves what it takes to bind a variable, and says whether each variable of `BOUND` stays as it is, and this one too.
+/// Reserves what it takes to bind a variable, and says whether each variable of `BOUND` stays as it is, and this one
+/// too.
 fn reserves(vars: &mut Vars<Global>, name: &str) -> bool {
     let before = vars.get(name);
     let Ok(_) = vars.reserve(name) else {
