@@ -1,7 +1,7 @@
 //! What `mls check` prints, and the lines that tell why a command was refused.
 use mls_cli::{CommandFault, LoadFault, check_start, status, write_fault};
 use mls_labels::SchemeFault;
-use mls_rules::StartFault;
+use mls_monitor::StartFault;
 use std::alloc::{AllocError, Global};
 use std::process::Abort;
 use std::test::Fail;

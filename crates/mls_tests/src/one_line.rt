@@ -1,8 +1,7 @@
 //! A variable is bound to the object that its line made, and to nothing else, whatever allocation is refused.
 use mls_cli::{Loaded, Vars, standard_start};
-use mls_monitor::Monitor;
+use mls_monitor::{Monitor, Start};
 use mls_requests::{Reason, Reply};
-use mls_rules::Start;
 use mls_scripts::{Answer, Script};
 use mls_tables::ObjectId;
 use refusing::Refusing;

@@ -1,8 +1,7 @@
 //! Scripts over the standard start: their answers, their entries and the accesses that they leave.
 use crate::rows::{ROWS, Row};
 use mls_cli::{Loaded, Names, serve, standard_start};
-use mls_monitor::Monitor;
-use mls_rules::Start;
+use mls_monitor::{Monitor, Start};
 use mls_tables::{Mode, ObjectId, SubjectId};
 use std::alloc::{Allocator, Global};
 use std::process::Abort;

@@ -1,8 +1,7 @@
 //! A script that is fed alone, and told what a monitor answers, has the answers that serving it writes.
 use mls_cli::{Names, ScriptFeed, serve, standard_start};
-use mls_monitor::Monitor;
+use mls_monitor::{Monitor, Start};
 use mls_requests::Ask;
-use mls_rules::Start;
 use mls_sessions::{Answer, Feed, Stage};
 use std::alloc::{AllocError, Global};
 use std::test::Fail;

@@ -1,6 +1,6 @@
 //! Feeds that give asks ahead of their answers.
 ghost use Rattle.std.specs.Prelude.{◌≡◌, ◌<◌, ◌+◌, IfOk};
-ghost use Rattle.mls_sessions.specs.Runs.{AllAt};
+ghost use Rattle.mls_feeds.specs.Feeds.{AllAt};
 
 use crate::standard::{ANN, release, standard_monitor};
 use mls_requests::{Ask, Entry, Request};

@@ -1,6 +1,6 @@
 //! Runs of feeds, in threads.
 ghost use Rattle.std.specs.Prelude.{◌≡◌, IfOk};
-ghost use Rattle.mls_sessions.specs.Runs.{AllAt};
+ghost use Rattle.mls_feeds.specs.Feeds.{AllAt};
 
 use crate::standard::{ANN, PLANS, release, standard_monitor};
 use mls_monitor::Monitor;

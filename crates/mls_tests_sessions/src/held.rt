@@ -1,6 +1,6 @@
 //! Two feeds, of which one holds its ask back until the other was told its answer: their threads run side by side.
 ghost use Rattle.std.specs.Prelude.{◌≡◌, IfOk};
-ghost use Rattle.mls_sessions.specs.Runs.{AllAt};
+ghost use Rattle.mls_feeds.specs.Feeds.{AllAt};
 
 use crate::standard::{ANN, PLANS, release, standard_monitor};
 use mls_requests::Ask;
