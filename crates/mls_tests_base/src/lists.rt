@@ -19,32 +19,18 @@ fn list_is(rt: &impl Abort, lists: &Lists<ObjectId>, i: usize, wanted: &[ObjectI
     );
 }
 
-/// Takes an object out of the second list, and asserts what is left.
-fn leave(rt: &impl Abort, lists: &mut Lists<ObjectId>, o: ObjectId, left: &[ObjectId])
-    requires { 1 < length lists.old.lists }
-    ensures { length lists.new.lists ≡ length lists.old.lists }
-{
-    lists.discard(1, o);
-    list_is(rt, lists, 1, left);
-}
-
-/// Empties the first list.
-fn empty_the_first(rt: &impl Abort, lists: &mut Lists<ObjectId>)
-    requires { 1 < length lists.old.lists }
-{
-    lists.clear(0);
-    list_is(rt, lists, 0, &[]);
-}
-
 /// Takes an object out of the second list, and one that isn't there, and empties the first.
-fn leave_both(rt: &impl Abort, lists: &mut Lists<ObjectId>)
+fn leave(rt: &impl Abort, lists: &mut Lists<ObjectId>)
     requires { 1 < length lists.old.lists }
 {
     list_is(rt, lists, 0, &[ObjectId(7)]);
     list_is(rt, lists, 1, &[ObjectId(2), ObjectId(3), ObjectId(5)]);
-    leave(rt, lists, ObjectId(3), &[ObjectId(2), ObjectId(5)]);
-    leave(rt, lists, ObjectId(4), &[ObjectId(2), ObjectId(5)]);
-    empty_the_first(rt, lists);
+    lists.discard(1, ObjectId(3));
+    list_is(rt, lists, 1, &[ObjectId(2), ObjectId(5)]);
+    lists.discard(1, ObjectId(4));
+    list_is(rt, lists, 1, &[ObjectId(2), ObjectId(5)]);
+    lists.clear(0);
+    list_is(rt, lists, 0, &[]);
 }
 
 /// Puts four objects into two lists that are new.
@@ -70,7 +56,7 @@ fn leave_copied(
     requires { 1 < length lists.old.lists }
 {
     let copy = lists.duplicate(alloc)?;
-    leave_both(rt, lists);
+    leave(rt, lists);
     list_is(rt, &copy, 1, &[ObjectId(2), ObjectId(3), ObjectId(5)]);
     drop(copy);
     Ok(())
