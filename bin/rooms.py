@@ -70,17 +70,18 @@ def clear_rooms():
 
 
 class Toolchain:
-    """Runs commands of the toolchain, some side by side, and ends them where this run is told to end."""
+    """Runs commands of the toolchain, some side by side, and ends them where this run is told to end. They hold its lock as long as
+    they run, so that no other run begins meanwhile where this one is killed."""
 
-    def __init__(self):
-        self.running, self.is_ended = set(), False
+    def __init__(self, lock):
+        self.lock, self.running, self.is_ended = lock, set(), False
 
     def fault(self, words, folder):
         """Runs a command in a folder. Returns what it said where it failed, else nothing."""
         if self.is_ended:
             return "stopped"
         tool = subprocess.Popen(words, cwd=folder, stdin=subprocess.DEVNULL, stdout=subprocess.PIPE, stderr=subprocess.STDOUT,
-                                text=True, errors="replace")
+                                pass_fds=[self.lock.fileno()], text=True, errors="replace")
         self.running.add(tool)
         said = tool.communicate()[0]
         self.running.discard(tool)
