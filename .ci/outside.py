@@ -5,6 +5,7 @@ import tempfile
 
 TOP = os.path.dirname(os.path.dirname(os.path.realpath(__file__)))
 MLS = f"{TOP}/bin/mls"
+PROVE = f"{TOP}/bin/prove"
 PROGRAM = f"{TOP}/crates/mls/out/mls"
 EXAMPLES = f"{TOP}/examples"
 SECONDS = 60
@@ -16,6 +17,12 @@ def ran(script=b"", words=(), **streams):
     given = {} if "stdin" in streams else {"input": script}
     done = subprocess.run([MLS, *words], timeout=SECONDS, **given, **streams)
     return done.returncode, done.stdout, done.stderr
+
+
+def put(name, content):
+    with open(name, "wb") as file:
+        file.write(content)
+    return name
 
 
 def same(found, wanted):
@@ -42,10 +49,11 @@ def example(name):
 
 def run_checks(what, checks):
     """Runs checks in a folder that is removed after, prints a line for each, and last 'N passed, M failed'; returns the status."""
-    # (the first run may build the program, which takes longer than a check may)
-    if subprocess.run([MLS], stdin=subprocess.DEVNULL).returncode:
+    # (here, since it takes longer than a check may; from then on nothing else is run)
+    if subprocess.run([PROVE], stdin=subprocess.DEVNULL).returncode:
         print(f"{what}: NOT BUILT\n0 passed, 1 failed")
         return 1
+    os.environ["MLS_PROVED"] = "1"
     failed = 0
     with tempfile.TemporaryDirectory() as elsewhere:
         os.chdir(elsewhere)
