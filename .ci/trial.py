@@ -13,8 +13,13 @@ MEMORY_OF_A_TRIAL = 3_000_000_000
 SECONDS_OF_A_TRIAL = 900
 SECONDS_OF_NOTHING = 30
 FOUR = b"ann get-read plans\nbob get-read memo\nann release read plans\nann check read plans\n"
-# The words and the input of each trial: an answered script, files by relative names, one of them written, and a start that is refused.
-TRIALS = [([], FOUR), (["run", "--journal", "sub/journal", "sub/start.json", "script"], b""), (["check", "./refused.json"], b"")]
+# The words and the input of each trial: a script on standard input, files by relative names, one of which is written,
+# and a start that is refused.
+TRIALS = [
+    ([], FOUR),
+    (["run", "--journal", "sub/journal", "sub/start.json", "script"], b""),
+    (["check", "./refused.json"], b""),
+]
 
 
 def bare():
@@ -27,8 +32,8 @@ def bare():
 def unbuilt(words, script=b"", proved="", **streams):
     """Runs mls where nothing is built, and returns its status, its output and its error text."""
     given = {} if "stdin" in streams else {"input": script}
-    done = subprocess.run([bare(), *words], capture_output=True, timeout=SECONDS_OF_A_TRIAL, env={**os.environ, "MLS_PROVED": proved},
-                          **given, **streams)
+    given.update(streams, env={**os.environ, "MLS_PROVED": proved})
+    done = subprocess.run([bare(), *words], capture_output=True, timeout=SECONDS_OF_A_TRIAL, **given)
     return done.returncode, done.stdout, done.stderr
 
 
@@ -40,7 +45,7 @@ def side_by_side():
 
 
 def answers_by_trial():
-    """After one line that says so, an unproved program answers as the proved one does, byte for byte, by the same names of files."""
+    """After one line that says so, a trial answers as the proved program does, byte for byte, by the same names."""
     os.mkdir("sub")
     shutil.copy(f"{EXAMPLES}/standard.json", "sub/start.json")
     put("script", FOUR)
@@ -63,7 +68,8 @@ def answers_by_trial():
 def refusals_where_nothing_is_proved():
     """What asks for the proved program alone, or types at a terminal, is told at once to prove first."""
     terminal, other = pty.openpty()
-    for found in (unbuilt(["--proved"], FOUR), unbuilt([], FOUR, proved="1"), unbuilt([], stdin=other), unbuilt(["check", "/dev/stdin"], FOUR)):
+    asked = [unbuilt(["--proved"], FOUR), unbuilt([], FOUR, proved="1"), unbuilt([], stdin=other)]
+    for found in (*asked, unbuilt(["check", "/dev/stdin"], FOUR)):
         same(found[:2], (126, b""))
         assert found[2].count(b"\n") == 1 and b"run bin/prove first" in found[2], shown(found)
     os.close(terminal)

@@ -1,8 +1,9 @@
 """How bin/prove has the toolchain build crates side by side.
 
-rt builds one library after the other, for it locks the folders of all that lie below. So each library is built in a room: a
-folder with copies of the sources that it needs, and with links to what is built of the libraries below it. What comes of that
-is moved to the library's own out/, where rt finds it: rt knows what is built by a sum of the sources, wherever they lie.
+rt builds one library after the other, for it locks the folders of all that lie below. So each library is built in a
+room: a folder with copies of the sources that it needs, and with links to what is built of the libraries below it. What
+comes of that is moved to the library's own out/, where rt finds it: rt knows what is built by a sum of the sources,
+wherever they lie.
 """
 import fcntl
 import os
@@ -70,8 +71,8 @@ def clear_rooms():
 
 
 class Toolchain:
-    """Runs commands of the toolchain, some side by side, and ends them where this run is told to end. They hold its lock as long as
-    they run, so that no other run begins meanwhile where this one is killed."""
+    """Runs commands of the toolchain, some side by side, and ends them where this run is told to end. Each holds the
+    run's lock as long as it runs, so that no other run begins meanwhile where this one is killed."""
 
     def __init__(self, lock):
         self.lock, self.running, self.is_ended = lock, set(), False
@@ -80,12 +81,13 @@ class Toolchain:
         """Runs a command in a folder. Returns what it said where it failed, else nothing."""
         if self.is_ended:
             return "stopped"
-        tool = subprocess.Popen(words, cwd=folder, stdin=subprocess.DEVNULL, stdout=subprocess.PIPE, stderr=subprocess.STDOUT,
-                                pass_fds=[self.lock.fileno()], text=True, errors="replace")
+        streams = {"stdin": subprocess.DEVNULL, "stdout": subprocess.PIPE, "stderr": subprocess.STDOUT}
+        tool = subprocess.Popen(words, cwd=folder, pass_fds=[self.lock.fileno()], errors="replace", **streams)
         self.running.add(tool)
         said = tool.communicate()[0]
         self.running.discard(tool)
-        return said or f"{' '.join(words)}: status {tool.returncode}" if tool.returncode else ""
+        said = said or f"{' '.join(words)}: status {tool.returncode}"
+        return said if tool.returncode else ""
 
     def end(self):
         self.is_ended = True
@@ -94,13 +96,14 @@ class Toolchain:
 
 
 def build_library(name, crates, jobs, toolchain):
-    """Builds a library whose libraries below are built. Returns what the toolchain said where that failed, else nothing."""
+    """Builds a library whose libraries are built. Returns what the toolchain said where that failed, else nothing."""
     room = f"{ROOMS}/{name}"
     os.makedirs(room)
     for it in [*below(name, crates), name]:
         copy_sources(it, room)
     for it in below(name, crates):
-        shutil.copytree(f"{TOP}/crates/{it}/out/rlib", f"{room}/crates/{it}/out/rlib", copy_function=os.link)
+        built = f"crates/{it}/out/rlib"
+        shutil.copytree(f"{TOP}/{built}", f"{room}/{built}", copy_function=os.link)
     folder = os.open(f"{TOP}/crates/{name}", os.O_RDONLY)
     try:
         # (as rt does, so that no rt works on this crate meanwhile)
@@ -115,5 +118,6 @@ def build_library(name, crates, jobs, toolchain):
 
 
 def build_last(name, jobs, toolchain):
-    """Builds in place a crate whose libraries are built, and runs a program once, on nothing. Returns as build_library does."""
-    return toolchain.fault(["rt", "run" if is_program(name) else "lib", "--jobs", str(jobs)], f"{TOP}/crates/{name}")
+    """Builds a crate in place, and runs a program once, on nothing. Returns as build_library does."""
+    verb = "run" if is_program(name) else "lib"
+    return toolchain.fault(["rt", verb, "--jobs", str(jobs)], f"{TOP}/crates/{name}")
