@@ -5,6 +5,7 @@ import tempfile
 
 TOP = os.path.dirname(os.path.dirname(os.path.realpath(__file__)))
 MLS = f"{TOP}/bin/mls"
+PROVE = f"{TOP}/bin/prove"
 PROGRAM = f"{TOP}/crates/mls/out/mls"
 EXAMPLES = f"{TOP}/examples"
 SECONDS = 60
@@ -55,10 +56,11 @@ def example(name):
 
 def run_checks(what, checks):
     """Runs checks in a folder that is removed after, prints a line for each, and last 'N passed, M failed'; returns the status."""
-    # (the first run may build the program, which takes longer than a check may)
-    if subprocess.run([MLS], stdin=subprocess.DEVNULL).returncode:
+    # (here, since it takes longer than a check may; from then on nothing else is run)
+    if subprocess.run([PROVE], stdin=subprocess.DEVNULL).returncode:
         print(f"{what}: NOT BUILT\n0 passed, 1 failed")
         return 1
+    os.environ["MLS_PROVED"] = "1"
     failed = 0
     with tempfile.TemporaryDirectory() as elsewhere:
         os.chdir(elsewhere)

@@ -7,7 +7,7 @@ set -u
 export LC_ALL=C
 cd "$(dirname -- "$0")/.." || exit 1
 program=$PWD/crates/mls_turns/out/mls_turns
-[ -x "$program" ] || { bin/libraries mls_turns && (cd crates/mls_turns && rt run) </dev/null >/dev/null; } || exit 1
+[ -x "$program" ] || bin/prove mls_turns || exit 1
 
 python3 - "$program" <<'TIMES'
 import os, resource, subprocess, sys, time

@@ -8,7 +8,7 @@ a file for each part of a function's proof as it goes, so the time from one file
 function the sum is printed, and beside it what of it went into borrows and drops, which grow with the ways out of the function
 times the owned values that are alive there times the size of their types.
 
-A function aims at 1.5 s and is split where it passes 3 (CONTRIBUTING.md). What checks kept in out/ is put back at the end.
+What checks kept in out/ is put back at the end.
 Nothing else should work on the machine meanwhile.
 """
 import collections

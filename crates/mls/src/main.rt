@@ -3,28 +3,19 @@
 
 ghost use Rattle.std.specs.Prelude.{◌<◌, ◌≤◌, length, vec_len, All};
 
-mod commands;
-mod files;
-mod output;
-mod progress;
-mod scripts;
-mod serving;
-mod words;
-
-use clap::Error;
-use commands::{check, replay, start_file};
-use mls_cli::{MAX_SCRIPTS, SCRIPT_LIMIT, run_serial, run_threads};
-use output::{NO_MEMORY, NOT_WRITTEN, file_refused, refused};
-use progress::Progress;
-use scripts::{ended_run, lent, read_scripts};
-use serving::serve_standard;
+use mls_commands::{check, ended_run, lent, read_scripts, replay, serve_standard, start_file};
+use mls_files::{NO_MEMORY, Progress, file_refused, refused};
+use mls_outcomes::MAX_SCRIPTS;
+use mls_runs::run_serial;
+use mls_scripts::SCRIPT_LIMIT;
+use mls_threads::run_threads;
+use mls_words::{Job, RunWords, read_words};
 use std::env;
 use std::env::FillError;
 use std::process::ExitCode;
 use std::rt::Env;
 use std::sync::Wait;
 use std::thread::Threads;
-use words::{Job, RunWords, read_words};
 
 /// The line on standard error where the count of scripts is none that can be run.
 const SCRIPT_COUNT: &str = "mls: run: at most 64 scripts";
@@ -32,18 +23,6 @@ const SCRIPT_COUNT: &str = "mls: run: at most 64 scripts";
 /// Whether the program was given a word. No word is copied, so it needs no memory and takes any bytes.
 fn has_words(env: &impl Env) -> bool {
     !matches!(env.arg(1, &mut [0u8; 1]), Err(FillError::NotPresent))
-}
-
-/// Prints help, the version, or why the words aren't understood.
-fn explained(rt: &HostRuntime, error: Error) -> ExitCode {
-    let status = error.exit_code() as u8;
-    let printed = error.print(rt).is_ok();
-    drop(error);
-    if printed {
-        ExitCode::from(status)
-    } else {
-        refused(rt, NOT_WRITTEN, 1)
-    }
 }
 
 /// Runs scripts over the bytes of a start file: each in a thread of its own, or one after the other where that was asked for.
@@ -127,12 +106,12 @@ fn run_words<R: Threads + Wait + Sync>(
     rt: &HostRuntime,
     words: &[String],
 ) -> ExitCode {
-    match read_words(rt.alloc(), words) {
+    match read_words(rt, words) {
         Ok(Job::Check { start }) => check(rt, start),
         Ok(Job::Run(words)) => run(threads, rt, &words),
         Ok(Job::Replay { start, journal }) => replay(rt, start, journal),
         Ok(Job::Serve) => serve_standard(rt),
-        Err(error) => explained(rt, error),
+        Err(status) => status,
     }
 }
 

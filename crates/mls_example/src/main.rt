@@ -2,8 +2,8 @@
 #![tactic(auto)]
 
 use mls_cli::{Names, standard_start};
-use mls_monitor::{Entry, Monitor};
-use mls_rules::{Action, Request, Start};
+use mls_monitor::{Entry, Monitor, Start};
+use mls_rules::{Action, Request};
 use mls_tables::{Mode, ObjectId, SubjectId};
 use std::alloc::AllocError;
 use std::io;

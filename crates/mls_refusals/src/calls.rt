@@ -5,7 +5,7 @@ use mls_cli::{
     CommandFault, LoadFault, Loaded, Names, RunText, SCRIPT_LIMIT, check_start, read_start,
     replay_journal, run_serial, run_threads, standard_start, status, write_fault,
 };
-use mls_rules::Start;
+use mls_monitor::Start;
 use std::io;
 use std::sync::Wait;
 use std::thread::Threads;

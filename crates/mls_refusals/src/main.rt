@@ -8,7 +8,7 @@ mod office;
 
 use calls::{ask_check, ask_line, ask_read, ask_replay, ask_run, ask_standard, ask_threads};
 use mls_cli::{CommandFault, LoadFault};
-use mls_rules::StartFault;
+use mls_monitor::StartFault;
 use office::ask_office;
 use std::alloc::Global;
 use std::io;

@@ -1,10 +1,8 @@
 pub mod Levels
 pub mod Rules
--- What speaks of a state alone stands in mls_state, and what speaks of starts in mls_builder; both are named here too.
+-- What speaks of a state alone stands in mls_state, and is named here too.
 pub use Rattle.mls_state.specs.Audit
 pub use Rattle.mls_state.specs.Changes
 pub use Rattle.mls_state.specs.Properties
 pub use Rattle.mls_state.specs.State
 pub use Rattle.mls_state.specs.StateView
-pub use Rattle.mls_builder.specs.Rows
-pub use Rattle.mls_builder.specs.StartFaults

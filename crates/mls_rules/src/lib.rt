@@ -10,7 +10,6 @@ mod theorems;
 
 pub use applying::{apply, carry_out};
 pub use deciding::decide;
-pub use mls_builder::{BuildRefused, Start, StartBuilder, StartFault};
 pub use mls_requests::{Action, Reason, Reply, Request};
 pub use mls_state::{State, is_secure};
 pub use theorems::tests_are_of_all;

@@ -5,9 +5,9 @@ ghost use Rattle.mls_scripts.specs.Halves.{heard, vars_told};
 
 use crate::answer::Answer;
 use crate::output::write_answer;
+use mls_feeds::Answer as Told;
 use mls_lines::Vars;
 use mls_requests::{Ask, Reply};
-use mls_sessions::Answer as Told;
 use std::alloc::{AllocError, Allocator};
 
 /// What a line asks, and the variable that it binds, where it has one.

@@ -5,11 +5,13 @@ use Rattle.std.specs.Prelude.{drop}
 use Rattle.mls_requests.specs.declared.entry.Entry.{Entry}
 use Rattle.mls_state.specs.State.{State}
 use Rattle.mls_monitor.specs.Journal.{Monitor}
-use Rattle.mls_sessions.specs.Journals.{journal_of, AllBelow}
+use Rattle.mls_sessions.specs.Journals.{journal_of}
+use Rattle.mls_feeds.specs.Entries.{AllBelow}
 use Rattle.mls_sessions.specs.Rule.{begun, base}
 use Rattle.mls_sessions.specs.Sessions.{Office, Session, IsOf, Ascending, Leaves, number_of}
-use Rattle.mls_sessions.specs.Runs.{AllAt, Returned, Grew}
-use Rattle.mls_sessions.specs.declared.feed.Stage.{Stage}
+use Rattle.mls_sessions.specs.Runs.{Returned, Grew}
+use Rattle.mls_feeds.specs.Feeds.{AllAt}
+use Rattle.mls_feeds.specs.declared.feed.Stage.{Stage}
 
 pub returned_snoc : (o : Office) (ss ts : List Session) (s t : Session) → Returned o ss ts → IsOf o t → number_of t.view ≡ number_of s.view → Returned o (ss ++ s ∷ []) (ts ++ t ∷ [])
 returned_snoc o [] [] s t r is same = (is, same, tt)
@@ -25,10 +27,6 @@ returned_ascending o k (s ∷ ss) [] a r = absurd r
 returned_ascending o k (s ∷ ss) (t ∷ ts) a r = (r.0, subst (λ (m : ℕ). k ≤ m) (sym r.1) a.1, returned_ascending o (number_of t.view + 1) ss ts (subst (λ (m : ℕ). Ascending o (m + 1) ss) (sym r.1) a.2) r.2)
 
 module _ {F : Type 0} (at : F → Stage) (stage : Stage) where
-  pub at_snoc : (feeds : List F) (f : F) → AllAt at stage feeds → at f ≡ stage → AllAt at stage (feeds ++ f ∷ [])
-  at_snoc [] f all is = (is, tt)
-  at_snoc (x ∷ feeds) f all is = (all.0, at_snoc feeds f all.1 is)
-
   pub at_last : (feeds : List F) (f : F) → AllAt at stage (feeds ++ f ∷ []) → AllAt at stage feeds × (at f ≡ stage)
   at_last [] f all = (tt, all.0)
   at_last (x ∷ feeds) f all = let t = at_last feeds f all.1 in ((all.0, t.0), t.1)

@@ -4,14 +4,9 @@ use mathlib.Core.List.{IsPrefix}
 use Rattle.mls_state.specs.State.{State}
 use Rattle.mls_requests.specs.declared.entry.Entry.{Entry}
 use Rattle.mls_monitor.specs.Journal.{Monitor}
-use Rattle.mls_sessions.specs.Journals.{AllBelow}
+use Rattle.mls_feeds.specs.Entries.{AllBelow}
 use Rattle.mls_sessions.specs.Sessions.{Office, Session, IsOf, number_of}
-use Rattle.mls_sessions.specs.declared.feed.Stage.{Stage}
-
--- Each feed stands at this stage. (own)
-abbrev pub AllAt : {F : Type 0} → (F → Stage) → Stage → List F → Type 0
-AllAt at stage [] = Unit {0}
-AllAt at stage (f ∷ feeds) = (at f ≡ stage) × AllAt at stage feeds
+use Rattle.mls_feeds.specs.declared.feed.Stage.{Stage}
 
 -- The same sessions, number by number, each of the office. (own)
 abbrev pub Returned : Office → List Session → List Session → Type 0

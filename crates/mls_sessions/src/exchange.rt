@@ -3,12 +3,12 @@ ghost use Rattle.std.specs.Prelude.{◌≡◌, ◌<◌, ◌≤◌, ◌∷◌, []
 ghost use Rattle.mls_sessions.specs.Sessions.{IsOf, number_of};
 ghost use Rattle.mls_sessions.specs.Feeds.{Tells, Halts, TakesTurn, BreaksOff};
 
-use crate::feed::{Answer, Feed, Stage};
 use crate::gathering::{gather, halt, tell};
 use crate::given::Given;
 use crate::limits::AHEAD;
 use crate::office::Office;
 use crate::session::Session;
+use mls_feeds::{Answer, Feed, Stage};
 use mls_requests::Ask;
 use std::alloc::AllocError;
 use std::sync::Wait;

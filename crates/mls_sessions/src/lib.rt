@@ -9,7 +9,6 @@ mod boxed_monitor;
 mod closing;
 mod counts;
 mod exchange;
-mod feed;
 mod gate;
 mod gate_table;
 mod gathering;
@@ -31,8 +30,8 @@ mod tests;
 mod try_fault;
 mod turn;
 
-pub use feed::{Answer, Feed, Stage};
 pub use limits::MAX_SESSIONS;
+pub use mls_feeds::{Answer, Feed, Stage};
 pub use office::Office;
 pub use office_fault::{CloseFault, OfficeFault, OfficeFaultKind};
 pub use run::run_sessions;

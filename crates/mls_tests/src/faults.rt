@@ -1,6 +1,8 @@
 //! The lines of faults that no file has: a label of a file is within its bounds, and a cell names what is there.
 use mls_builder::StartFault;
-use mls_cli::{CommandFault, LoadFault, status, write_fault};
+use mls_checks::write_fault;
+use mls_outcomes::{CommandFault, status};
+use mls_starts::LoadFault;
 use std::alloc::Global;
 
 /// Faults of a start in the file `s.json`, and their lines.

@@ -1,9 +1,11 @@
 //! A script that is fed alone, and told what a monitor answers, has the answers that serving it writes.
 use crate::standard::standard_monitor;
-use mls_cli::{Names, ScriptFeed, serve, standard_start};
+use mls_feeds::{Answer, Feed, Stage};
+use mls_lines::Names;
 use mls_monitor::Monitor;
 use mls_requests::Ask;
-use mls_sessions::{Answer, Feed, Stage};
+use mls_scripts::{ScriptFeed, serve};
+use mls_starts::standard_start;
 use std::alloc::{AllocError, Global};
 use std::process::Abort;
 

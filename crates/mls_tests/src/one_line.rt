@@ -1,9 +1,10 @@
 //! A variable is bound to the object that its line made, and to nothing else, whatever allocation is refused.
 use crate::standard::standard_monitor;
-use mls_cli::{Vars, standard_start};
+use mls_lines::Vars;
 use mls_monitor::Monitor;
 use mls_requests::{Reason, Reply};
 use mls_scripts::{Answer, Script};
+use mls_starts::standard_start;
 use mls_tables::ObjectId;
 use refusing::Refusing;
 use std::alloc::{AllocError, Allocator, Global};

@@ -1,5 +1,5 @@
 //! Variables that are bound, bound again, and the allocations that they need.
-use mls_cli::Vars;
+use mls_lines::Vars;
 use mls_tables::ObjectId;
 use refusing::Refusing;
 use std::alloc::{Allocator, Global};

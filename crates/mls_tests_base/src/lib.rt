@@ -1,13 +1,20 @@
-//! Tests of the rooms below the rules: labels, tables, the tree, requests and their words.
+//! Tests of what only calls show of labels, tables and the tree, each mostly a table of steps. The words of requests and replies are
+//! in .ci/check-rows, which the program answers.
 #![tactic(auto)]
 
 #[cfg(test)]
 mod labels;
 #[cfg(test)]
-mod requests;
+mod lists;
+#[cfg(test)]
+mod matrices;
+#[cfg(test)]
+mod orders;
+#[cfg(test)]
+mod schemes;
 #[cfg(test)]
 mod seen;
 #[cfg(test)]
-mod tables;
+mod sets;
 #[cfg(test)]
-mod tree;
+mod trees;

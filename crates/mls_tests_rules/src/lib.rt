@@ -1,15 +1,24 @@
-//! Tests of what a state is, of the rules and of the monitor, that need nothing private of their crates.
+//! Tests of what only calls show of starts, states, the rules and the monitor. The worked scripts and journals are in
+//! .ci/check-rows, which the program answers.
 #![tactic(auto)]
 
 #[cfg(test)]
-mod monitor;
+mod alike;
+#[cfg(test)]
+mod changes;
+#[cfg(test)]
+mod journals;
+#[cfg(test)]
+mod monitors;
+#[cfg(test)]
+mod refusals;
 #[cfg(test)]
 mod replays;
 #[cfg(test)]
-mod rules;
+mod requests;
+#[cfg(test)]
+mod seen;
 #[cfg(test)]
 mod standard;
 #[cfg(test)]
 mod starts;
-#[cfg(test)]
-mod state;

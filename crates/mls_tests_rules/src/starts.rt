@@ -1,81 +1,16 @@
 //! Starts that are built by calls: what they count, what they open with, and why they are refused.
-use crate::standard::{begun, built, integrity, make_all, row_calls, security, started};
+use crate::seen::sees;
+use crate::standard::{begun, built, give_rows, integrity, security, started};
 use mls_builder::{Start, StartBuilder};
 use mls_state::{State, is_secure};
-use mls_tables::{Mode, Modes, ObjectId, SubjectId};
+use mls_tables::{Mode, ObjectId, SubjectId};
 use std::alloc::{AllocError, Allocator, Global};
 use std::process::Abort;
 use std::test::Fail;
 
 mod faults;
-mod limits;
-mod refusals;
 
-const BOB: SubjectId = SubjectId(1);
-
-const TOOL: ObjectId = ObjectId(3);
-
-/// Permits all modes to a subject at an object, from the last to the first, each twice.
-fn allow_twice<A: Allocator>(
-    builder: &mut StartBuilder<A>,
-    s: SubjectId,
-    o: ObjectId,
-) -> Result<(), AllocError> {
-    for x in [Mode::Write, Mode::Append, Mode::Read, Mode::Execute] {
-        builder.allow(s, o, x)?;
-        builder.allow(s, o, x)?;
-    }
-    Ok(())
-}
-
-/// Gives the subjects and the objects of the standard start last, and before them a matrix that permits all modes at two places, twice over.
-fn give_repeatedly<A: Allocator>(builder: &mut StartBuilder<A>) -> Result<(), AllocError> {
-    allow_twice(builder, BOB, TOOL)?;
-    allow_twice(builder, SubjectId(0), ObjectId(0))?;
-    make_all(builder, &row_calls())?;
-    allow_twice(builder, BOB, TOOL)
-}
-
-/// A start of which each cell was given several times.
-fn given_repeatedly(alloc: Global) -> Result<Start<Global>, AllocError> {
-    let mut builder = begun(alloc);
-    give_repeatedly(&mut builder)?;
-    built(builder)
-}
-
-/// Whether all modes are there.
-fn has_all(modes: Modes) -> bool {
-    [Mode::Execute, Mode::Read, Mode::Append, Mode::Write]
-        .iter()
-        .all(|x| modes.has(*x))
-}
-
-/// Asserts that a state's matrix permits all modes at two places and nothing beside them.
-fn permits_two_cells<A: Allocator>(rt: &impl Abort, state: &State<A>) {
-    assert!(rt;
-        state.is_subject(BOB)
-            && state.is_subject(SubjectId(0))
-            && state.is_active(TOOL)
-            && state.is_active(ObjectId(0))
-    );
-    assert!(rt;
-        has_all(state.allowed(BOB, TOOL)) && has_all(state.allowed(SubjectId(0), ObjectId(0)))
-    );
-    assert!(rt; state.allowed(BOB, ObjectId(0)).is_empty());
-    assert!(rt; state.allowed(SubjectId(0), TOOL).is_empty());
-    assert!(rt; is_secure(state) && is_idle(state));
-}
-
-/// Whether nobody accesses anything.
-fn is_idle<A: Allocator>(state: &State<A>) -> bool {
-    for n in 0..state.subject_count() {
-        let s = SubjectId::new(n);
-        if state.is_subject(s) && !state.objects_of(s).is_empty() {
-            return false;
-        }
-    }
-    true
-}
+const MODES: [Mode; 4] = [Mode::Write, Mode::Append, Mode::Read, Mode::Execute];
 
 /// Asserts what a start counts.
 pub fn counts<A: Allocator>(
@@ -85,30 +20,131 @@ pub fn counts<A: Allocator>(
     objects: u16,
     cells: usize,
 ) {
-    assert!(rt; start.subject_count() == subjects);
-    assert!(rt; start.object_count() == objects);
-    assert!(rt; start.cell_count() == cells);
-}
-
-#[test]
-fn a_triple_counts_once(rt: HostRuntime) -> Result<(), Fail> {
-    let start = given_repeatedly(rt.alloc())?;
-    counts(&rt, &start, 4, 4, 8);
-    let state = start.opening(rt.alloc())?;
-    permits_two_cells(&rt, &state);
-    drop(state);
-    drop(start);
-    Ok(())
+    sees(rt, start.subject_count() == subjects, "how many subjects");
+    sees(rt, start.object_count() == objects, "how many objects");
+    sees(rt, start.cell_count() == cells, "how many cells");
 }
 
 #[test]
 fn the_standard_start_is_built(rt: HostRuntime) -> Result<(), Fail> {
     let start = started(rt.alloc())?;
     counts(&rt, &start, 4, 4, 12);
-    assert!(rt; start.security().has(security(3, 2).label()));
-    assert!(rt; !start.security().has(security(4, 0).label()));
-    assert!(rt; start.integrity().has(integrity(1).label()));
-    assert!(rt; !start.integrity().has(integrity(2).label()));
+    sees(&rt, start.security().has(security(3, 2).label()), "a label");
+    sees(
+        &rt,
+        !start.security().has(security(4, 0).label()),
+        "a level",
+    );
+    sees(&rt, start.integrity().has(integrity(1).label()), "a label");
+    sees(&rt, !start.integrity().has(integrity(2).label()), "a level");
+    drop(start);
+    Ok(())
+}
+
+/// Permits all modes to a subject at an object.
+fn allow_all<A: Allocator>(
+    builder: &mut StartBuilder<A>,
+    s: SubjectId,
+    o: ObjectId,
+) -> Result<(), AllocError> {
+    for x in MODES {
+        builder.allow(s, o, x)?;
+    }
+    Ok(())
+}
+
+const BOB: SubjectId = SubjectId(1);
+
+const TOOL: ObjectId = ObjectId(3);
+
+/// Gives the subjects and the objects of the standard start, and before them and after them a matrix that permits all modes at
+/// two places.
+fn give_twice<A: Allocator>(builder: &mut StartBuilder<A>) -> Result<(), AllocError> {
+    allow_all(builder, BOB, TOOL)?;
+    allow_all(builder, SubjectId(0), ObjectId(0))?;
+    give_rows(builder)?;
+    allow_all(builder, BOB, TOOL)?;
+    allow_all(builder, SubjectId(0), ObjectId(0))
+}
+
+/// Asserts whether a state permits all modes or none.
+fn permits<A: Allocator>(rt: &impl Abort, state: &State<A>, s: SubjectId, o: ObjectId, all: bool) {
+    sees(rt, state.is_subject(s) && state.is_active(o), "a cell");
+    let allowed = state.allowed(s, o);
+    sees(rt, MODES.iter().all(|x| allowed.has(*x) == all), "modes");
+    sees(rt, state.accesses(s, o).is_empty(), "no access");
+}
+
+#[test]
+fn a_triple_counts_once(rt: HostRuntime) -> Result<(), Fail> {
+    let mut builder = begun(rt.alloc());
+    give_twice(&mut builder)?;
+    let start = built(builder)?;
+    counts(&rt, &start, 4, 4, 8);
+    let state = start.opening(rt.alloc())?;
+    permits(&rt, &state, BOB, TOOL, true);
+    permits(&rt, &state, SubjectId(0), ObjectId(0), true);
+    permits(&rt, &state, BOB, ObjectId(0), false);
+    permits(&rt, &state, SubjectId(0), TOOL, false);
+    sees(&rt, is_secure(&state), "a secure state");
+    drop(state);
+    drop(start);
+    Ok(())
+}
+
+/// Permits all modes to a subject at all objects.
+fn allow_row<A: Allocator>(builder: &mut StartBuilder<A>, s: SubjectId) -> Result<(), AllocError> {
+    for n in 0..4096 {
+        allow_all(builder, s, ObjectId(n))?;
+    }
+    Ok(())
+}
+
+/// Permits all modes to 256 subjects, the last first, at 4,096 objects.
+fn allow_table<A: Allocator>(builder: &mut StartBuilder<A>) -> Result<(), AllocError> {
+    for s in (0..256).rev() {
+        allow_row(builder, SubjectId(s))?;
+    }
+    Ok(())
+}
+
+/// Gives 256 subjects U, U, hi, and 4,095 objects U hi, each below the one before.
+fn give_chain<A: Allocator>(builder: &mut StartBuilder<A>) -> Result<(), AllocError> {
+    let (open, high) = (security(0, 0), integrity(1));
+    for n in 0..4095 {
+        builder.object(ObjectId(n), open, high)?;
+        if n < 256 {
+            builder.subject(open, open, high, false)?;
+        }
+    }
+    Ok(())
+}
+
+/// Asserts that an object is there, and what its parent is.
+fn is_below<A: Allocator>(
+    rt: &impl Abort,
+    state: &State<A>,
+    o: ObjectId,
+    parent: Option<ObjectId>,
+) {
+    sees(rt, state.is_active(o), "an object");
+    sees(rt, state.parent(o) == parent, "a parent");
+}
+
+#[test]
+fn the_largest_start_with_a_full_matrix(rt: HostRuntime) -> Result<(), Fail> {
+    let mut builder = begun(rt.alloc());
+    allow_table(&mut builder)?;
+    give_chain(&mut builder)?;
+    let start = built(builder)?;
+    counts(&rt, &start, 256, 4096, 4_194_304);
+    let state = start.opening(rt.alloc())?;
+    sees(&rt, is_secure(&state) && state.next() == 4096, "a state");
+    is_below(&rt, &state, ObjectId(4095), Some(ObjectId(4094)));
+    is_below(&rt, &state, ObjectId(1), Some(ObjectId(0)));
+    is_below(&rt, &state, ObjectId(0), None);
+    permits(&rt, &state, SubjectId(255), ObjectId(4095), true);
+    drop(state);
     drop(start);
     Ok(())
 }

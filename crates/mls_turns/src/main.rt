@@ -4,8 +4,7 @@
 mod turns;
 
 use mls_cli::standard_start;
-use mls_monitor::Monitor;
-use mls_rules::Start;
+use mls_monitor::{Monitor, Start};
 use mls_sessions::run_sessions;
 use std::alloc::{AllocError, Global};
 use std::sync::{Mutex, Wait};

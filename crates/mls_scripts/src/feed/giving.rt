@@ -1,13 +1,13 @@
 //! What a script that is fed gives, and what it makes of the answers.
 ghost use Rattle.std.specs.Prelude.{◌≡◌, ◌<◌, ◌≤◌, ◌+◌, true, length, None, IfSome, IfNone};
-ghost use Rattle.mls_sessions.specs.declared.feed.Stage.TheVariants as stage;
+ghost use Rattle.mls_feeds.specs.declared.feed.Stage.TheVariants as stage;
 ghost use Rattle.mls_scripts.specs.Fed.{Gives, GivesAhead, Takes};
 
 use crate::feed::ScriptFeed;
 use crate::halves::{bind_heard, hear, make_room, push_answer};
 use crate::looking::{Next, Seen, enqueue, look};
+use mls_feeds::{Answer as Told, Feed, Stage};
 use mls_requests::Ask;
-use mls_sessions::{Answer as Told, Feed, Stage};
 
 impl<'a> Feed for ScriptFeed<'a> {
     ghost asks_left = { λ f. length f.rest };

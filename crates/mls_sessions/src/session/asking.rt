@@ -6,12 +6,12 @@ ghost use Rattle.mls_sessions.specs.Rule.{begun};
 ghost use Rattle.mls_sessions.specs.Sessions.{IsOf, Submits, Sees, history, number_of};
 ghost use Rattle.mls_sessions.specs.Feeds.{Learns};
 
-use crate::feed::Answer;
 use crate::gate::{named, win};
 use crate::office::Office;
 use crate::session::Session;
 use crate::try_fault::{Busy, TryFault};
 use crate::turn::{inspect, record, record_all, wait};
+use mls_feeds::Answer;
 use mls_requests::{Ask, Entry, Request};
 use mls_tables::{Mode, ObjectId, SubjectId};
 use std::alloc::AllocError;

@@ -2,7 +2,8 @@
 use super::lines::{SHORT, SHORT_ANSWERS, count_lines, first_lines};
 use super::streams::{Limits, Pieces, Sink};
 use super::{Left, Setting, WIDE, Wanted, leaves, run};
-use mls_cli::{Names, ServeFault};
+use mls_lines::Names;
+use mls_scripts::ServeFault;
 use std::alloc::Global;
 use std::cell::Cell;
 use std::io::{BufWriter, ErrorKind};

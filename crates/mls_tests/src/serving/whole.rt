@@ -2,7 +2,8 @@
 use super::lines::{SHORT, SHORT_ANSWERS};
 use super::streams::{Limits, Pieces, Sink, Waiting};
 use super::{Left, Setting, WIDE, Wanted, leaves, run};
-use mls_cli::{Names, SCRIPT_LIMIT, ServeFault};
+use mls_lines::Names;
+use mls_scripts::{SCRIPT_LIMIT, ServeFault};
 use std::alloc::{AllocError, Global};
 use std::cell::Cell;
 use std::process::Abort;

@@ -1,5 +1,6 @@
-//! Each fault alone, and two at once: the first in the order of the faults is told, whatever the order of the calls.
-use crate::standard::{begun, integrity, security};
+//! Each fault alone, and two at once: the first in the order of the faults is returned, whatever the order of the calls.
+use crate::seen::sees;
+use crate::standard::{integrity, security};
 use mls_builder::{StartBuilder, StartFault};
 use mls_labels::Bounds;
 use mls_tables::{Mode, ObjectId, SubjectId};
@@ -54,101 +55,11 @@ fn add_wrong(builder: &mut StartBuilder<Global>, fault: StartFault) -> Result<()
     }
 }
 
-/// Gives what makes the faults apply, in this order, and a subject where there is to be one.
-fn add_all_wrong(
-    builder: &mut StartBuilder<Global>,
-    faults: &[StartFault],
-) -> Result<(), AllocError> {
-    if !faults.contains(&StartFault::NoSubjects) {
-        add_subjects(builder, 1)?;
-    }
-    for fault in faults {
-        add_wrong(builder, *fault)?;
-    }
-    Ok(())
-}
-
-/// Asserts that what was refused for a fault is refused for it again.
-fn is_refused_again(rt: &impl Abort, builder: StartBuilder<Global>, fault: StartFault) {
-    match builder.build() {
-        Ok(_) => assert!(rt; false, "built"),
-        Err(refused) => assert!(rt; refused.fault == fault),
-    }
-}
-
-/// The fault for which a start isn't built, if it isn't.
-fn fault_of(rt: &impl Abort, builder: StartBuilder<Global>) -> Option<StartFault> {
-    match builder.build() {
-        Ok(_) => None,
-        Err(refused) => {
-            let fault = refused.fault;
-            is_refused_again(rt, refused.builder, fault);
-            Some(fault)
-        }
-    }
-}
-
-/// Asserts that the first of the faults, given in this order, is `told`.
-fn tells(
-    rt: &impl Abort,
-    alloc: Global,
-    faults: &[StartFault],
-    told: StartFault,
-) -> Result<(), AllocError> {
-    let (security_bounds, integrity_bounds) = (Bounds::new(4, 2), Bounds::new(2, 0));
-    let (label, low) = (security(1, 0), integrity(0));
-    let mut builder = StartBuilder::new(alloc, security_bounds, integrity_bounds, label, low);
-    add_all_wrong(&mut builder, faults)?;
-    assert!(rt; fault_of(rt, builder) == Some(told));
-    Ok(())
-}
-
-/// Whether both faults can apply: where there is no subject, none has a wrong label and there aren't too many.
-fn can_meet(lesser: StartFault, greater: StartFault) -> bool {
-    lesser != StartFault::NoSubjects
-        || (greater != StartFault::TooManySubjects && greater != StartFault::CurrentAboveMaximum)
-}
-
-/// Asserts of a fault and each lesser one that the lesser is told, whichever is given first.
-fn lesser_is_told(
-    rt: &impl Abort,
-    alloc: Global,
-    lesser: &[StartFault],
-    greater: StartFault,
-) -> Result<(), AllocError> {
-    for fault in lesser {
-        if can_meet(*fault, greater) {
-            tells(rt, alloc, &[*fault, greater], *fault)?;
-            tells(rt, alloc, &[greater, *fault], *fault)?;
-        }
-    }
-    Ok(())
-}
-
-#[test]
-fn each_fault_is_told(rt: HostRuntime) -> Result<(), Fail> {
-    for fault in FAULTS {
-        tells(&rt, rt.alloc(), &[fault], fault)?;
-    }
-    Ok(())
-}
-
-#[test]
-fn of_two_faults_the_lesser_is_told(rt: HostRuntime) -> Result<(), Fail> {
-    for (n, greater) in FAULTS.iter().enumerate() {
-        lesser_is_told(&rt, rt.alloc(), &FAULTS[..n], *greater)?;
-    }
-    Ok(())
-}
-
-/// Gives the calls of one fault below a root that is U hi.
+/// Gives what makes a fault apply below a root that is U hi.
 fn add_worked(builder: &mut StartBuilder<Global>, fault: StartFault) -> Result<(), AllocError> {
     let (open, middle) = (security(0, 0), security(1, 0));
     let (low, high) = (integrity(0), integrity(1));
     match fault {
-        StartFault::NoSubjects => Ok(()),
-        StartFault::TooManySubjects => add_subjects(builder, 257),
-        StartFault::TooManyObjects => add_objects(builder, 4096),
         StartFault::BadLabel => builder.subject(security(4, 0), open, high, false),
         StartFault::BadParent => builder.object(ObjectId(1), open, high),
         StartFault::CurrentAboveMaximum => builder.subject(middle, security(2, 0), high, false),
@@ -161,32 +72,106 @@ fn add_worked(builder: &mut StartBuilder<Global>, fault: StartFault) -> Result<(
             builder.object(ObjectId(1), open, high)
         }
         StartFault::NoSuchCell => builder.allow(SubjectId(9), ROOT, Mode::Read),
+        other => add_wrong(builder, other),
     }
 }
 
-/// Gives those calls, and before them a subject U, U, hi where there is to be one.
-fn add_with_subject(
+/// Gives a subject unless there is to be none, and then what makes the faults apply, in this order.
+fn add_all(
     builder: &mut StartBuilder<Global>,
-    fault: StartFault,
+    faults: &[StartFault],
+    worked: bool,
 ) -> Result<(), AllocError> {
-    if fault != StartFault::NoSubjects {
-        builder.subject(security(0, 0), security(0, 0), integrity(1), false)?;
+    if !faults.contains(&StartFault::NoSubjects) {
+        add_subjects(builder, 1)?;
     }
-    add_worked(builder, fault)
+    for fault in faults {
+        if worked {
+            add_worked(builder, *fault)?;
+        } else {
+            add_wrong(builder, *fault)?;
+        }
+    }
+    Ok(())
 }
 
-/// Asserts that those calls are refused for the fault.
-fn is_told(rt: &impl Abort, alloc: Global, fault: StartFault) -> Result<(), AllocError> {
-    let mut builder = begun(alloc);
-    add_with_subject(&mut builder, fault)?;
-    assert!(rt; fault_of(rt, builder) == Some(fault));
+/// Asserts that a start isn't built, for a fault. Returns the builder, or nothing where the start was built.
+fn refused(
+    rt: &impl Abort,
+    builder: StartBuilder<Global>,
+    fault: StartFault,
+) -> Option<StartBuilder<Global>> {
+    match builder.build() {
+        Ok(_) => None,
+        Err(refused) => {
+            sees(rt, refused.fault == fault, "the fault");
+            Some(refused.builder)
+        }
+    }
+}
+
+/// Asserts that a start isn't built, for a fault, and not where it is tried again.
+fn is_refused_twice(rt: &impl Abort, builder: StartBuilder<Global>, fault: StartFault) {
+    match refused(rt, builder, fault) {
+        Some(builder) => sees(rt, refused(rt, builder, fault).is_some(), "a refusal"),
+        None => sees(rt, false, "a refusal"),
+    }
+}
+
+/// Asserts that the first of the faults, given in this order, is `first`, below a root C lo, or U hi where `worked`.
+fn finds(
+    rt: &impl Abort,
+    alloc: Global,
+    faults: &[StartFault],
+    first: StartFault,
+    worked: bool,
+) -> Result<(), AllocError> {
+    let (label, trust) = if worked {
+        (security(0, 0), integrity(1))
+    } else {
+        (security(1, 0), integrity(0))
+    };
+    let mut builder = StartBuilder::new(alloc, Bounds::new(4, 2), Bounds::new(2, 0), label, trust);
+    let added = add_all(&mut builder, faults, worked);
+    is_refused_twice(rt, builder, first);
+    added
+}
+
+#[test]
+fn each_fault_is_found(rt: HostRuntime) -> Result<(), Fail> {
+    for fault in FAULTS {
+        finds(&rt, rt.alloc(), &[fault], fault, false)?;
+        finds(&rt, rt.alloc(), &[fault], fault, true)?;
+    }
+    Ok(())
+}
+
+/// Whether both faults can apply: where there is no subject, none has a wrong label and there aren't too many.
+fn can_meet(lesser: StartFault, greater: StartFault) -> bool {
+    lesser != StartFault::NoSubjects
+        || (greater != StartFault::TooManySubjects && greater != StartFault::CurrentAboveMaximum)
+}
+
+/// Asserts of a fault and each lesser one that the lesser is found, whichever is given first.
+fn lesser_is_found(
+    rt: &impl Abort,
+    alloc: Global,
+    lesser: &[StartFault],
+    greater: StartFault,
+) -> Result<(), AllocError> {
+    for fault in lesser {
+        if can_meet(*fault, greater) {
+            finds(rt, alloc, &[*fault, greater], *fault, false)?;
+            finds(rt, alloc, &[greater, *fault], *fault, false)?;
+        }
+    }
     Ok(())
 }
 
 #[test]
-fn each_worked_fault_is_told(rt: HostRuntime) -> Result<(), Fail> {
-    for fault in FAULTS {
-        is_told(&rt, rt.alloc(), fault)?;
+fn of_two_faults_the_lesser_is_found(rt: HostRuntime) -> Result<(), Fail> {
+    for (n, greater) in FAULTS.iter().enumerate() {
+        lesser_is_found(&rt, rt.alloc(), &FAULTS[..n], *greater)?;
     }
     Ok(())
 }

@@ -1,0 +1,177 @@
+"""Worked scripts that show the rules: lines of scripts, each with the answer that it must have, worked out by hand."""
+
+# A name, and a script over the standard start: a line has what is asked, two spaces or more, and its answer.
+SCRIPTS = [
+    ("gets and releases", """
+        bob get-append plans        no integrity
+        ann get-read memo           no integrity
+        ann get-append plans        no discretionary
+        bob get-read memo           no star
+        ann get-execute tool        no integrity
+        bob get-execute tool        yes
+        sec get-write plans         yes
+        sec get-write memo          no integrity
+        ann release write plans     yes
+        ann give read bob plans     no authority
+        ann give read bob root      no authority
+        sec give read bob root      yes
+        ann get-read plans          yes
+        ann get-read plans          yes
+        sec get-write root          yes
+        sec rescind read ann plans  yes
+        ann get-read plans          no discretionary
+        #9 get-read plans           undefined
+        ann get-read #77            undefined
+        sec delete root             no root
+        ann delete plans            no authority
+        ann check execute plans     not held
+        ann check read plans        not held
+        ann check append plans      not held
+        ann check write plans       not held
+        sec check write plans       held
+        ann get-write plans         yes
+    """),
+    ("an access is held from its get to its release", """
+        ann get-read memo           no integrity
+        ann check read plans        not held
+        ann get-read plans          yes
+        ann check read plans        held
+        ann get-read plans          yes
+        ann check read plans        held
+        bob get-read memo           no star
+        ann check read plans        held
+        bob get-execute tool        yes
+        ann check read plans        held
+        ann release read plans      yes
+        ann check read plans        not held
+        sec get-write plans         yes
+        ann check read plans        not held
+        ann release write plans     yes
+        #9 get-read plans           undefined
+        sec get-write memo          no integrity
+        ann check read plans        not held
+        sec check write plans       held
+        sec check write memo        not held
+        #9 check read plans         not held
+        ann check read #77          not held
+        sec get-write root          yes
+        sec create root U hi        created 4
+    """),
+    ("subjects change their levels", """
+        bob level S                 no ceiling
+        bob get-read memo           no star
+        bob level C                 yes
+        bob get-read memo           yes
+        bob level U                 no star
+        bob release read memo       yes
+        bob level U                 yes
+        sec get-write plans         yes
+        sec level T:A,B             yes
+        bob get-read memo           no star
+        sec check write plans       held
+    """),
+    ("holders and the tree bind a trusted subject", """
+        ann get-read plans          yes
+        sec relabel plans T:A       no simple
+        sec relabel root C          no compatibility
+        sec relabel plans C         yes
+        ann get-write plans         no star
+        ann check read plans        held
+    """),
+    ("a holder that writes is looked at", """
+        ann get-write plans         yes
+        sec relabel plans C         no star
+        ann release write plans     yes
+        aud get-read plans          yes
+        sec relabel plans T:A       no simple
+        sec relabel plans C         yes
+        sec relabel #9 C            undefined
+    """),
+    ("an untrusted subject relabels what it made", """
+        ann get-write plans         yes
+        ann create plans S:A hi     created 4
+        ann relabel #4 T:A          yes
+        ann relabel #4 S:A          no authority
+        ann relabel plans T:A       no authority
+        ann level C                 no star
+    """),
+    ("creations", """
+        sec get-write plans         yes
+        sec create plans C hi       no compatibility
+        sec create plans S:A hi     created 4
+        sec get-append memo         yes
+        sec create memo C hi        no integrity
+        sec create memo U hi        no compatibility
+        sec create memo C lo        created 5
+        ann create root U hi        no authority
+        sec get-write root          yes
+        sec create root S:B hi      created 6
+        sec give read ann #6        yes
+        ann get-read #6             no simple
+    """),
+    ("what is made is untouched, and the branch that is deleted is gone", """
+        sec get-write root          yes
+        sec create root U hi        created 4
+        sec give write sec #4       yes
+        sec get-write #4            yes
+        sec create #4 C hi          created 5
+        sec give write sec #5       yes
+        sec get-write #5            yes
+        sec create #5 S:A hi        created 6
+        sec give read ann #6        yes
+        ann get-read #6             yes
+        ann check read #6           held
+        sec delete #4               yes
+        ann get-read #6             undefined
+        ann release read #5         undefined
+        ann check read #6           not held
+        sec get-write #4            undefined
+        sec delete root             no root
+        sec create root U hi        created 7
+        sec get-execute #7          no discretionary
+        sec get-read #7             no discretionary
+        sec get-append #7           no discretionary
+        sec get-write #7            no discretionary
+        sec check execute #7        not held
+        sec check read #7           not held
+        sec check append #7         not held
+        sec check write #7          not held
+        ann delete plans            no authority
+    """),
+]
+
+# The journal of a script as session 7.
+JOURNAL_SCRIPT = """
+    ann get-read memo           no integrity
+    ann get-read plans          yes
+    ann get-read plans          yes
+    bob get-read memo           no star
+    bob get-execute tool        yes
+    ann release read plans      yes
+    sec get-write plans         yes
+    ann release write plans     yes
+    #9 get-read plans           undefined
+    sec get-write memo          no integrity
+"""
+JOURNAL = """\
+0 7 0 get-read 2 no integrity
+1 7 0 get-read 1 yes
+2 7 0 get-read 1 yes
+3 7 1 get-read 2 no star
+4 7 1 get-execute 3 yes
+5 7 0 release read 1 yes
+6 7 2 get-write 1 yes
+7 7 0 release write 1 yes
+8 7 9 get-read 1 undefined
+9 7 2 get-write 2 no integrity
+"""
+
+# A start of one untrusted subject, which may write the root. Both are at the upper of two levels, in security and in
+# integrity.
+ONE = {
+    "security": {"levels": ["L", "H"], "categories": []},
+    "integrity": {"levels": ["lo", "hi"], "categories": []},
+    "subjects": [{"name": "one", "maximum": "H", "current": "H", "integrity": "hi", "trusted": False}],
+    "objects": [{"name": "root", "parent": None, "security": "H", "integrity": "hi"}],
+    "matrix": [{"subject": "one", "object": "root", "modes": ["write"]}],
+}

@@ -1,0 +1,2 @@
+pub mod Replayings
+pub mod Starts

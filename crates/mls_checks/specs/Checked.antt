@@ -1,0 +1,26 @@
+-- What checking a start file prints.
+use Rattle.std.specs.Prelude.{◌≡◌, ℕ, List, [], ◌∷◌, ◌++◌, codes, nat_lt}
+use Rattle.std.specs.Fmt.{decimal}
+use Rattle.std.specs.FinSet as set
+use Rattle.mls_state.specs.State.{State, is_subject}
+use Rattle.mls_outcomes.specs.Loads.{SaysState}
+
+-- A line with a word and a number. (own)
+abbrev pub count_line : List ℕ → ℕ → List ℕ
+count_line word count = word ++ decimal count ++ 10 ∷ []
+
+-- The lines that a check tells of a start. (own)
+abbrev pub check_text : ℕ → ℕ → ℕ → List ℕ
+check_text subjects objects cells =
+    count_line (codes "subjects ") subjects ++ count_line (codes "objects ") objects ++ count_line (codes "cells ") cells ++ codes "secure yes\n"
+
+-- What a check tells of a start: how many subjects it has, whose numbers are those below, how many objects and how many cells, and that it opens
+-- secure. (own)
+pub record ChecksOver (start : State) (told : List ℕ) : Type 0 where
+  pub subjects : ℕ
+  pub known : (s : ℕ) → is_subject start s ≡ nat_lt s subjects
+  pub text : told ≡ check_text subjects start.next (set.len start.matrix)
+
+-- A start file says a start, and this is told of it. (own)
+abbrev pub Checks : List ℕ → List ℕ → Type 0
+Checks bytes told = (start : State) × SaysState bytes start × ChecksOver start told

@@ -1,0 +1,82 @@
+//! What `mls check` prints.
+ghost use Rattle.std.specs.Prelude.{◌≡◌, ◌++◌, string_bytes, OnOk, IfOk, IfErr, IsTrue};
+ghost use Rattle.mls_outcomes.specs.Loads.{RefusesLoad};
+ghost use Rattle.mls_checks.specs.Checked.{count_line, check_text, ChecksOver, Checks};
+
+use crate::start_file::load;
+use itoa::Buffer;
+use mls_monitor::Start;
+use mls_outcomes::CommandFault;
+use mls_rules::is_secure;
+use std::alloc::{AllocError, Global};
+
+/// The most bytes that a start file may have.
+pub const START_LIMIT: usize = 8_388_608;
+
+/// Whether the state that a start opens with is secure, looked at from scratch.
+fn opens_secure(alloc: Global, start: &Start) -> Result<bool, AllocError>
+    ensures { IfOk result (λ secure. IsTrue secure) }
+{
+    let state = start.opening(alloc)?;
+    let secure = is_secure(&state);
+    drop(state);
+    Ok(secure)
+}
+
+/// Appends a line with a word and a number.
+fn push_count(text: &mut String, word: &str, count: usize) -> Result<(), AllocError>
+    ensures { OnOk result (string_bytes text.new ≡ string_bytes text.old ++ count_line word.now count) }
+{
+    let mut buffer = Buffer::new();
+    text.push_str(word)?;
+    text.push_str(buffer.format(count))?;
+    text.push_str("\n")
+}
+
+/// The lines that `mls check` prints of a start that has so many subjects, objects and cells, and opens secure.
+fn report_lines(
+    alloc: Global,
+    subjects: u16,
+    objects: u16,
+    cells: usize,
+    secure: bool,
+) -> Result<String, AllocError>
+    requires { IsTrue secure }
+    ensures { IfOk result (λ text. string_bytes text ≡ check_text subjects objects cells) }
+{
+    let mut text = String::new(alloc);
+    push_count(&mut text, "subjects ", usize::from(subjects))?;
+    push_count(&mut text, "objects ", usize::from(objects))?;
+    push_count(&mut text, "cells ", cells)?;
+    text.push_str(if secure {
+        "secure yes\n"
+    } else {
+        "secure no\n"
+    })?;
+    Ok(text)
+}
+
+/// What `mls check` prints of a start.
+fn report(alloc: Global, start: &Start) -> Result<String, AllocError>
+    ensures { IfOk result (λ text. ChecksOver start.now (string_bytes text)) }
+{
+    let secure = opens_secure(alloc, start)?;
+    let subjects = start.subject_count();
+    let objects = start.object_count();
+    let cells = start.cell_count();
+    report_lines(alloc, subjects, objects, cells, secure)
+}
+
+/// What `mls check` prints of a start file: how many subjects, objects and cells it has, and whether it opens secure.
+///
+/// # Errors
+/// `Load` where the file is refused, `Memory` where an allocation failed.
+pub fn check_start(alloc: Global, bytes: &[u8]) -> Result<String, CommandFault>
+    ensures ok { IfOk result (λ text. Checks bytes.now (string_bytes text)) }
+    ensures fault { IfErr result (λ fault. RefusesLoad bytes.now fault) }
+{
+    let start = load(alloc, bytes)?;
+    let text = report(alloc, &start);
+    drop(start);
+    Ok(text?)
+}

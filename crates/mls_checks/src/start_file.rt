@@ -1,0 +1,20 @@
+//! The start that a command's start file says.
+ghost use Rattle.std.specs.Prelude.{IfOk, IfErr};
+ghost use Rattle.mls_outcomes.specs.Loads.{SaysState, RefusesLoad};
+
+use mls_lines::Names;
+use mls_monitor::Start;
+use mls_outcomes::CommandFault;
+use mls_starts::read_start;
+use std::alloc::Global;
+
+/// The start of a start file. Its names are not needed.
+#[tactic(auto, using(crate::proofs::Starts::load_refuses))]
+pub(crate) fn load(alloc: Global, bytes: &[u8]) -> Result<Start, CommandFault>
+    ensures ok { IfOk result (λ start. SaysState bytes.now start) }
+    ensures fault { IfErr result (λ fault. RefusesLoad bytes.now fault) }
+{
+    let (names, start): (Names, Start) = read_start(alloc, bytes)?.into_parts();
+    drop(names);
+    Ok(start)
+}

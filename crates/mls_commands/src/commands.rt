@@ -1,0 +1,81 @@
+//! The commands over files.
+use crate::output::command_refused;
+use mls_checks::{JOURNAL_LIMIT, START_LIMIT, check_start, replay_journal};
+use mls_files::{Input, Progress, file_refused, print};
+use mls_outcomes::CommandFault;
+use std::process::ExitCode;
+
+/// A start file.
+pub fn start_file(path: &str) -> Input<'_> {
+    Input {
+        path,
+        limit: START_LIMIT,
+    }
+}
+
+/// A journal file.
+fn journal_file(path: &str) -> Input<'_> {
+    Input {
+        path,
+        limit: JOURNAL_LIMIT,
+    }
+}
+
+/// Ends a command: writes its output, or tells why it was refused.
+fn ended(
+    progress: &mut Progress<'_>,
+    done: Result<String, CommandFault>,
+    start: &str,
+    journal: &str,
+) -> ExitCode {
+    progress.end();
+    match done {
+        Ok(text) => print(progress.rt(), &text),
+        Err(fault) => command_refused(progress.rt(), file_of(&fault, start, journal), &fault),
+    }
+}
+
+/// The file that a fault is about.
+fn file_of<'a>(fault: &CommandFault, start: &'a str, journal: &'a str) -> &'a str {
+    match fault {
+        CommandFault::Load(_) | CommandFault::Thread | CommandFault::Memory => start,
+        CommandFault::Entry { .. } | CommandFault::Replay(_) => journal,
+    }
+}
+
+/// Checks a start file.
+pub fn check(rt: &HostRuntime, start: &str) -> ExitCode {
+    let mut progress = Progress::new(rt);
+    let bytes = match start_file(start).read(&mut progress) {
+        Ok(bytes) => bytes,
+        Err(fault) => return file_refused(&mut progress, start, fault),
+    };
+    progress.begin("checking");
+    let checked = check_start(rt.alloc(), &bytes);
+    drop(bytes);
+    ended(&mut progress, checked, start, start)
+}
+
+/// Replays a journal whose start file was read.
+fn replay_over(progress: &mut Progress<'_>, bytes: &[u8], start: &str, journal: &str) -> ExitCode {
+    let entries = match journal_file(journal).read(progress) {
+        Ok(entries) => entries,
+        Err(fault) => return file_refused(progress, journal, fault),
+    };
+    progress.begin("replaying");
+    let replayed = replay_journal(progress.rt().alloc(), bytes, &entries);
+    drop(entries);
+    ended(progress, replayed, start, journal)
+}
+
+/// Replays a journal over a start file.
+pub fn replay(rt: &HostRuntime, start: &str, journal: &str) -> ExitCode {
+    let mut progress = Progress::new(rt);
+    let bytes = match start_file(start).read(&mut progress) {
+        Ok(bytes) => bytes,
+        Err(fault) => return file_refused(&mut progress, start, fault),
+    };
+    let status = replay_over(&mut progress, &bytes, start, journal);
+    drop(bytes);
+    status
+}

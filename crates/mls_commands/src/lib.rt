@@ -1,0 +1,11 @@
+//! The commands over files and streams, but for the run of scripts in threads.
+#![tactic(auto)]
+
+mod commands;
+mod output;
+mod scripts;
+mod serving;
+
+pub use commands::{check, replay, start_file};
+pub use scripts::{ended_run, lent, read_scripts};
+pub use serving::serve_standard;
