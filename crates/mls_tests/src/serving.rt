@@ -7,7 +7,6 @@ mod whole;
 
 use crate::standard::standard_monitor;
 use failing::{reader_fails_in_turn, stuck_writer_leaves_what_was_read, writer_fails_in_turn};
-use lines::first_lines;
 use mls_cli::{Names, ServeFault, serve, standard_start};
 use mls_monitor::Entry;
 use refusals::allocations_are_refused;
