@@ -4,8 +4,6 @@
 #[cfg(test)]
 mod entries;
 #[cfg(test)]
-mod faults;
-#[cfg(test)]
 mod journals;
 #[cfg(test)]
 mod refusals;
