@@ -1,5 +1,6 @@
 //! The bytes of a journal, read entry by entry. Which lines and journals are refused is in .ci/check-rows.
 use crate::rows::entry;
+use crate::seen::sees;
 use mls_journal::{EntryFault, next_entry, read_entry};
 use mls_requests::{Action, Reply};
 use mls_tables::ObjectId;
@@ -20,8 +21,8 @@ const JOURNALS: [(&[u8], &[u8]); 4] = [
 fn begins(rt: &impl Abort, journal: &[u8], rest: &[u8]) {
     let deletion = entry(3, 2, 1, Action::Delete(ObjectId(4)), Reply::Yes);
     match next_entry(journal) {
-        Ok(Some((entry, after))) => assert!(rt; entry == deletion && after == rest),
-        _ => assert!(rt; false, "no entry"),
+        Ok(Some((entry, after))) => sees(rt, entry == deletion && after == rest, "an entry"),
+        _ => sees(rt, false, "an entry"),
     }
 }
 
@@ -32,7 +33,7 @@ fn entries_are_read_in_turn(rt: HostRuntime) {
     }
     match next_entry(b"") {
         Ok(None) => (),
-        _ => assert!(rt; false, "an entry, or a fault"),
+        _ => sees(&rt, false, "no entry"),
     }
 }
 
@@ -47,9 +48,6 @@ const FAULTS: [(&str, EntryFault); 4] = [
 #[test]
 fn lines_are_refused_for_their_faults(rt: HostRuntime) {
     for (line, wanted) in &FAULTS {
-        match read_entry(line) {
-            Ok(_) => assert!(rt; false, "an entry"),
-            Err(fault) => assert!(rt; fault == *wanted, "{line}"),
-        }
+        sees(&rt, read_entry(line) == Err(*wanted), line);
     }
 }

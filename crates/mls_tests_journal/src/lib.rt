@@ -9,3 +9,5 @@ mod journals;
 mod refusals;
 #[cfg(test)]
 mod rows;
+#[cfg(test)]
+mod seen;
