@@ -19,7 +19,14 @@ def ran(script=b"", words=(), **streams):
     return done.returncode, done.stdout, done.stderr
 
 
+def ran_program(words=(), script=b""):
+    """Runs the program itself, for many short runs: bin/mls looks first whether it is built."""
+    done = subprocess.run([PROGRAM, *words], timeout=SECONDS, input=script, capture_output=True)
+    return done.returncode, done.stdout, done.stderr
+
+
 def put(name, content):
+    """Makes a file, and returns its name."""
     with open(name, "wb") as file:
         file.write(content)
     return name

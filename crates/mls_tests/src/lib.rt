@@ -1,19 +1,22 @@
-//! Tests that cross crates: lines and scripts over the standard start, from bytes to bytes, and what is held after them.
+//! Tests that cross crates, of what only calls show: streams that fail, allocations that are refused, and what is read
+//! beside the tables.
 #![tactic(auto)]
 
 #[cfg(test)]
-mod all_numbers;
+mod changes;
 #[cfg(test)]
-mod commands;
+mod faults;
 #[cfg(test)]
-mod lines;
+mod feeds;
 #[cfg(test)]
 mod one_line;
-#[cfg(test)]
-mod rows;
-#[cfg(test)]
-mod scripts;
 #[cfg(test)]
 mod serving;
 #[cfg(test)]
 mod standard;
+#[cfg(test)]
+mod standard_file;
+#[cfg(test)]
+mod tables;
+#[cfg(test)]
+mod vars;

@@ -1,13 +1,14 @@
 //! A variable is bound to the object that its line made, and to nothing else, whatever allocation is refused.
-use mls_cli::{Loaded, Vars, standard_start};
-use mls_monitor::{Monitor, Start};
+use crate::standard::standard_monitor;
+use mls_lines::Vars;
+use mls_monitor::Monitor;
 use mls_requests::{Reason, Reply};
 use mls_scripts::{Answer, Script};
+use mls_starts::standard_start;
 use mls_tables::ObjectId;
 use refusing::Refusing;
 use std::alloc::{AllocError, Allocator, Global};
 use std::process::Abort;
-use std::test::Fail;
 
 /// A line, its reply, and what `$x` stands for after it.
 const LINES: [(&[u8], Reply, Option<ObjectId>); 8] = [
@@ -49,21 +50,16 @@ const LINES: [(&[u8], Reply, Option<ObjectId>); 8] = [
     ),
 ];
 
-/// The start alone.
-fn without_names<A: Allocator>(loaded: Loaded<A>) -> Start<A> {
-    let (names, start) = loaded.into_parts();
-    drop(names);
-    start
+/// Whether a line is answered by this reply.
+fn is_reply(answer: Result<Answer, AllocError>, reply: Reply) -> bool {
+    match answer {
+        Ok(Answer::Replied(found)) => found == reply,
+        _ => false,
+    }
 }
 
-fn standard_monitor<A: Allocator + Copy>(alloc: A) -> Result<Monitor<A>, AllocError> {
-    let Ok(loaded) = standard_start(alloc) else {
-        return Err(AllocError);
-    };
-    Monitor::open(alloc, without_names(loaded)).map_err(|_| AllocError)
-}
-
-/// Answers a line, again where an allocation failed, and says whether one did.
+/// Answers a line, again where an allocation failed, and says whether one did. What failed added no entry and bound
+/// nothing.
 fn answered<A: Allocator + Copy>(
     rt: &impl Abort,
     script: &Script<'_, Global>,
@@ -72,15 +68,16 @@ fn answered<A: Allocator + Copy>(
     line: &[u8],
     reply: Reply,
 ) -> bool {
-    let before = (monitor.entries().len(), vars.get("x"));
-    let mut answer = script.answer(vars, monitor, line);
-    let refused = answer.is_err();
-    if refused {
-        assert!(rt; (monitor.entries().len(), vars.get("x")) == before);
-        answer = script.answer(vars, monitor, line);
+    let (entries, bound) = (monitor.entries().len(), vars.get("x"));
+    let answer = script.answer(vars, monitor, line);
+    if answer.is_ok() {
+        assert!(rt; is_reply(answer, reply));
+        return false;
     }
-    assert!(rt; answer == Ok(Answer::Replied(reply)));
-    refused
+    assert!(rt; monitor.entries().len() == entries && vars.get("x") == bound);
+    let again = script.answer(vars, monitor, line);
+    assert!(rt; is_reply(again, reply));
+    true
 }
 
 /// Answers the lines, and says how often an allocation failed.
@@ -91,22 +88,35 @@ fn all_answered<A: Allocator + Copy>(
     monitor: &mut Monitor<A>,
 ) -> u32 {
     let mut refusals = 0u32;
-    for (line, reply, bound) in LINES {
-        if answered(rt, script, vars, monitor, line, reply) {
+    for (line, reply, bound) in &LINES {
+        if answered(rt, script, vars, monitor, line, *reply) {
             refusals = refusals.saturating_add(1);
         }
-        assert!(rt; vars.get("x") == bound);
+        assert!(rt; vars.get("x") == *bound);
     }
+    refusals
+}
+
+/// Answers the lines over a monitor, and says how often an allocation failed.
+fn run_over<A: Allocator + Copy>(
+    rt: &impl Abort,
+    script: &Script<'_, Global>,
+    alloc: A,
+    mut monitor: Monitor<A>,
+) -> u32 {
+    let mut vars = Vars::new(alloc);
+    let refusals = all_answered(rt, script, &mut vars, &mut monitor);
+    drop(vars);
+    drop(monitor);
     refusals
 }
 
 /// Answers the lines over a new monitor, and says how often an allocation failed: not at all where the opening's did.
 fn run(rt: &impl Abort, script: &Script<'_, Global>, heap: &Refusing<Global>) -> u32 {
-    let Ok(mut monitor) = standard_monitor(heap) else {
-        return 0;
-    };
-    let mut vars = Vars::new(heap);
-    all_answered(rt, script, &mut vars, &mut monitor)
+    match standard_monitor(heap) {
+        Ok(monitor) => run_over(rt, script, heap, monitor),
+        Err(_) => 0,
+    }
 }
 
 /// Answers the lines with each allocation refused in turn, and says how often one of a line was.
@@ -123,12 +133,17 @@ fn refusals_in_turn(rt: &impl Abort, alloc: Global, script: &Script<'_, Global>)
 }
 
 #[test]
-fn binds_what_was_made_whatever_allocation_is_refused(rt: HostRuntime) -> Result<(), Fail> {
-    let loaded = standard_start(rt.alloc()).map_err(|_| AllocError)?;
-    let script = Script {
-        names: loaded.names(),
-        session: 7,
-    };
-    assert!(rt; refusals_in_turn(&rt, rt.alloc(), &script) >= Some(12));
-    Ok(())
+fn binds_what_was_made_whatever_allocation_is_refused(rt: HostRuntime) {
+    match standard_start(rt.alloc()) {
+        Ok(loaded) => {
+            let script = Script {
+                names: loaded.names(),
+                session: 7,
+            };
+            let refusals = refusals_in_turn(&rt, rt.alloc(), &script);
+            drop(loaded);
+            assert!(rt; refusals >= Some(12));
+        }
+        Err(_) => panic!(rt; "out of memory"),
+    }
 }

@@ -1,46 +1,41 @@
 //! Scripts whose answers the format fixes, over readers, writers and allocators that fail.
-mod bounds;
-mod failures;
-mod flushes;
+mod failing;
+mod lines;
 mod refusals;
 mod streams;
+mod whole;
 
-use crate::standard::{self, over_names};
-use bounds::{lines_are_bounded, script_is_limited};
-use failures::{reader_fails_in_turn, writer_fails_in_turn};
-use flushes::{all_is_flushed, failed_flush_leaves_what_was_read};
-use mls_cli::{Loaded, Names, ServeFault, serve, standard_start};
-use mls_monitor::{Entry, Monitor, Start};
+use crate::standard::standard_monitor;
+use failing::{reader_fails_in_turn, stuck_writer_leaves_what_was_read, writer_fails_in_turn};
+use mls_lines::Names;
+use mls_monitor::Entry;
+use mls_scripts::{ServeFault, serve};
+use mls_starts::standard_start;
 use refusals::allocations_are_refused;
-use std::alloc::{AllocError, Allocator, Global};
+use std::alloc::Global;
 use std::cell::Cell;
 use std::io::{Read, Write};
 use std::process::Abort;
-use std::test::Fail;
-use streams::{Pieces, Telling, Waiting};
-
-/// A get, the same again, and a check of it.
-const SHORT: &[u8] = b"ann get-read plans\nann get-read plans\nann check read plans\n";
-
-/// Its answers.
-const SHORT_ANSWERS: &[u8] = b"yes\nyes\nheld\n";
+use streams::{Limits, Pieces, Sink};
+use whole::{
+    is_answered_before_it_reads_on, lines_are_bounded, script_is_limited, scripts_are_answered,
+};
 
 /// What a test of serving asserts over the standard names.
 #[derive(Clone, Copy)]
-pub enum Test {
+enum Test {
     AnswersScripts,
     AnswersBeforeItReadsOn,
     LinesAtTheBounds,
     AScriptAtItsLimit,
     ReaderFails,
     WriterFails,
-    EachAllocationRefused,
-    AllIsFlushed,
     AFlushThatFails,
+    EachAllocationRefused,
 }
 
 /// Asserts what a test does.
-pub fn assert_over(rt: &impl Abort, alloc: Global, names: &Names<Global>, test: Test) {
+fn assert_over(rt: &impl Abort, alloc: Global, names: &Names<Global>, test: Test) {
     match test {
         Test::AnswersScripts => scripts_are_answered(rt, alloc, names),
         Test::AnswersBeforeItReadsOn => is_answered_before_it_reads_on(rt, alloc, names),
@@ -48,29 +43,20 @@ pub fn assert_over(rt: &impl Abort, alloc: Global, names: &Names<Global>, test: 
         Test::AScriptAtItsLimit => script_is_limited(rt, alloc, names),
         Test::ReaderFails => reader_fails_in_turn(rt, alloc, names),
         Test::WriterFails => writer_fails_in_turn(rt, alloc, names),
+        Test::AFlushThatFails => stuck_writer_leaves_what_was_read(rt, alloc, names),
         Test::EachAllocationRefused => allocations_are_refused(rt, alloc, names),
-        Test::AllIsFlushed => all_is_flushed(rt, alloc, names),
-        Test::AFlushThatFails => failed_flush_leaves_what_was_read(rt, alloc, names),
     }
 }
 
-/// Runs a test of serving.
-fn over_standard(rt: &impl Abort, alloc: Global, test: Test) -> Result<(), Fail> {
-    over_names(rt, alloc, standard::Test::Serving(test))
-}
-
-/// The start alone.
-fn without_names<A: Allocator>(loaded: Loaded<A>) -> Start<A> {
-    let (names, start) = loaded.into_parts();
-    drop(names);
-    start
-}
-
-fn standard_monitor<A: Allocator + Copy>(alloc: A) -> Result<Monitor<A>, AllocError> {
-    let Ok(loaded) = standard_start(alloc) else {
-        return Err(AllocError);
-    };
-    Monitor::open(alloc, without_names(loaded)).map_err(|_| AllocError)
+/// Makes the standard names, and lends them to a test.
+fn over_names(rt: &impl Abort, alloc: Global, test: Test) {
+    match standard_start(alloc) {
+        Ok(loaded) => {
+            assert_over(rt, alloc, loaded.names(), test);
+            drop(loaded);
+        }
+        Err(_) => panic!(rt; "out of memory"),
+    }
 }
 
 /// What serving as session 7 left: its result, and how many entries of the session.
@@ -80,118 +66,117 @@ struct Left {
     entries: usize,
 }
 
+fn entries_of_seven(entries: &[Entry]) -> usize {
+    entries.iter().filter(|entry| entry.session == 7).count()
+}
+
 /// Serves over a standard monitor that is new.
 fn run<R: Read, W: Write>(
     alloc: Global,
     names: &Names<Global>,
     reader: &mut R,
     writer: &mut W,
-) -> Result<Left, AllocError> {
-    let mut monitor = standard_monitor(alloc)?;
+) -> Left {
+    let Ok(mut monitor) = standard_monitor(alloc) else {
+        return Left {
+            result: Err(ServeFault::Memory),
+            entries: 0,
+        };
+    };
     let result = serve(alloc, names, &mut monitor, 7, reader, writer);
     let entries = entries_of_seven(monitor.entries());
     drop(monitor);
-    Ok(Left { result, entries })
+    Left { result, entries }
 }
 
-fn entries_of_seven(entries: &[Entry]) -> usize {
-    entries.iter().filter(|entry| entry.session == 7).count()
+/// A script, how it is read, and how its answers are written.
+#[derive(Clone, Copy)]
+struct Setting<'a> {
+    script: &'a [u8],
+    /// The most bytes that are read at once.
+    most: usize,
+    /// Whether the reader fails at the end of the script.
+    read_fails: bool,
+    limits: Limits,
 }
 
-/// A script or a line, its answers, and how many entries it adds.
-type Case = (&'static [u8], &'static [u8], usize);
+/// A writer that takes and flushes all.
+const WIDE: Limits = Limits {
+    room: usize::MAX,
+    full: None,
+    is_stuck: false,
+};
 
-/// Whether a script that comes in pieces of at most `most` bytes is answered so, with so many entries.
-fn is_answered(
+/// What serving leaves in a setting: its result and entries, what was written, and, where it is known, how much of that
+/// was flushed.
+#[derive(Clone, Copy)]
+struct Wanted<'a> {
+    left: Left,
+    written: &'a [u8],
+    flushed: Option<usize>,
+}
+
+/// Whether serving in a setting leaves that.
+fn leaves(
     alloc: Global,
     names: &Names<Global>,
-    script: &[u8],
-    most: usize,
-    answers: &[u8],
-    entries: usize,
+    setting: &Setting<'_>,
+    wanted: &Wanted<'_>,
 ) -> bool {
-    let mut written = Vec::new(alloc);
-    let left = run(alloc, names, &mut Pieces::new(script, most), &mut written);
-    let result = Ok(entries as u64);
-    left == Ok(Left { result, entries }) && written.as_slice() == answers
-}
-
-const SCRIPTS: [Case; 10] = [
-    (b"", b"", 0),
-    (SHORT, SHORT_ANSWERS, 2),
-    (
-        b"bob get-append plans\nann get-read memo\nann get-append plans\nbob get-read memo\n",
-        b"no integrity\nno integrity\nno discretionary\nno star\n",
-        4,
-    ),
-    (
-        b"ann get-execute tool\nbob get-execute tool\n",
-        b"no integrity\nyes\n",
-        2,
-    ),
-    (
-        b"sec get-write plans\nsec get-write memo\n",
-        b"yes\nno integrity\n",
-        2,
-    ),
-    (
-        b"ann release write plans\nann check write plans\n",
-        b"yes\nnot held\n",
-        1,
-    ),
-    (
-        b"ann frob plans\nzoe get-read plans\nann get-read\n; note\n\n",
-        b"bad form\nbad name\nbad form\n",
-        0,
-    ),
-    (
-        b"ann get-read pl\0ns\nann\tget-read plans\nann get-read plans\r\n",
-        b"bad form\nbad form\nbad form\n",
-        0,
-    ),
-    (
-        b"ann get-read plans\nann get-read pla",
-        b"yes\nbad name\n",
-        1,
-    ),
-    (b"ann get-read plans\nann get-read plans", b"yes\nyes\n", 2),
-];
-
-/// Asserts the answers to the scripts above, in pieces of three sizes.
-fn scripts_are_answered(rt: &impl Abort, alloc: Global, names: &Names<Global>) {
-    for (script, answers, entries) in &SCRIPTS {
-        for most in &[1, 7, 65_536] {
-            let is_right = is_answered(alloc, names, script, *most, answers, *entries);
-            assert!(rt; is_right, "in pieces of {most}");
-        }
-    }
-}
-
-#[test]
-fn answers_scripts(rt: HostRuntime) -> Result<(), Fail> {
-    over_standard(&rt, rt.alloc(), Test::AnswersScripts)
-}
-
-/// A script that a person types, who waits after each of its pieces for the answers of the steps below.
-const TYPED: &[u8] =
-    b"ann get-read plans\n\n; note\nann check read plans\nann get-write plans\nbob get-read memo";
-
-/// Asserts that a reader that waits for the answers to what it gave gets them.
-fn is_answered_before_it_reads_on(rt: &impl Abort, alloc: Global, names: &Names<Global>) {
     let flushed = Cell::new(0);
-    let mut reader = Waiting {
-        bytes: TYPED,
-        steps: &[(19, 0), (8, 4), (12, 4), (32, 4), (14, 13)],
-        step: 0,
-        flushed: &flushed,
+    let mut reader = Pieces {
+        bytes: setting.script,
+        most: setting.most,
+        fails: setting.read_fails,
+        calls: 0,
     };
-    let left = run(alloc, names, &mut reader, &mut Telling::new(&flushed));
-    let (result, entries) = (Ok(3), 3);
-    assert!(rt; left == Ok(Left { result, entries }));
-    assert!(rt; flushed.get() == 21);
+    let mut writer = Sink::new(alloc, setting.limits, &flushed);
+    let left = run(alloc, names, &mut reader, &mut writer);
+    let is_written = writer.taken.as_slice() == wanted.written;
+    drop(writer);
+    let is_flushed = match wanted.flushed {
+        Some(count) => flushed.get() == count,
+        None => true,
+    };
+    left == wanted.left && is_written && is_flushed
 }
 
 #[test]
-fn answers_before_it_reads_on(rt: HostRuntime) -> Result<(), Fail> {
-    over_standard(&rt, rt.alloc(), Test::AnswersBeforeItReadsOn)
+fn answers_scripts(rt: HostRuntime) {
+    over_names(&rt, rt.alloc(), Test::AnswersScripts);
+}
+
+#[test]
+fn answers_before_it_reads_on(rt: HostRuntime) {
+    over_names(&rt, rt.alloc(), Test::AnswersBeforeItReadsOn);
+}
+
+#[test]
+fn lines_at_the_bounds(rt: HostRuntime) {
+    over_names(&rt, rt.alloc(), Test::LinesAtTheBounds);
+}
+
+#[test]
+fn a_script_at_its_limit(rt: HostRuntime) {
+    over_names(&rt, rt.alloc(), Test::AScriptAtItsLimit);
+}
+
+#[test]
+fn reader_fails_after_each_byte(rt: HostRuntime) {
+    over_names(&rt, rt.alloc(), Test::ReaderFails);
+}
+
+#[test]
+fn writer_fails_after_each_byte(rt: HostRuntime) {
+    over_names(&rt, rt.alloc(), Test::WriterFails);
+}
+
+#[test]
+fn a_flush_that_fails_leaves_the_answers_to_what_was_read(rt: HostRuntime) {
+    over_names(&rt, rt.alloc(), Test::AFlushThatFails);
+}
+
+#[test]
+fn each_allocation_refused_in_turn(rt: HostRuntime) {
+    over_names(&rt, rt.alloc(), Test::EachAllocationRefused);
 }

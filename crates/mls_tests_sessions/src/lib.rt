@@ -2,17 +2,17 @@
 #![tactic(auto)]
 
 #[cfg(test)]
-mod ahead;
+mod asker;
 #[cfg(test)]
 mod feeds;
 #[cfg(test)]
-mod held;
-#[cfg(test)]
-mod kept;
-#[cfg(test)]
 mod many;
 #[cfg(test)]
+mod offices;
+#[cfg(test)]
 mod pair;
+#[cfg(test)]
+mod runs;
 #[cfg(test)]
 mod single;
 #[cfg(test)]

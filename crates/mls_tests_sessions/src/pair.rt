@@ -1,136 +1,107 @@
-//! Two sessions of one office, on one thread.
-ghost use Rattle.std.specs.Prelude.{◌≡◌, []};
-ghost use Rattle.mls_sessions.specs.Sessions.{IsOf, number_of};
+//! Two sessions of one office.
+ghost use Rattle.mls_sessions.specs.Sessions.{IsOf, Ascending};
 
-use crate::standard::{ANN, BOB, PLANS, get, level, release, standard_monitor};
-use mls_requests::Reply;
-use mls_sessions::{CloseFault, Office, Session};
+use crate::standard::{ANN, BOB, PLANS, get, level, release};
+use mls_requests::{Reply, Request};
+use mls_sessions::{Office, Session};
 use mls_tables::Mode;
-use std::alloc::AllocError;
 use std::process::Abort;
 use std::sync::Wait;
-use std::test::Fail;
+
+/// What two sessions do.
+#[derive(Clone, Copy)]
+pub enum Deeds {
+    AskAndMeet,
+    GiveUpAndOn,
+}
+
+/// Whether a session is granted what it asks for, by entry `number` of session `made_by`.
+fn is_granted<R: Wait>(
+    rt: &R,
+    office: &Office,
+    session: &mut Session,
+    request: Request,
+    number: u64,
+    made_by: u32,
+) -> bool
+    requires { IsOf office.now session.old }
+    ensures { IsOf office.now session.new }
+{
+    match session.submit(office, rt, request) {
+        Ok(entry) => {
+            entry.number == number && entry.session == made_by && entry.reply == Reply::Yes
+        }
+        Err(_) => false,
+    }
+}
+
+/// Whether a session has seen so many entries, and made so many.
+fn knows(session: &Session, seen: u64, made: u64) -> bool {
+    session.seen() == seen && session.made() == made
+}
 
 /// The first session gets read access and knows of it, the second changes its level. Then they meet.
-fn ask_in_turn<R: Wait + Abort>(
-    rt: &R,
-    office: &Office,
-    first: &mut Session,
-    second: &mut Session,
-) -> Result<(), AllocError>
+fn ask_and_meet<R: Wait + Abort>(rt: &R, office: &Office, first: &mut Session, second: &mut Session)
     requires { IsOf office.now first.old × IsOf office.now second.old }
-    ensures office { IsOf office.now first.new × IsOf office.now second.new }
-    ensures first { number_of first.new.view ≡ number_of first.old.view }
-    ensures second { number_of second.new.view ≡ number_of second.old.view }
 {
-    let entry = first.submit(office, rt, get(ANN, Mode::Read, PLANS))?;
-    assert!(rt; entry.number == 0 && entry.session == 0 && entry.reply == Reply::Yes);
+    assert!(rt; is_granted(rt, office, first, get(ANN, Mode::Read, PLANS), 0, 0));
     assert!(rt; first.check(office, rt, ANN, PLANS, Mode::Read));
-    let entry = second.submit(office, rt, level(BOB, 1))?;
-    assert!(rt; entry.number == 1 && entry.session == 1 && entry.reply == Reply::Yes);
-    assert!(rt; first.seen() == 1 && second.seen() == 2);
-    assert!(rt; first.made() == 1 && second.made() == 1);
+    assert!(rt; is_granted(rt, office, second, level(BOB, 1), 1, 1));
+    assert!(rt; knows(first, 1, 1) && knows(second, 2, 1));
     first.meet(second, office);
-    assert!(rt; first.seen() == 2 && second.seen() == 2);
-    assert!(rt; first.made() == 1 && second.made() == 1);
-    Ok(())
+    assert!(rt; knows(first, 2, 1) && knows(second, 2, 1));
 }
 
-/// Closed without the second session the office comes back with what was given, and with both it leaves two entries.
-fn close_both(
-    rt: &impl Abort,
-    office: Office,
-    first: Session,
-    second: Session,
-    mut given: Vec<Session>,
-) -> Result<(), AllocError>
-    requires sessions { IsOf office first × IsOf office second × (number_of first.view ≡ 0) × (number_of second.view ≡ 1) }
-    requires given { given.items ≡ [] }
-{
-    given.push(first)?;
-    let (office, mut given) = match office.close(given) {
-        Ok(_) => panic!(rt; "a session is missing"),
-        Err(CloseFault { office, sessions }) => (office, sessions),
-    };
-    assert!(rt; given.len() == 1);
-    given.push(second)?;
-    match office.close(given) {
-        Ok(monitor) => {
-            assert!(rt; monitor.entries().len() == 2);
-            drop(monitor);
-        }
-        Err(_) => panic!(rt; "both are there"),
-    }
-    Ok(())
-}
-
-#[test]
-fn two_sessions_share_one_journal(rt: HostRuntime) -> Result<(), Fail> {
-    let Ok((office, mut sessions)) = Office::open(rt.alloc(), standard_monitor(rt.alloc())?, 2)
-    else {
-        panic!(rt; "out of memory")
-    };
-    let Some(mut second) = sessions.pop() else {
-        panic!(rt; "two sessions")
-    };
-    let Some(mut first) = sessions.pop() else {
-        panic!(rt; "two sessions")
-    };
-    assert!(rt; first.number() == 0 && second.number() == 1 && office.base() == 0);
-    ask_in_turn(&rt, &office, &mut first, &mut second)?;
-    close_both(&rt, office, first, second, sessions)?;
-    Ok(())
-}
-
-/// What the second session gives up the first no longer has, though they never met.
-fn give_up<R: Wait + Abort>(
+/// What the second session gives up the first no longer has, and what it is given the first knows of, though they never
+/// met.
+fn give_up_and_on<R: Wait + Abort>(
     rt: &R,
     office: &Office,
     first: &mut Session,
     second: &mut Session,
-) -> Result<(), AllocError>
-    requires { IsOf office.now first.old × IsOf office.now second.old }
-    ensures { IsOf office.now first.new × IsOf office.now second.new }
-{
-    let entry = first.submit(office, rt, get(ANN, Mode::Read, PLANS))?;
-    assert!(rt; entry.reply == Reply::Yes);
-    let entry = second.submit(office, rt, release(ANN, Mode::Read, PLANS))?;
-    assert!(rt; entry.reply == Reply::Yes);
-    assert!(rt; !first.check(office, rt, ANN, PLANS, Mode::Read));
-    assert!(rt; first.seen() == 2 && first.made() == 1);
-    Ok(())
-}
-
-/// What the second session was given the first knows of, though they never met.
-fn give_on<R: Wait + Abort>(
-    rt: &R,
-    office: &Office,
-    first: &mut Session,
-    second: &mut Session,
-) -> Result<(), AllocError>
+)
     requires { IsOf office.now first.old × IsOf office.now second.old }
 {
-    let entry = second.submit(office, rt, get(ANN, Mode::Read, PLANS))?;
-    assert!(rt; entry.reply == Reply::Yes);
+    assert!(rt; is_granted(rt, office, first, get(ANN, Mode::Read, PLANS), 0, 0));
+    assert!(rt; is_granted(rt, office, second, release(ANN, Mode::Read, PLANS), 1, 1));
+    assert!(rt; !first.check(office, rt, ANN, PLANS, Mode::Read) && knows(first, 2, 1));
+    assert!(rt; is_granted(rt, office, second, get(ANN, Mode::Read, PLANS), 2, 1));
     assert!(rt; first.check(office, rt, ANN, PLANS, Mode::Read));
-    assert!(rt; first.seen() == 3 && first.made() == 1 && second.made() == 2);
-    Ok(())
+    assert!(rt; knows(first, 3, 1) && knows(second, 3, 2));
 }
 
-#[test]
-fn a_check_sees_what_others_did(rt: HostRuntime) -> Result<(), Fail> {
-    let Ok((office, mut sessions)) = Office::open(rt.alloc(), standard_monitor(rt.alloc())?, 2)
-    else {
-        panic!(rt; "out of memory")
-    };
+/// Has the two sessions do that.
+fn meet_over<R: Wait + Abort>(
+    rt: &R,
+    office: &Office,
+    mut first: Session,
+    second: &mut Session,
+    deeds: Deeds,
+)
+    requires { IsOf office.now first × IsOf office.now second.old }
+{
+    assert!(rt; first.number() == 0 && second.number() == 1);
+    match deeds {
+        Deeds::AskAndMeet => ask_and_meet(rt, office, &mut first, second),
+        Deeds::GiveUpAndOn => give_up_and_on(rt, office, &mut first, second),
+    }
+    drop(first);
+}
+
+/// Has the two sessions of an office do that.
+#[tactic(auto, using(crate::proofs::Lists::ascending_last))]
+pub fn over_two<R: Wait + Abort>(rt: &R, office: Office, mut sessions: Vec<Session>, deeds: Deeds)
+    requires { Ascending office 0 sessions.items }
+{
+    assert!(rt; office.base() == 0);
     let Some(mut second) = sessions.pop() else {
         panic!(rt; "two sessions")
     };
-    let Some(mut first) = sessions.pop() else {
+    let Some(first) = sessions.pop() else {
         panic!(rt; "two sessions")
     };
-    give_up(&rt, &office, &mut first, &mut second)?;
-    give_on(&rt, &office, &mut first, &mut second)?;
+    drop(sessions);
+    meet_over(rt, &office, first, &mut second, deeds);
+    drop(second);
     drop(office);
-    Ok(())
 }

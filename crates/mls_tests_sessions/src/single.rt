@@ -1,104 +1,83 @@
-//! Offices of one session, of none and of too many.
-ghost use Rattle.mls_sessions.specs.Sessions.{IsOf};
+//! One session of an office, and offices of no session and of too many.
+ghost use Rattle.mls_sessions.specs.Sessions.{IsOf, Ascending};
 
 use crate::standard::{ANN, PLANS, get, standard_monitor};
 use mls_monitor::Monitor;
 use mls_requests::Reply;
 use mls_sessions::{MAX_SESSIONS, Office, OfficeFaultKind, Session};
 use mls_tables::Mode;
-use std::alloc::{AllocError, Global};
+use std::alloc::Global;
 use std::process::Abort;
-use std::test::Fail;
 
 /// Whether so many sessions are refused, with an empty journal handed back.
-fn is_bad_count(alloc: Global, n: u16) -> Result<bool, AllocError> {
-    match Office::open(alloc, standard_monitor(alloc)?, n) {
+fn is_bad_count(alloc: Global, monitor: Monitor, n: u16) -> bool {
+    match Office::open(alloc, monitor, n) {
         Ok(opened) => {
             drop(opened);
-            Ok(false)
+            false
         }
         Err(fault) => {
             let is_bad = fault.kind == OfficeFaultKind::BadCount;
             let is_empty = fault.monitor.entries().is_empty();
             drop(fault);
-            Ok(is_bad && is_empty)
+            is_bad && is_empty
         }
     }
 }
 
 #[test]
-fn an_office_has_one_to_sixty_four_sessions(rt: HostRuntime) -> Result<(), Fail> {
+fn an_office_has_one_to_sixty_four_sessions(rt: HostRuntime) {
     for n in [0, MAX_SESSIONS + 1, 65535] {
-        assert!(rt; is_bad_count(rt.alloc(), n)?);
-    }
-    Ok(())
-}
-
-/// The only session tries, and is answered.
-fn tries(rt: &impl Abort, office: &Office, session: &mut Session)
-    requires { IsOf office.now session.old }
-{
-    match session.try_submit(office, get(ANN, Mode::Read, PLANS)) {
-        Ok(entry) => assert!(rt; entry.number == 0 && entry.reply == Reply::Yes),
-        Err(_) => panic!(rt; "nobody else asks"),
-    }
-    assert!(rt; session.try_check(office, ANN, PLANS, Mode::Read) == Ok(true));
-    assert!(rt; session.try_check(office, ANN, PLANS, Mode::Write) == Ok(false));
-    assert!(rt; session.seen() == 1 && session.made() == 1);
-}
-
-#[test]
-fn one_session_is_never_told_busy(rt: HostRuntime) -> Result<(), Fail> {
-    let Ok((office, mut sessions)) = Office::open(rt.alloc(), standard_monitor(rt.alloc())?, 1)
-    else {
-        panic!(rt; "out of memory")
-    };
-    let Some(mut only) = sessions.pop() else {
-        panic!(rt; "one session")
-    };
-    tries(&rt, &office, &mut only);
-    drop(office);
-    Ok(())
-}
-
-/// A monitor that has two entries; none where memory ran out.
-fn begun_monitor(alloc: Global) -> Result<Monitor, AllocError> {
-    let mut monitor = standard_monitor(alloc)?;
-    for session in [7, 9] {
-        if monitor
-            .submit(session, get(ANN, Mode::Read, PLANS))
-            .is_err()
-        {
-            drop(monitor);
-            return Err(AllocError);
+        match standard_monitor(rt.alloc()) {
+            Ok(monitor) => assert!(rt; is_bad_count(rt.alloc(), monitor, n)),
+            Err(_) => panic!(rt; "out of memory"),
         }
     }
-    Ok(monitor)
 }
 
-/// The only session has seen what was there before, and goes on with it.
-fn goes_on(rt: &impl Abort, office: &Office, session: &mut Session)
+/// Whether a session holds read access, and whether write access, which nobody else asks beside.
+fn held(office: &Office, session: &mut Session) -> (bool, bool)
     requires { IsOf office.now session.old }
     ensures { IsOf office.now session.new }
 {
-    assert!(rt; office.base() == 2 && session.seen() == 2 && session.made() == 0);
-    assert!(rt; session.try_check(office, ANN, PLANS, Mode::Read) == Ok(true));
-    match session.try_submit(office, get(ANN, Mode::Read, PLANS)) {
-        Ok(entry) => assert!(rt; entry.number == 2 && entry.session == 0),
-        Err(_) => panic!(rt; "nobody else asks"),
-    }
-    assert!(rt; session.seen() == 3 && session.made() == 1);
+    let reads = session.try_check(office, ANN, PLANS, Mode::Read) == Ok(true);
+    let writes = session.try_check(office, ANN, PLANS, Mode::Write) == Ok(true);
+    (reads, writes)
 }
 
-#[test]
-fn an_office_goes_on_with_a_journal(rt: HostRuntime) -> Result<(), Fail> {
-    let Ok((office, mut sessions)) = Office::open(rt.alloc(), begun_monitor(rt.alloc())?, 1) else {
-        panic!(rt; "out of memory")
-    };
+/// Asks for read access, which nobody else does beside: whether that made entry `number` of session 0, and was granted.
+fn is_granted(office: &Office, session: &mut Session, number: u64) -> bool
+    requires { IsOf office.now session.old }
+    ensures { IsOf office.now session.new }
+{
+    match session.try_submit(office, get(ANN, Mode::Read, PLANS)) {
+        Ok(entry) => entry.number == number && entry.session == 0 && entry.reply == Reply::Yes,
+        Err(_) => false,
+    }
+}
+
+/// The only session tries, and is answered: over a journal of so many entries, which it has seen and goes on with.
+fn tries(rt: &impl Abort, office: &Office, session: &mut Session, base: u64)
+    requires { IsOf office.now session.old }
+{
+    assert!(rt; (session.seen(), session.made()) == (base, 0));
+    assert!(rt; held(office, session) == (base > 0, false));
+    assert!(rt; is_granted(office, session, base));
+    assert!(rt; held(office, session) == (true, false));
+    assert!(rt; (session.seen(), session.made()) == (base.wrapping_add(1), 1));
+}
+
+/// The only session of an office tries.
+#[tactic(auto, using(crate::proofs::Lists::ascending_last))]
+pub fn over_one(rt: &impl Abort, office: Office, mut sessions: Vec<Session>)
+    requires { Ascending office 0 sessions.items }
+{
+    let base = office.base();
     let Some(mut only) = sessions.pop() else {
         panic!(rt; "one session")
     };
-    goes_on(&rt, &office, &mut only);
+    tries(rt, &office, &mut only, base);
+    drop(only);
+    drop(sessions);
     drop(office);
-    Ok(())
 }

@@ -1,25 +1,14 @@
 //! Each allocation refused in turn: the lines before are answered, and the rest of the script then as ever.
-use super::failures::count_lines;
+use super::lines::{after_lines, count_lines};
 use super::streams::Pieces;
-use super::{Left, Test, entries_of_seven, over_standard, standard_monitor};
-use mls_cli::{Names, ServeFault, serve};
+use super::{Left, entries_of_seven};
+use crate::standard::standard_monitor;
+use mls_lines::Names;
 use mls_monitor::Monitor;
+use mls_scripts::{ServeFault, serve};
 use refusing::Refusing;
 use std::alloc::Global;
 use std::process::Abort;
-use std::test::Fail;
-
-/// The bytes after so many lines.
-fn after_lines(bytes: &[u8], lines: usize) -> &[u8] {
-    let mut rest = bytes;
-    for _ in 0..lines {
-        let Some(end) = rest.iter().position(|byte| *byte == b'\n') else {
-            return &[];
-        };
-        rest = rest.get(end.saturating_add(1)..).unwrap_or(&[]);
-    }
-    rest
-}
 
 /// A script of eight lines, six of which ask for an entry, and the last binds a variable.
 const EIGHT: &[u8] =
@@ -39,7 +28,12 @@ fn run_rest(
     monitor: &mut Monitor<&Refusing<Global>>,
     written: &mut Vec<u8>,
 ) -> Left {
-    let mut reader = Pieces::new(after_lines(EIGHT, count_lines(written)), 11);
+    let mut reader = Pieces {
+        bytes: after_lines(EIGHT, count_lines(written)),
+        most: 11,
+        fails: false,
+        calls: 0,
+    };
     let result = serve(heap, names, monitor, 7, &mut reader, written);
     let entries = entries_of_seven(monitor.entries());
     Left { result, entries }
@@ -53,9 +47,10 @@ enum Asked {
     Nowhere,
 }
 
-/// Serves the script over a monitor, whatever is refused, and then what isn't answered: says whether one of these allocations was refused,
-/// and whether all is as it must be. Where none was, the script is answered whole. Else just the answers of the lines before were written,
-/// the entries are just theirs, and the rest is then answered as in a run that met no refusal.
+/// Serves the script over a monitor, whatever is refused, and then what isn't answered: says whether one of these
+/// allocations was refused, and whether all is as it must be. Where none was, the script is answered whole. Else just
+/// the answers of the lines before were written, the entries are just theirs, and the rest is then answered as in a run
+/// that met no refusal.
 fn serves(
     heap: &Refusing<Global>,
     names: &Names<Global>,
@@ -120,9 +115,4 @@ fn refusals_in_turn(rt: &impl Abort, alloc: Global, names: &Names<Global>) -> Op
 /// Asserts that eight allocations of serving and more were refused.
 pub fn allocations_are_refused(rt: &impl Abort, alloc: Global, names: &Names<Global>) {
     assert!(rt; refusals_in_turn(rt, alloc, names) >= Some(8));
-}
-
-#[test]
-fn each_allocation_refused_in_turn(rt: HostRuntime) -> Result<(), Fail> {
-    over_standard(&rt, rt.alloc(), Test::EachAllocationRefused)
 }

@@ -1,4 +1,4 @@
-//! Readers and writers that fail, and that look at one another.
+//! Readers and a writer that fail, count, and look at one another.
 use std::alloc::Global;
 use std::cell::Cell;
 use std::io;
@@ -7,30 +7,10 @@ use std::io::{ErrorKind, Read, Write};
 /// Gives bytes, at most so many at once, and then ends or fails. It counts its calls.
 #[derive(Drop)]
 pub struct Pieces<'a> {
-    bytes: &'a [u8],
-    most: usize,
-    fails: bool,
+    pub bytes: &'a [u8],
+    pub most: usize,
+    pub fails: bool,
     pub calls: usize,
-}
-
-impl<'a> Pieces<'a> {
-    pub fn new(bytes: &'a [u8], most: usize) -> Pieces<'a> {
-        Pieces {
-            bytes,
-            most,
-            fails: false,
-            calls: 0,
-        }
-    }
-
-    pub fn failing(bytes: &'a [u8], most: usize) -> Pieces<'a> {
-        Pieces {
-            bytes,
-            most,
-            fails: true,
-            calls: 0,
-        }
-    }
 }
 
 impl Read for Pieces<'_> {
@@ -47,95 +27,60 @@ impl Read for Pieces<'_> {
     }
 }
 
-/// Takes so many bytes, and then fails or takes nothing.
-#[derive(Drop)]
-pub struct Narrow {
-    pub taken: Vec<u8>,
+/// How a writer fails.
+#[derive(Clone, Copy)]
+pub struct Limits {
+    /// How many bytes it takes.
     pub room: usize,
-    fails: Option<ErrorKind>,
+    /// How it fails after those; where this says nothing it takes nothing more.
+    pub full: Option<ErrorKind>,
+    /// Whether no flush succeeds.
+    pub is_stuck: bool,
 }
 
-impl Narrow {
-    pub fn new(alloc: Global, room: usize, fails: Option<ErrorKind>) -> Narrow {
-        Narrow {
+/// Takes bytes within its limits, and tells in a cell how many of those were flushed.
+#[derive(Drop)]
+pub struct Sink<'c> {
+    pub taken: Vec<u8>,
+    limits: Limits,
+    flushed: &'c Cell<usize>,
+}
+
+impl<'c> Sink<'c> {
+    pub fn new(alloc: Global, limits: Limits, flushed: &'c Cell<usize>) -> Sink<'c> {
+        Sink {
             taken: Vec::new(alloc),
-            room,
-            fails,
+            limits,
+            flushed,
         }
     }
 }
 
-impl Write for Narrow {
+impl Write for Sink<'_> {
     fn write(&mut self, buf: &[u8]) -> io::Result<usize> {
-        if self.room == 0 {
-            return match self.fails {
+        if self.limits.room == 0 {
+            return match self.limits.full {
                 Some(kind) => Err(io::Error::from(kind)),
                 None => Ok(0),
             };
         }
-        let count = self.room.min(buf.len());
+        let count = self.limits.room.min(buf.len());
         self.taken.extend_from_slice(&buf[..count])?;
-        self.room -= count;
+        self.limits.room -= count;
         Ok(count)
     }
 
     fn flush(&mut self) -> io::Result<()> {
-        Ok(())
-    }
-}
-
-/// Takes all bytes, and can't be flushed.
-#[derive(Drop)]
-pub struct Stuck {
-    pub taken: Vec<u8>,
-}
-
-impl Stuck {
-    pub fn new(alloc: Global) -> Stuck {
-        Stuck {
-            taken: Vec::new(alloc),
+        if self.limits.is_stuck {
+            return Err(io::Error::from(ErrorKind::Other));
         }
-    }
-}
-
-impl Write for Stuck {
-    fn write(&mut self, buf: &[u8]) -> io::Result<usize> {
-        self.taken.extend_from_slice(buf)?;
-        Ok(buf.len())
-    }
-
-    fn flush(&mut self) -> io::Result<()> {
-        Err(io::Error::from(ErrorKind::Other))
-    }
-}
-
-/// Tells in a cell how many of the bytes that it took were flushed.
-#[derive(Drop)]
-pub struct Telling<'c> {
-    pub taken: usize,
-    flushed: &'c Cell<usize>,
-}
-
-impl<'c> Telling<'c> {
-    pub fn new(flushed: &'c Cell<usize>) -> Telling<'c> {
-        Telling { taken: 0, flushed }
-    }
-}
-
-impl Write for Telling<'_> {
-    fn write(&mut self, buf: &[u8]) -> io::Result<usize> {
-        self.taken = self.taken.saturating_add(buf.len());
-        Ok(buf.len())
-    }
-
-    fn flush(&mut self) -> io::Result<()> {
-        self.flushed.set(self.taken);
+        self.flushed.set(self.taken.len());
         Ok(())
     }
 }
 
-/// Gives bytes in pieces of these lengths, each only where so many bytes were flushed, as a person waits for an answer. It fails where
-/// another number was.
+/// Gives bytes in pieces of these lengths, each only where so many bytes were flushed, as a person waits for an answer.
+/// It fails where another number was.
 #[derive(Drop)]
 pub struct Waiting<'a, 'c> {
     pub bytes: &'a [u8],

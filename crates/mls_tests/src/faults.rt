@@ -1,0 +1,39 @@
+//! The lines of faults that no file has: a label of a file is within its bounds, and a cell names what is there.
+use mls_builder::StartFault;
+use mls_checks::write_fault;
+use mls_outcomes::{CommandFault, status};
+use mls_starts::LoadFault;
+use std::alloc::Global;
+
+/// Faults of a start in the file `s.json`, and their lines.
+const LINES: [(StartFault, &str); 2] = [
+    (
+        StartFault::BadLabel,
+        "mls: s.json: start 7 Start 4 BadLabel\n",
+    ),
+    (
+        StartFault::NoSuchCell,
+        "mls: s.json: start 7 Start 9 NoSuchCell\n",
+    ),
+];
+
+/// Whether a fault is told by this line, appended after what a text has.
+fn is_told(alloc: Global, fault: CommandFault, line: &str) -> bool {
+    let mut text = String::new(alloc);
+    let is_written = text.push_str("so:\n").is_ok()
+        && write_fault(alloc, fault, "s.json", &mut text).is_ok();
+    let is_right = is_written && text.strip_prefix("so:\n") == Some(line);
+    drop(text);
+    is_right
+}
+
+#[test]
+fn faults_that_no_file_has_have_their_lines(rt: HostRuntime) {
+    for (fault, line) in &LINES {
+        let fault = CommandFault::Load(LoadFault::Start(*fault));
+        assert!(rt;
+            is_told(rt.alloc(), fault, line) && status(fault) == 1,
+            "{line}"
+        );
+    }
+}

@@ -1,6 +1,0 @@
-use Rattle.mls_feeds.specs.declared.feed.Stage.TheVariants.{Ready}
-use Rattle.mls_feeds.specs.Feeds.{AllAt}
-use Rattle.mls_tests_sessions.proofs.feeds.make_feeds.Given as goal
-
-abbrev pub invariant-loop : goal.invariant-loop
-invariant-loop l = AllAt (λ f. f.stage) Ready l.all.items
