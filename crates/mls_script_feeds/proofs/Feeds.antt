@@ -1,7 +1,6 @@
 -- Feeds in their order, and what they print.
-use Rattle.std.proofs.Common.{◌≡◌, ◌<◌, ◌+◌, ℕ, suc, false, take, map, length, get_or, List, [], ◌∷◌, ◌++◌, refl, sym, ap, ◌∙◌, arith, subst, Option, IfSome, IfOk, IfErr, Result, Ok, Err, drop}
-use Rattle.std.specs.Prelude.{Bool, OnOk, option_map, is_some, vec_len}
-use Rattle.std.specs.declared.vec.Vec.{Vec}
+use Rattle.std.proofs.Common.{◌≡◌, ◌<◌, ◌+◌, ℕ, suc, false, take, map, length, get_or, List, [], ◌∷◌, ◌++◌, refl, sym, ap, ◌∙◌, arith, subst, Option}
+use Rattle.std.specs.Prelude.{Bool}
 use Rattle.std.proofs.lemmas.List.{append_assoc, append-nil, take_more, length-take-le, map-append}
 use Rattle.mls_scripts.specs.Feed.{ScriptFeed}
 use Rattle.mls_scripts.specs.Fed.{Gives, GivesAhead, Takes, Prints}
@@ -10,16 +9,11 @@ use Rattle.mls_scripts.proofs.Laws.{fed_prints}
 use Rattle.mls_requests.specs.declared.entry.Entry.{Entry}
 use Rattle.mls_lines.specs.Names.{Names}
 use Rattle.mls_state.specs.State.{State}
-use Rattle.mls_monitor.specs.Journal.{Monitor, IsLegal}
-use Rattle.mls_feeds.specs.Feeds.{Exchange, in_turns, AllAt, AllFed}
-use Rattle.mls_feeds.specs.declared.feed.Stage.{Stage}
+use Rattle.mls_feeds.specs.Feeds.{Exchange, in_turns, AllFed}
 use Rattle.mls_feeds.specs.Entries.{AllBelow}
-use Rattle.mls_journal.specs.EntryText.{journal_text}
 use Rattle.mls_outcomes.specs.RunTexts.{heading}
-use Rattle.mls_script_feeds.specs.Threads.{ThreadsPrint, LeavesInThreads, RunsInThreads}
-use Rattle.mls_outcomes.specs.RunTexts.{ending}
+use Rattle.mls_script_feeds.specs.Threads.{ThreadsPrint, LeavesInThreads}
 use Rattle.mls_script_feeds.specs.Fed.{IsFeedOf, AreFeedsOf, NoneFailed, LeavesFeeds, fed_texts}
-
 -- a list of feeds at a stage, with one more
 pub use Rattle.mls_feeds.proofs.Laws.{at_snoc}
 

@@ -6,7 +6,6 @@ use Rattle.mls_requests.specs.declared.entry.Entry.{Entry}
 use Rattle.mls_monitor.specs.Journal.{Monitor}
 use Rattle.mls_feeds.specs.Entries.{AllBelow}
 use Rattle.mls_sessions.specs.Sessions.{Office, Session, IsOf, number_of}
-use Rattle.mls_feeds.specs.declared.feed.Stage.{Stage}
 
 -- The same sessions, number by number, each of the office. (own)
 abbrev pub Returned : Office → List Session → List Session → Type 0

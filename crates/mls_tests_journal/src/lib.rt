@@ -4,10 +4,10 @@
 #[cfg(test)]
 mod entries;
 #[cfg(test)]
-mod faults;
-#[cfg(test)]
 mod journals;
 #[cfg(test)]
 mod refusals;
 #[cfg(test)]
 mod rows;
+#[cfg(test)]
+mod seen;

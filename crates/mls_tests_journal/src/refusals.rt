@@ -1,48 +1,46 @@
 //! Writing entries where each allocation fails in turn.
 use crate::rows::{LONGEST, longest};
+use crate::seen::sees;
 use mls_journal::write_entry;
 use refusing::Refusing;
-use std::alloc::{AllocError, Global};
+use std::alloc::{AllocError, Allocator};
 use std::process::Abort;
 use std::test::Fail;
 
 /// Writes the longest entry; where the allocation fails the text is as it was, and the same call again writes it.
-fn writes(
-    rt: &impl Abort,
-    heap: &Refusing<Global>,
-    text: &mut String<&Refusing<Global>>,
-) -> Result<(), AllocError> {
+fn writes<A: Allocator>(rt: &impl Abort, text: &mut String<A>) -> Result<(), AllocError> {
     let before = text.len();
     if write_entry(longest(), text).is_err() {
-        assert!(rt; heap.has_refused() && text.len() == before);
+        sees(rt, text.len() == before, "nothing written");
         write_entry(longest(), text)?;
     }
-    assert!(rt; text.len() > before);
     Ok(())
 }
 
-/// Writes three entries so, as a run that meets no refusal does.
-fn writes_three(
-    rt: &impl Abort,
-    heap: &Refusing<Global>,
-    text: &mut String<&Refusing<Global>>,
-) -> Result<(), AllocError> {
-    for _ in 0..3 {
-        writes(rt, heap, text)?;
-    }
-    let mut lines = 0u64;
-    for line in text.as_str().lines() {
-        assert!(rt; line == LONGEST);
-        lines = lines.wrapping_add(1);
-    }
-    assert!(rt; lines == 3);
-    Ok(())
+/// Writes three entries so.
+fn writes_three<A: Allocator>(rt: &impl Abort, text: &mut String<A>) -> Result<(), AllocError> {
+    writes(rt, text)?;
+    writes(rt, text)?;
+    writes(rt, text)
 }
 
-/// The same, with a text made for it.
-fn text_written(rt: &impl Abort, heap: &Refusing<Global>) -> Result<(), AllocError> {
+/// Asserts that a text is three lines of the longest entry.
+fn is_thrice(rt: &impl Abort, text: &str) {
+    sees(
+        rt,
+        text.len() == 3 * (LONGEST.len() + 1),
+        "how much is written",
+    );
+    for line in text.lines() {
+        sees(rt, line == LONGEST, "a line");
+    }
+}
+
+/// The same, with a text made for it, as a run that meets no refusal does.
+fn text_written<A: Allocator>(rt: &impl Abort, heap: A) -> Result<(), AllocError> {
     let mut text = String::new(heap);
-    let written = writes_three(rt, heap, &mut text);
+    let written = writes_three(rt, &mut text);
+    is_thrice(rt, text.as_str());
     drop(text);
     written
 }
@@ -53,10 +51,10 @@ fn each_allocation_is_refused_in_turn(rt: HostRuntime) -> Result<(), Fail> {
         let heap = Refusing::new(rt.alloc(), number);
         text_written(&rt, &heap)?;
         if !heap.has_refused() {
-            assert!(rt; number > 2, "only {number}");
+            sees(&rt, number > 2, "how many allocations");
             return Ok(());
         }
     }
-    assert!(rt; false, "every run met a refusal");
+    sees(&rt, false, "a run without a refusal");
     Ok(())
 }

@@ -4,6 +4,7 @@ use crate::alike::are_alike;
 use crate::seen::{knows, sees};
 use crate::standard::{BOB, PLANS, ROOT, SEC, integrity, opened, security, started};
 use crate::starts::counts;
+use mls_builder::Start;
 use mls_requests::{Action, Reply, Request};
 use mls_rules::apply;
 use mls_state::{State, is_secure};
@@ -12,6 +13,14 @@ use refusing::Refusing;
 use std::alloc::{AllocError, Allocator, Global};
 use std::process::Abort;
 use std::test::Fail;
+
+/// The opening of a start; where an allocation failed it is opened again.
+fn opening<A: Allocator + Copy>(heap: A, start: &Start<A>) -> Result<State<A>, AllocError> {
+    match start.opening(heap) {
+        Ok(state) => Ok(state),
+        Err(_) => start.opening(heap),
+    }
+}
 
 /// Asserts that the standard start, of which each call is made again where an allocation failed, opens like one that has ample
 /// memory.
@@ -22,13 +31,11 @@ fn opens_alike<A: Allocator + Copy, B: Allocator>(
 ) -> Result<(), AllocError> {
     let start = started(heap)?;
     counts(rt, &start, 4, 4, 12);
-    let state = match start.opening(heap) {
-        Ok(state) => state,
-        Err(_) => start.opening(heap)?,
-    };
+    let opened = opening(heap, &start);
+    drop(start);
+    let state = opened?;
     are_alike(rt, &state, ample);
     drop(state);
-    drop(start);
     Ok(())
 }
 

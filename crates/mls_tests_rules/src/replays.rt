@@ -130,19 +130,23 @@ fn forged() -> [Entry; 8] {
     entries
 }
 
-/// Asserts that the start that comes back from the forged journal takes the true one.
+/// Asserts that a replay was refused for the forgery, and that the start that came back takes the true journal.
 fn takes_the_true_journal(
     rt: &impl Abort,
     alloc: Global,
+    refused: ReplayRefused<Global>,
     asked: &Monitor<Global>,
-) -> Result<(), AllocError> {
-    let start = started(alloc)?;
-    match replay(alloc, start, &forged()) {
+) {
+    let fault = refused.fault;
+    ends(rt, replay(alloc, refused.start, &climb()), &None, asked);
+    sees(rt, fault == FORGERY, "the fault");
+}
+
+/// Asserts it of the forged journal.
+fn comes_back(rt: &impl Abort, alloc: Global, asked: &Monitor<Global>) -> Result<(), AllocError> {
+    match replay(alloc, started(alloc)?, &forged()) {
         Ok(_) => sees(rt, false, "a fault"),
-        Err(refused) => {
-            sees(rt, refused.fault == FORGERY, "the fault");
-            ends(rt, replay(alloc, refused.start, &climb()), &None, asked);
-        }
+        Err(refused) => takes_the_true_journal(rt, alloc, refused, asked),
     }
     Ok(())
 }
@@ -150,7 +154,7 @@ fn takes_the_true_journal(
 #[test]
 fn a_start_comes_back_as_it_was(rt: HostRuntime) -> Result<(), Fail> {
     let asked = asked(&rt, rt.alloc(), &climb())?;
-    let taken = takes_the_true_journal(&rt, rt.alloc(), &asked);
+    let taken = comes_back(&rt, rt.alloc(), &asked);
     let mut monitor = opened_over(rt.alloc(), asked.into_start())?;
     ask_all(&rt, &mut monitor, &climb());
     drop(monitor);

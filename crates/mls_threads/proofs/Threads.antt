@@ -1,17 +1,13 @@
 -- What a run in threads leaves, and why it isn't done.
-use Rattle.std.proofs.Common.{◌≡◌, ◌<◌, ◌+◌, ℕ, suc, false, take, map, length, get_or, List, [], ◌∷◌, ◌++◌, refl, sym, ap, ◌∙◌, arith, subst, Option, IfSome, IfOk, IfErr, Result, Ok, Err, drop}
+use Rattle.std.proofs.Common.{◌≡◌, ℕ, length, List, [], ◌++◌, subst, Option, IfSome, IfOk, IfErr, Result, Ok, Err, drop}
 use Rattle.std.specs.Prelude.{Bool, OnOk, option_map, is_some, vec_len}
 use Rattle.std.specs.declared.vec.Vec.{Vec}
-use Rattle.std.proofs.lemmas.List.{append_assoc, append-nil, take_more, length-take-le, map-append}
 use Rattle.mls_scripts.specs.Feed.{ScriptFeed}
-use Rattle.mls_scripts.specs.Fed.{Gives, GivesAhead, Takes, Prints}
-use Rattle.mls_scripts.specs.Lines.{lines_of}
-use Rattle.mls_scripts.proofs.Laws.{fed_prints}
-use Rattle.mls_requests.specs.declared.entry.Entry.{Entry}
+use Rattle.mls_scripts.specs.Fed.{Gives, GivesAhead, Takes}
 use Rattle.mls_lines.specs.Names.{Names}
 use Rattle.mls_state.specs.State.{State}
 use Rattle.mls_monitor.specs.Journal.{Monitor, IsLegal}
-use Rattle.mls_feeds.specs.Feeds.{Exchange, in_turns, AllFed}
+use Rattle.mls_feeds.specs.Feeds.{AllFed}
 use Rattle.mls_feeds.specs.Entries.{AllBelow}
 use Rattle.mls_sessions.specs.Runs.{Grew}
 use Rattle.mls_starts.specs.Says.{SaysStart}
@@ -23,10 +19,9 @@ use Rattle.mls_outcomes.specs.declared.command.CommandFault.{CommandFault}
 use Rattle.mls_outcomes.specs.declared.command.CommandFault.TheVariants as faults
 use Rattle.mls_outcomes.specs.Loads.{RefusesLoad, IsRunFault, RefusesRun}
 use Rattle.mls_threads.specs.RunFaults.{run_fault}
-use Rattle.mls_outcomes.specs.RunTexts.{heading}
-use Rattle.mls_script_feeds.specs.Threads.{ThreadsPrint, LeavesInThreads, RunsInThreads}
+use Rattle.mls_script_feeds.specs.Threads.{LeavesInThreads, RunsInThreads}
 use Rattle.mls_outcomes.specs.RunTexts.{ending}
-use Rattle.mls_script_feeds.specs.Fed.{IsFeedOf, AreFeedsOf, NoneFailed, LeavesFeeds, fed_texts}
+use Rattle.mls_script_feeds.specs.Fed.{NoneFailed, LeavesFeeds, fed_texts}
 use Rattle.mls_outcomes.proofs.Laws.{journal_asked}
 
 -- what a run of feeds left, of a monitor that grew from an empty journal
