@@ -35,14 +35,15 @@ fn an_office_has_one_to_sixty_four_sessions(rt: HostRuntime) {
     }
 }
 
-/// Whether a session holds read access, and whether write access, which nobody else asks beside.
-fn held(office: &Office, session: &mut Session) -> (bool, bool)
+/// Whether a session is told that the access is held in this mode, where it is told: nobody else asks beside.
+fn held(office: &Office, session: &mut Session, mode: Mode) -> Option<bool>
     requires { IsOf office.now session.old }
     ensures { IsOf office.now session.new }
 {
-    let reads = session.try_check(office, ANN, PLANS, Mode::Read) == Ok(true);
-    let writes = session.try_check(office, ANN, PLANS, Mode::Write) == Ok(true);
-    (reads, writes)
+    match session.try_check(office, ANN, PLANS, mode) {
+        Ok(held) => Some(held),
+        Err(_) => None,
+    }
 }
 
 /// Asks for read access, which nobody else does beside: whether that made entry `number` of session 0, and was granted.
@@ -61,9 +62,10 @@ fn tries(rt: &impl Abort, office: &Office, session: &mut Session, base: u64)
     requires { IsOf office.now session.old }
 {
     assert!(rt; (session.seen(), session.made()) == (base, 0));
-    assert!(rt; held(office, session) == (base > 0, false));
+    assert!(rt; held(office, session, Mode::Read) == Some(base > 0));
     assert!(rt; is_granted(office, session, base));
-    assert!(rt; held(office, session) == (true, false));
+    assert!(rt; held(office, session, Mode::Read) == Some(true));
+    assert!(rt; held(office, session, Mode::Write) == Some(false));
     assert!(rt; (session.seen(), session.made()) == (base.wrapping_add(1), 1));
 }
 
