@@ -1,4 +1,5 @@
-//! A first state, each change of a state made alone, the conditions of one triple, and the audit of states made by hand.
+//! A first state, each change of a state made alone, the conditions of one triple, and the audit of states made by
+//! hand.
 use crate::seen::{knows, sees};
 use crate::standard::{ANN, ROOT, integrity, opened, security};
 use crate::steps::{Step, look_all, take_all};
@@ -64,7 +65,8 @@ const P: u16 = 1;
 
 const M: u16 = 2;
 
-/// Which conditions hold for a triple of the opening; accesses that come and go, each alone, and what the audit says of each.
+/// Which conditions hold for a triple of the opening; accesses that come and go, each alone, and what the audit says
+/// of each.
 const ACCESSES: &[Step] = &[
     Step::Conditions(B, P, Mode::Append, [true, true, true, false]),
     Step::Conditions(B, P, Mode::Read, [false, false, false, true]),
@@ -95,8 +97,8 @@ const ACCESSES: &[Step] = &[
     Step::Subjects(P, &[]),
 ];
 
-/// A cell of the matrix that comes and goes, and the access with it; labels that change; and an object that is made, and taken
-/// out with the one above it.
+/// A cell of the matrix that comes and goes, and the access with it; labels that change; and an object that is made,
+/// and taken out with the one above it.
 const CHANGES: &[Step] = &[
     Step::Permit(B, P, Mode::Read),
     Step::Cell(B, P, &[], &[Mode::Read, Mode::Append]),

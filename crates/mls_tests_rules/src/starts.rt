@@ -60,8 +60,8 @@ const BOB: SubjectId = SubjectId(1);
 
 const TOOL: ObjectId = ObjectId(3);
 
-/// Gives the subjects and the objects of the standard start, and before them and after them a matrix that permits all modes at
-/// two places.
+/// Gives the subjects and the objects of the standard start, and before them and after them a matrix that permits all
+/// modes at two places.
 fn give_twice<A: Allocator>(builder: &mut StartBuilder<A>) -> Result<(), AllocError> {
     allow_all(builder, BOB, TOOL)?;
     allow_all(builder, SubjectId(0), ObjectId(0))?;
