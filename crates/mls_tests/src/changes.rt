@@ -41,28 +41,26 @@ fn is_written_back(alloc: Global, journal: &[u8]) -> bool {
     }
 }
 
-/// Whether a text says last that a state is secure, or else a fault that isn't memory stands for it.
-fn is_settled(told: Result<String, CommandFault>) -> bool {
-    match told {
-        Ok(text) => {
-            let is_secure = text.ends_with("\nsecure yes\n");
-            drop(text);
-            is_secure
-        }
-        Err(fault) => !matches!(fault, CommandFault::Memory),
-    }
+/// Whether a text that was printed says last that a state is secure.
+fn is_secure(text: String) -> bool {
+    let is_secure = text.ends_with("\nsecure yes\n");
+    drop(text);
+    is_secure
 }
 
-/// Whether a start file is refused, or else opens secure.
+/// Whether a start file is refused by name, or else opens secure.
 fn is_checked(alloc: Global, start: &[u8]) -> bool {
-    is_settled(check_start(alloc, start))
+    match check_start(alloc, start) {
+        Ok(text) => is_secure(text),
+        Err(fault) => fault != CommandFault::Memory,
+    }
 }
 
 /// Whether a journal is refused by name, or else replays to a secure state and its entries write it back.
 fn is_replayed(alloc: Global, journal: &[u8]) -> bool {
     match replay_journal(alloc, STANDARD.as_bytes(), journal) {
-        Ok(text) => is_settled(Ok(text)) && is_written_back(alloc, journal),
-        Err(fault) => !matches!(fault, CommandFault::Memory),
+        Ok(text) => is_secure(text) && is_written_back(alloc, journal),
+        Err(fault) => fault != CommandFault::Memory,
     }
 }
 

@@ -133,65 +133,67 @@ fn is_label(scheme: &Scheme<Global>, text: &str, label: Label) -> bool {
     }
 }
 
-/// Asserts that a subject is as its row says.
-fn has_subject(
-    rt: &impl Abort,
+/// Whether a subject is as its row says.
+fn is_subject(
     names: &Names<Global>,
     state: &State<Global>,
     s: SubjectId,
     row: &SubjectRow,
-) {
-    assert!(rt; state.is_subject(s) && names.subject(row.name) == Some(s));
-    let (security, integrity) = (names.security(), names.integrity());
-    assert!(rt; is_label(security, row.maximum, state.maximum(s).label()));
-    assert!(rt; is_label(security, row.current, state.current(s).label()));
-    assert!(rt; is_label(integrity, row.integrity, state.subject_integrity(s).label()));
-    assert!(rt; state.is_trusted(s) == row.trusted);
-}
-
-/// Asserts that an object is as its row says.
-fn has_object(
-    rt: &impl Abort,
-    names: &Names<Global>,
-    state: &State<Global>,
-    o: ObjectId,
-    row: &ObjectRow,
-) {
-    assert!(rt; state.is_active(o) && names.object(row.name) == Some(o));
-    assert!(rt; state.parent(o) == row.parent && are_numbered(state.children(o), row.children));
-    let (security, integrity) = (names.security(), names.integrity());
-    assert!(rt; is_label(security, row.security, state.object_label(o).label()));
-    assert!(rt; is_label(integrity, row.integrity, state.object_integrity(o).label()));
-}
-
-/// Asserts that a subject is permitted these modes at the objects in their order, and accesses nothing.
-fn has_cells<A: Allocator>(rt: &impl Abort, state: &State<A>, s: SubjectId, cells: &[&[Mode]]) {
-    for (o, listed) in (0..4u16).zip(cells) {
-        let o = ObjectId(o);
-        assert!(rt; state.is_subject(s) && state.is_active(o));
-        assert!(rt; are_modes(state.allowed(s, o), listed));
-        assert!(rt; state.accesses(s, o).is_empty());
+) -> bool {
+    if !state.is_subject(s) || names.subject(row.name) != Some(s) {
+        return false;
     }
+    is_label(names.security(), row.maximum, state.maximum(s).label())
+        && is_label(names.security(), row.current, state.current(s).label())
+        && is_label(
+            names.integrity(),
+            row.integrity,
+            state.subject_integrity(s).label(),
+        )
+        && state.is_trusted(s) == row.trusted
 }
 
-/// Asserts that the subjects are those of the tables.
-fn has_subjects(rt: &impl Abort, names: &Names<Global>, state: &State<Global>) {
-    for (s, row) in (0..4u16).zip(&SUBJECTS) {
-        has_subject(rt, names, state, SubjectId(s), row);
+/// Whether an object is as its row says.
+fn is_object(names: &Names<Global>, state: &State<Global>, o: ObjectId, row: &ObjectRow) -> bool {
+    if !state.is_active(o) || names.object(row.name) != Some(o) {
+        return false;
     }
+    state.parent(o) == row.parent
+        && are_numbered(state.children(o), row.children)
+        && is_label(
+            names.security(),
+            row.security,
+            state.object_label(o).label(),
+        )
+        && is_label(
+            names.integrity(),
+            row.integrity,
+            state.object_integrity(o).label(),
+        )
 }
 
-/// Asserts that the objects are those of the tables.
-fn has_objects(rt: &impl Abort, names: &Names<Global>, state: &State<Global>) {
-    for (o, row) in (0..4u16).zip(&OBJECTS) {
-        has_object(rt, names, state, ObjectId(o), row);
+/// Whether a subject is permitted these modes at an object, and accesses it in none.
+fn is_cell<A: Allocator>(state: &State<A>, s: SubjectId, o: ObjectId, listed: &[Mode]) -> bool {
+    if !state.is_subject(s) || !state.is_active(o) {
+        return false;
+    }
+    are_modes(state.allowed(s, o), listed) && state.accesses(s, o).is_empty()
+}
+
+/// Asserts that the subjects and the objects are those of the tables.
+fn has_rows(rt: &impl Abort, names: &Names<Global>, state: &State<Global>) {
+    for n in 0..4usize {
+        let (s, o) = (SubjectId(n as u16), ObjectId(n as u16));
+        assert!(rt; is_subject(names, state, s, &SUBJECTS[n]), "subject {n}");
+        assert!(rt; is_object(names, state, o, &OBJECTS[n]), "object {n}");
     }
 }
 
 /// Asserts that the matrix is that of the tables.
 fn has_matrix<A: Allocator>(rt: &impl Abort, state: &State<A>) {
-    for (s, cells) in (0..4u16).zip(&MATRIX) {
-        has_cells(rt, state, SubjectId(s), cells);
+    for n in 0..16usize {
+        let (s, o) = (SubjectId((n / 4) as u16), ObjectId((n % 4) as u16));
+        assert!(rt; is_cell(state, s, o, MATRIX[n / 4][n % 4]), "cell {n}");
     }
 }
 
@@ -212,8 +214,7 @@ fn has_tables(rt: &impl Abort, names: &Names<Global>, state: &State<Global>) {
     assert!(rt; is_idle(state) && is_secure(state));
     assert!(rt; state.security() == names.security().bounds());
     assert!(rt; state.integrity() == names.integrity().bounds());
-    has_subjects(rt, names, state);
-    has_objects(rt, names, state);
+    has_rows(rt, names, state);
     has_matrix(rt, state);
 }
 

@@ -82,6 +82,7 @@ fn reserve_binds_nothing(rt: HostRuntime) {
     let _ = bind_all(&rt, &mut vars);
     assert!(rt; reserves(&mut vars, "a"), "a bound variable");
     assert!(rt; reserves(&mut vars, "i"), "a new variable");
+    drop(vars);
 }
 
 /// Reserves what it takes to bind a variable, binds it, and says what it is bound to.
@@ -93,23 +94,33 @@ fn bound_in_two_steps(vars: &mut Vars<Global>, name: &str, object: ObjectId) -> 
     vars.get(name)
 }
 
+/// Asserts that each variable is bound in two steps, and what they stand for in the end.
+fn all_bound_in_two_steps(rt: &impl Abort, vars: &mut Vars<Global>) {
+    for (name, object) in &BINDS {
+        let object = ObjectId(*object);
+        assert!(rt;
+            bound_in_two_steps(vars, name, object) == Some(object),
+            "{name}"
+        );
+    }
+    for (name, object) in &BOUND {
+        assert!(rt; vars.get(name) == *object, "{name} in the end");
+    }
+}
+
 #[test]
 fn bind_reserved_binds(rt: HostRuntime) {
     let mut vars = Vars::new(rt.alloc());
-    for (name, object) in BINDS {
-        let object = ObjectId(object);
-        let bound = bound_in_two_steps(&mut vars, name, object);
-        assert!(rt; bound == Some(object), "{name} is {bound:?}");
-    }
-    for (name, object) in BOUND {
-        assert!(rt; vars.get(name) == object, "{name} in the end");
-    }
+    all_bound_in_two_steps(&rt, &mut vars);
+    drop(vars);
 }
 
 /// Binds new variables over an allocator, and says how often an allocation failed.
 fn run(rt: &impl Abort, heap: &Refusing<Global>) -> u32 {
     let mut vars = Vars::new(heap);
-    bind_all(rt, &mut vars)
+    let refusals = bind_all(rt, &mut vars);
+    drop(vars);
+    refusals
 }
 
 #[test]

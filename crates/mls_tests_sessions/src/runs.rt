@@ -126,11 +126,10 @@ fn count_stretches(journal: &[Entry]) -> usize {
 /// What a run left.
 fn left_by(
     fault: Option<RunFaultKind>,
-    monitor: &Monitor,
+    journal: &[Entry],
     feeds: &[Asker<'_>],
     plan: &Plan,
 ) -> Left {
-    let journal = monitor.entries();
     Left {
         fault,
         feeds: feeds.len(),
@@ -153,12 +152,17 @@ fn run_over<R: Threads + Wait + Sync>(
 {
     match run_sessions(rt, alloc, monitor, feeds) {
         Ok(run) => {
-            let left = left_by(None, &run.monitor, &run.feeds, plan);
+            let left = left_by(None, run.monitor.entries(), &run.feeds, plan);
             drop(run);
             left
         }
         Err(fault) => {
-            let left = left_by(Some(fault.kind), &fault.monitor, &fault.feeds, plan);
+            let left = left_by(
+                Some(fault.kind),
+                fault.monitor.entries(),
+                &fault.feeds,
+                plan,
+            );
             drop(fault);
             left
         }
