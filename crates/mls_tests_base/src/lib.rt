@@ -1,5 +1,5 @@
-//! Tests of what only calls show of labels, tables and the tree, each mostly a table of steps. The words of requests and replies are
-//! in .ci/check-rows, which the program answers.
+//! Tests of what only calls show of labels, tables and the tree, each mostly a table of steps. The words of requests
+//! and replies are in .ci/check-rows, which the program answers.
 #![tactic(auto)]
 
 #[cfg(test)]

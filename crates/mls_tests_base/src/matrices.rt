@@ -1,130 +1,16 @@
-//! Matrices, a table of steps each: what is in their cells as modes are given and rescinded, objects cleared and copies made,
-//! also where each allocation is refused in turn.
+//! Matrices, a table of steps each: what is in their cells as modes are given and rescinded, objects cleared and
+//! copies made, also where each allocation is refused in turn.
 ghost use Rattle.std.specs.Prelude.{◌<◌};
 
-use crate::seen::{MODES, has_just, sees};
-use mls_tables::{MAX_OBJECTS, Matrix, Mode, ObjectId, SubjectId};
+use crate::seen::{has_just, sees};
+use mls_tables::{MAX_OBJECTS, Matrix, ObjectId, SubjectId};
 use refusing::Refusing;
 use std::alloc::{AllocError, Allocator, Global};
 use std::process::Abort;
 use std::test::Fail;
+use steps::{GIVEN_TWICE, GROUP, LARGEST, PACKED, Row, Step};
 
-/// What a test does to a matrix, or sees of it.
-enum Step {
-    Widen,
-    Give(u16, u16, Mode),
-    Rescind(u16, u16, Mode),
-    Clear(u16),
-    /// Clears the objects 1 and 3.
-    ClearGroup,
-    /// The modes in a cell.
-    Has(u16, u16, &'static [Mode]),
-}
-
-/// How many subjects a matrix has, whether it is as wide as can be, what is done to it, what is done to it after a copy was
-/// made, and what is seen of the copy after that.
-struct Row {
-    subjects: u16,
-    widest: bool,
-    before: &'static [Step],
-    after: &'static [Step],
-    copied: &'static [Step],
-}
-
-/// A mode that is given twice, and rescinded.
-const GIVEN_TWICE: Row = Row {
-    subjects: 2,
-    widest: false,
-    before: &[
-        Step::Widen,
-        Step::Give(0, 0, Mode::Read),
-        Step::Give(0, 0, Mode::Read),
-        Step::Has(0, 0, &[Mode::Read]),
-        Step::Has(1, 0, &[]),
-    ],
-    after: &[Step::Rescind(0, 0, Mode::Read), Step::Has(0, 0, &[])],
-    copied: &[Step::Has(0, 0, &[Mode::Read])],
-};
-
-/// Cells that share a byte, and no mode.
-const PACKED: Row = Row {
-    subjects: 3,
-    widest: false,
-    before: &[
-        Step::Widen,
-        Step::Widen,
-        Step::Give(1, 0, Mode::Execute),
-        Step::Give(1, 0, Mode::Read),
-        Step::Give(1, 0, Mode::Append),
-        Step::Give(1, 0, Mode::Write),
-        Step::Give(2, 1, Mode::Append),
-        Step::Has(1, 0, &MODES),
-        Step::Has(0, 0, &[]),
-        Step::Has(2, 0, &[]),
-        Step::Has(1, 1, &[]),
-        Step::Has(2, 1, &[Mode::Append]),
-    ],
-    after: &[
-        Step::Give(0, 0, Mode::Write),
-        Step::Rescind(1, 0, Mode::Write),
-        Step::Has(0, 0, &[Mode::Write]),
-        Step::Has(1, 0, &[Mode::Execute, Mode::Read, Mode::Append]),
-        Step::Rescind(0, 0, Mode::Write),
-        Step::Has(0, 0, &[]),
-        Step::Has(1, 0, &[Mode::Execute, Mode::Read, Mode::Append]),
-        Step::Clear(0),
-        Step::Has(1, 0, &[]),
-        Step::Has(2, 1, &[Mode::Append]),
-    ],
-    copied: &[Step::Has(1, 0, &MODES), Step::Has(2, 1, &[Mode::Append])],
-};
-
-/// A group of objects that is cleared.
-const GROUP: Row = Row {
-    subjects: 3,
-    widest: false,
-    before: &[
-        Step::Widen,
-        Step::Give(2, 0, Mode::Read),
-        Step::Widen,
-        Step::Give(2, 1, Mode::Read),
-        Step::Widen,
-        Step::Give(2, 2, Mode::Read),
-        Step::Widen,
-        Step::Give(2, 3, Mode::Read),
-    ],
-    after: &[
-        Step::ClearGroup,
-        Step::Has(2, 0, &[Mode::Read]),
-        Step::Has(2, 1, &[]),
-        Step::Has(2, 2, &[Mode::Read]),
-        Step::Has(2, 3, &[]),
-    ],
-    copied: &[
-        Step::Has(2, 0, &[Mode::Read]),
-        Step::Has(2, 1, &[Mode::Read]),
-        Step::Has(2, 2, &[Mode::Read]),
-        Step::Has(2, 3, &[Mode::Read]),
-    ],
-};
-
-/// The last cells of a matrix as large as can be.
-const LARGEST: Row = Row {
-    subjects: 256,
-    widest: true,
-    before: &[
-        Step::Give(255, 4095, Mode::Execute),
-        Step::Give(255, 4095, Mode::Write),
-        Step::Give(255, 4094, Mode::Append),
-    ],
-    after: &[
-        Step::Clear(4094),
-        Step::Has(255, 4094, &[]),
-        Step::Has(0, 4095, &[]),
-        Step::Has(255, 4095, &[Mode::Execute, Mode::Write]),
-    ],
-    copied: &[Step::Has(255, 4094, &[Mode::Append])],
-};
+mod steps;
 
 /// Asserts that a matrix has a row for a subject and a column for an object.
 fn covers<A: Allocator>(rt: &impl Abort, matrix: &Matrix<A>, s: u16, o: u16)

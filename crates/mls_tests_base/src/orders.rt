@@ -8,7 +8,8 @@ use std::alloc::{AllocError, Global};
 use std::process::Abort;
 use std::test::Fail;
 
-/// The number at a place of an order of the even count of numbers below one: they rise, they fall, or the odd ones come first.
+/// The number at a place of an order of the even count of numbers below one: they rise, they fall, or the odd ones
+/// come first.
 fn in_order(order: u8, count: u16, k: u16) -> u16
     requires few { count ≤ 4096 }
     requires place { k < count }
@@ -160,7 +161,8 @@ fn remove_odd(rt: &impl Abort, set: &mut AccessSet) {
     }
 }
 
-/// Asserts that all 256 subjects are listed, ascending, though they came in another order; and then those with even numbers.
+/// Asserts that all 256 subjects are listed, ascending, though they came in another order; and then those with even
+/// numbers.
 fn are_listed(rt: &impl Abort, set: &mut AccessSet) {
     covers(rt, set, 255, 0);
     are_each(rt, set.subjects_of(ObjectId(0)), 256, 1);

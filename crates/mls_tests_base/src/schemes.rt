@@ -1,5 +1,5 @@
-//! Label texts that a scheme reads and writes, why others are refused, and each allocation refused in turn. Which schemes and
-//! names are refused is in .ci/check-rows.
+//! Label texts that a scheme reads and writes, why others are refused, and each allocation refused in turn. Which
+//! schemes and names are refused is in .ci/check-rows.
 use crate::seen::sees;
 use mls_labels::{Bounds, CatSet, Label, LabelFault, Scheme, SchemeFault};
 use refusing::Refusing;
@@ -37,7 +37,8 @@ fn texts_are_read<A: Allocator>(rt: &impl Abort, scheme: &Scheme<A>) {
     }
 }
 
-/// Writes the label of a text after what is in another. Where an allocation failed nothing was written, and it is written again.
+/// Writes the label of a text after what is in another. Where an allocation failed nothing was written, and it is
+/// written again.
 fn writes<A: Allocator, B: Allocator>(
     rt: &impl Abort,
     scheme: &Scheme<A>,

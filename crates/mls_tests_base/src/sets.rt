@@ -1,5 +1,5 @@
-//! Sets of accesses, a table of steps each: their triples and what their indexes list, also where each allocation is refused in
-//! turn: then the set is compared with one that met no refusal after each step.
+//! Sets of accesses, a table of steps each: their triples and what their indexes list, also where each allocation is
+//! refused in turn: then the set is compared with one that met no refusal after each step.
 ghost use Rattle.std.specs.Prelude.{◌<◌};
 
 use crate::seen::{are, has_just, sees};

@@ -22,3 +22,5 @@ mod seen;
 mod standard;
 #[cfg(test)]
 mod starts;
+#[cfg(test)]
+mod steps;

@@ -1,5 +1,5 @@
-//! Each allocation of a start, of its opening and of requests refused in turn: no read then shows a change, and the same call
-//! made again returns what it always does.
+//! Each allocation of a start, of its opening and of requests refused in turn: no read then shows a change, and the
+//! same call made again returns what it always does.
 use crate::alike::are_alike;
 use crate::seen::{knows, sees};
 use crate::standard::{BOB, PLANS, ROOT, SEC, integrity, opened, security, started};
@@ -22,8 +22,8 @@ fn opening<A: Allocator + Copy>(heap: A, start: &Start<A>) -> Result<State<A>, A
     }
 }
 
-/// Asserts that the standard start, of which each call is made again where an allocation failed, opens like one that has ample
-/// memory.
+/// Asserts that the standard start, of which each call is made again where an allocation failed, opens like one that
+/// has ample memory.
 fn opens_alike<A: Allocator + Copy, B: Allocator>(
     rt: &impl Abort,
     heap: A,
@@ -176,8 +176,8 @@ fn nearly_fill<A: Allocator>(rt: &impl Abort, state: &mut State<A>) {
     }
 }
 
-/// Makes the requests beside the opening of the standard start; or in the place of these, where `full`, creates the last three objects and
-/// is denied a fourth.
+/// Makes the requests beside the opening of the standard start; or in the place of these, where `full`, creates the
+/// last three objects and is denied a fourth.
 fn run<A: Allocator + Copy>(
     rt: &impl Abort,
     heap: A,

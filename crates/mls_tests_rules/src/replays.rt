@@ -1,5 +1,5 @@
-//! Replays by calls: they lead to what the requests led to, the start comes back where one is refused, and each of their allocations is
-//! refused in turn.
+//! Replays by calls: they lead to what the requests led to, the start comes back where one is refused, and each of
+//! their allocations is refused in turn.
 use crate::journals::{climb, family};
 use crate::monitors::are_like;
 use crate::requests::{ask_all, asked, opened_over};
@@ -218,7 +218,8 @@ fn refused_beside(
 
 #[test]
 fn each_allocation_is_refused_once(rt: HostRuntime) -> Result<(), Fail> {
-    // the tables of the opening, the room for the entries, and that for the accesses, objects and labels that entries add
+    // the tables of the opening, the room for the entries, and that for the accesses, objects and labels that entries
+    // add
     let few = refused_beside(&rt, rt.alloc(), &climb(), &None, &climb())?;
     sees(&rt, few > 7, "how many allocations");
     let many = refused_beside(&rt, rt.alloc(), &family(), &None, &family())?;

@@ -1,6 +1,7 @@
 //! Starts that are built by calls: what they count, what they open with, and why they are refused.
-use crate::seen::sees;
+use crate::seen::{knows, sees};
 use crate::standard::{begun, built, give_rows, integrity, security, started};
+use crate::steps::{Step, look_all};
 use mls_builder::{Start, StartBuilder};
 use mls_state::{State, is_secure};
 use mls_tables::{Mode, ObjectId, SubjectId};
@@ -25,18 +26,20 @@ pub fn counts<A: Allocator>(
     sees(rt, start.cell_count() == cells, "how many cells");
 }
 
+/// Asserts that a start has the standard bounds: four levels and two categories, and two levels.
+fn has_the_standard_bounds(rt: &impl Abort, start: &Start<Global>) {
+    let (security_bounds, integrity_bounds) = (start.security(), start.integrity());
+    sees(rt, security_bounds.has(security(3, 2).label()), "a label");
+    sees(rt, !security_bounds.has(security(4, 0).label()), "a level");
+    sees(rt, integrity_bounds.has(integrity(1).label()), "a label");
+    sees(rt, !integrity_bounds.has(integrity(2).label()), "a level");
+}
+
 #[test]
 fn the_standard_start_is_built(rt: HostRuntime) -> Result<(), Fail> {
     let start = started(rt.alloc())?;
     counts(&rt, &start, 4, 4, 12);
-    sees(&rt, start.security().has(security(3, 2).label()), "a label");
-    sees(
-        &rt,
-        !start.security().has(security(4, 0).label()),
-        "a level",
-    );
-    sees(&rt, start.integrity().has(integrity(1).label()), "a label");
-    sees(&rt, !start.integrity().has(integrity(2).label()), "a level");
+    has_the_standard_bounds(&rt, &start);
     drop(start);
     Ok(())
 }
@@ -57,8 +60,8 @@ const BOB: SubjectId = SubjectId(1);
 
 const TOOL: ObjectId = ObjectId(3);
 
-/// Gives the subjects and the objects of the standard start, and before them and after them a matrix that permits all modes at
-/// two places.
+/// Gives the subjects and the objects of the standard start, and before them and after them a matrix that permits all
+/// modes at two places.
 fn give_twice<A: Allocator>(builder: &mut StartBuilder<A>) -> Result<(), AllocError> {
     allow_all(builder, BOB, TOOL)?;
     allow_all(builder, SubjectId(0), ObjectId(0))?;
@@ -75,20 +78,36 @@ fn permits<A: Allocator>(rt: &impl Abort, state: &State<A>, s: SubjectId, o: Obj
     sees(rt, state.accesses(s, o).is_empty(), "no access");
 }
 
+/// A start of which each cell was given twice.
+fn given_twice(alloc: Global) -> Result<Start<Global>, AllocError> {
+    let mut builder = begun(alloc);
+    give_twice(&mut builder)?;
+    built(builder)
+}
+
+/// Asserts what the opening of that start permits.
+fn permits_two_cells(
+    rt: &impl Abort,
+    alloc: Global,
+    start: &Start<Global>,
+) -> Result<(), AllocError> {
+    let state = start.opening(alloc)?;
+    permits(rt, &state, BOB, TOOL, true);
+    permits(rt, &state, SubjectId(0), ObjectId(0), true);
+    permits(rt, &state, BOB, ObjectId(0), false);
+    permits(rt, &state, SubjectId(0), TOOL, false);
+    sees(rt, is_secure(&state), "a secure state");
+    drop(state);
+    Ok(())
+}
+
 #[test]
 fn a_triple_counts_once(rt: HostRuntime) -> Result<(), Fail> {
-    let mut builder = begun(rt.alloc());
-    give_twice(&mut builder)?;
-    let start = built(builder)?;
+    let start = given_twice(rt.alloc())?;
     counts(&rt, &start, 4, 4, 8);
-    let state = start.opening(rt.alloc())?;
-    permits(&rt, &state, BOB, TOOL, true);
-    permits(&rt, &state, SubjectId(0), ObjectId(0), true);
-    permits(&rt, &state, BOB, ObjectId(0), false);
-    permits(&rt, &state, SubjectId(0), TOOL, false);
-    sees(&rt, is_secure(&state), "a secure state");
-    drop(state);
+    let opened = permits_two_cells(&rt, rt.alloc(), &start);
     drop(start);
+    opened?;
     Ok(())
 }
 
@@ -120,31 +139,41 @@ fn give_chain<A: Allocator>(builder: &mut StartBuilder<A>) -> Result<(), AllocEr
     Ok(())
 }
 
-/// Asserts that an object is there, and what its parent is.
-fn is_below<A: Allocator>(
-    rt: &impl Abort,
-    state: &State<A>,
-    o: ObjectId,
-    parent: Option<ObjectId>,
-) {
-    sees(rt, state.is_active(o), "an object");
-    sees(rt, state.parent(o) == parent, "a parent");
+/// A start of 256 subjects, 4,096 objects in a chain, and the full matrix.
+fn largest(alloc: Global) -> Result<Start<Global>, AllocError> {
+    let mut builder = begun(alloc);
+    allow_table(&mut builder)?;
+    give_chain(&mut builder)?;
+    built(builder)
+}
+
+/// What the opening of that start has: the chain.
+const CHAIN: &[Step] = &[
+    Step::Secure(true),
+    Step::Next(4096),
+    Step::Is(4095, (0, 0), 1, 4094),
+    Step::Is(1, (0, 0), 1, 0),
+    Step::Children(0, &[1]),
+    Step::Children(4095, &[]),
+];
+
+/// Asserts what the opening of that start has and permits.
+fn opens_largest(rt: &impl Abort, alloc: Global, start: &Start<Global>) -> Result<(), AllocError> {
+    let state = start.opening(alloc)?;
+    look_all(rt, &state, CHAIN);
+    knows(rt, &state, SubjectId(255), ObjectId(0));
+    sees(rt, state.parent(ObjectId(0)).is_none(), "the root");
+    permits(rt, &state, SubjectId(255), ObjectId(4095), true);
+    drop(state);
+    Ok(())
 }
 
 #[test]
 fn the_largest_start_with_a_full_matrix(rt: HostRuntime) -> Result<(), Fail> {
-    let mut builder = begun(rt.alloc());
-    allow_table(&mut builder)?;
-    give_chain(&mut builder)?;
-    let start = built(builder)?;
+    let start = largest(rt.alloc())?;
     counts(&rt, &start, 256, 4096, 4_194_304);
-    let state = start.opening(rt.alloc())?;
-    sees(&rt, is_secure(&state) && state.next() == 4096, "a state");
-    is_below(&rt, &state, ObjectId(4095), Some(ObjectId(4094)));
-    is_below(&rt, &state, ObjectId(1), Some(ObjectId(0)));
-    is_below(&rt, &state, ObjectId(0), None);
-    permits(&rt, &state, SubjectId(255), ObjectId(4095), true);
-    drop(state);
+    let opened = opens_largest(&rt, rt.alloc(), &start);
     drop(start);
+    opened?;
     Ok(())
 }

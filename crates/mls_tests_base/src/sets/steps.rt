@@ -22,8 +22,8 @@ pub enum Step {
     Lists(u16, &'static [u16]),
 }
 
-/// How many subjects a set has, whether it is as wide as can be, what is done to it, what is done to it after a copy was made,
-/// and what is seen of the copy after that.
+/// How many subjects a set has, whether it is as wide as can be, what is done to it, what is done to it after a copy
+/// was made, and what is seen of the copy after that.
 pub struct Row {
     pub subjects: u16,
     pub widest: bool,

@@ -1,4 +1,5 @@
-//! Each fault alone, and two at once: the first in the order of the faults is returned, whatever the order of the calls.
+//! Each fault alone, and two at once: the first in the order of the faults is returned, whatever the order of the
+//! calls.
 use crate::seen::sees;
 use crate::standard::{integrity, security};
 use mls_builder::{StartBuilder, StartFault};
