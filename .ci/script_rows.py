@@ -61,6 +61,9 @@ WORKED = [
      b"bad form\nbad form\nbad form\n", 0, 0),
     ("last line without its newline", b"ann get-read plans\nann get-read plans", b"yes\nyes\n", 2, 1),
     ("last line that is cut", b"ann get-read plans\nann get-read pla", b"yes\nbad name\n", 1, 1),
+    ("19 bytes: a line with its newline", b"ann get-read plans\n", b"yes\n", 1, 1),
+    ("the first 18 of them: without it", b"ann get-read plans", b"yes\n", 1, 1),
+    ("the first 17: without the last letter", b"ann get-read plan", b"bad name\n", 0, 0),
     ("lines that ask nothing, and an access",
      b"ann frob plans\n\nzoe get-read plans\n; note\nann check read plans\nann create root Q hi\nann get-read plans\n"
      b"ann check read plans",

@@ -1,7 +1,7 @@
 //! What a test sees.
 ghost use Rattle.std.specs.Prelude.{IsTrue};
 
-use mls_tables::{Mode, Modes, ObjectId};
+use mls_tables::{Mode, Modes, ObjectId, SubjectId};
 use std::process::Abort;
 
 pub const MODES: [Mode; 4] = [Mode::Execute, Mode::Read, Mode::Append, Mode::Write];
@@ -22,4 +22,9 @@ pub fn has_just(modes: Modes, wanted: &[Mode]) -> bool {
 /// Whether the objects have just these numbers, in this order.
 pub fn are(objects: &[ObjectId], numbers: &[u16]) -> bool {
     objects.len() == numbers.len() && objects.iter().zip(numbers).all(|(o, n)| o.number() == *n)
+}
+
+/// Whether the subjects have just these numbers, in this order.
+pub fn are_subjects(subjects: &[SubjectId], numbers: &[u16]) -> bool {
+    subjects.len() == numbers.len() && subjects.iter().zip(numbers).all(|(s, n)| s.number() == *n)
 }

@@ -2,7 +2,7 @@
 //! refused in turn: then the set is compared with one that met no refusal after each step.
 ghost use Rattle.std.specs.Prelude.{◌<◌};
 
-use crate::seen::{are, has_just, sees};
+use crate::seen::{are, are_subjects, has_just, sees};
 use mls_tables::{
     AccessSet, MAX_OBJECTS, Mode, ObjectId, SubjectId, indexes_give_each_triple_once,
 };
@@ -50,6 +50,14 @@ fn look<A: Allocator>(rt: &impl Abort, set: &AccessSet<A>, step: &Step) {
                 rt,
                 are(set.objects_of(SubjectId(*s)), objects),
                 "what a subject holds",
+            );
+        }
+        Step::Holders(o, subjects) => {
+            covers(rt, set, 0, *o);
+            sees(
+                rt,
+                are_subjects(set.subjects_of(ObjectId(*o)), subjects),
+                "who accesses an object",
             );
         }
         _ => {}

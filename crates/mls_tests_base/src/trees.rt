@@ -1,5 +1,5 @@
 //! Trees, a table of steps each: the numbers that are given, and who stands below whom, also where each allocation is
-//! refused in turn.
+//! refused in turn: then all objects are compared with those of a tree that met no refusal.
 ghost use Rattle.std.specs.Prelude.{IsTrue};
 ghost use Rattle.mls_tree.specs.Tree.{is_active};
 
@@ -7,12 +7,22 @@ use crate::seen::{are, sees};
 use mls_tables::ObjectId;
 use mls_tree::{Tree, TreeFault, inferiors_reach};
 use refusing::Refusing;
+use same::same_trees;
 use std::alloc::{AllocError, Allocator, Global};
 use std::process::Abort;
 use std::test::Fail;
 use steps::{BRANCHED, Row, Step, WORKED};
 
+mod chain;
+mod same;
 mod steps;
+
+/// A tree that meets no refusal, and its allocator.
+#[derive(Drop)]
+struct Beside {
+    tree: Tree,
+    alloc: Global,
+}
 
 /// Asserts that an object is active.
 fn is_there<A: Allocator>(rt: &impl Abort, tree: &Tree<A>, o: u16)
@@ -106,39 +116,52 @@ fn look<A: Allocator>(rt: &impl Abort, tree: &Tree<A>, step: &Step) {
     }
 }
 
-/// Takes steps, each again where an allocation failed, and then nothing was added.
+/// Takes a step in both trees, in the first again where an allocation failed: then all its objects are as before.
+fn take_in_both<A: Allocator + Copy>(
+    rt: &impl Abort,
+    alloc: A,
+    tree: &mut Tree<A>,
+    wanted: &mut Beside,
+    step: &Step,
+) -> Result<(), AllocError> {
+    if take(rt, tree, alloc, step).is_err() {
+        same_trees(rt, tree, &wanted.tree);
+        take(rt, tree, alloc, step)?;
+    }
+    take(rt, &mut wanted.tree, wanted.alloc, step)?;
+    same_trees(rt, tree, &wanted.tree);
+    Ok(())
+}
+
+/// Takes steps in both trees.
 fn take_all<A: Allocator + Copy>(
     rt: &impl Abort,
-    tree: &mut Tree<A>,
     alloc: A,
+    tree: &mut Tree<A>,
+    wanted: &mut Beside,
     steps: &[Step],
 ) -> Result<(), AllocError> {
     for step in steps {
-        let next = tree.next();
-        if take(rt, tree, alloc, step).is_err() {
-            sees(
-                rt,
-                tree.next() == next && !tree.is_active(ObjectId(next)),
-                "nothing added",
-            );
-            take(rt, tree, alloc, step)?;
-        }
+        take_in_both(rt, alloc, tree, wanted, step)?;
     }
     Ok(())
 }
 
-/// Copies a tree, again where an allocation failed, and takes the steps that come after that.
+/// Copies a tree, again where an allocation failed, takes the steps that come after that, and sees what is told of the
+/// copy.
 fn copy<A: Allocator + Copy>(
     rt: &impl Abort,
-    tree: &mut Tree<A>,
     alloc: A,
+    tree: &mut Tree<A>,
+    wanted: &mut Beside,
     row: &Row,
 ) -> Result<(), AllocError> {
     let copy = match tree.duplicate(alloc) {
         Ok(copy) => copy,
         Err(_) => tree.duplicate(alloc)?,
     };
-    let taken = take_all(rt, tree, alloc, row.after);
+    same_trees(rt, &copy, &wanted.tree);
+    let taken = take_all(rt, alloc, tree, wanted, row.after);
     for step in row.copied {
         look(rt, &copy, step);
     }
@@ -146,26 +169,42 @@ fn copy<A: Allocator + Copy>(
     taken
 }
 
-/// Takes the steps of a row.
-fn take_row<A: Allocator + Copy>(rt: &impl Abort, alloc: A, row: &Row) -> Result<(), AllocError> {
+/// Takes the steps of a row beside a tree that meets no refusal.
+fn take_row<A: Allocator + Copy>(
+    rt: &impl Abort,
+    alloc: A,
+    wanted: &mut Beside,
+    row: &Row,
+) -> Result<(), AllocError> {
     let mut tree = match Tree::new(alloc) {
         Ok(tree) => tree,
         Err(_) => Tree::new(alloc)?,
     };
-    let mut taken = take_all(rt, &mut tree, alloc, row.before);
+    let mut taken = take_all(rt, alloc, &mut tree, wanted, row.before);
     if taken.is_ok() {
-        taken = copy(rt, &mut tree, alloc, row);
+        taken = copy(rt, alloc, &mut tree, wanted, row);
     }
     drop(tree);
     taken
 }
 
+/// Takes the steps of a row where the allocation of a number is refused, and returns whether it was.
+fn is_refused(rt: &impl Abort, alloc: Global, number: u64, row: &Row) -> Result<bool, AllocError> {
+    let heap = Refusing::new(alloc, number);
+    let mut wanted = Beside {
+        tree: Tree::new(alloc)?,
+        alloc,
+    };
+    let taken = take_row(rt, &heap, &mut wanted, row);
+    drop(wanted);
+    taken?;
+    Ok(heap.has_refused())
+}
+
 /// Takes the steps of a row where each allocation is refused in turn.
 fn refused_in_turn(rt: &impl Abort, alloc: Global, row: &Row) -> Result<(), AllocError> {
     for number in 1..100 {
-        let heap = Refusing::new(alloc, number);
-        take_row(rt, &heap, row)?;
-        if !heap.has_refused() {
+        if !is_refused(rt, alloc, number, row)? {
             sees(rt, number > 6, "how many allocations");
             return Ok(());
         }
@@ -179,62 +218,5 @@ fn branches_are_taken_out(rt: HostRuntime) -> Result<(), Fail> {
     refused_in_turn(&rt, rt.alloc(), &WORKED)?;
     refused_in_turn(&rt, rt.alloc(), &BRANCHED)?;
     inferiors_reach();
-    Ok(())
-}
-
-/// Gives out all numbers to a chain, and asserts that it takes no more.
-fn fill(rt: &impl Abort, tree: &mut Tree<Global>) -> Result<(), AllocError> {
-    for n in 0..4095u16 {
-        add(rt, tree, n, n + 1)?;
-    }
-    look(rt, tree, &Step::Below(4095, 4094));
-    is_full(rt, tree, 4095);
-    Ok(())
-}
-
-/// Asserts that nothing can be added below an object.
-fn is_full(rt: &impl Abort, tree: &mut Tree<Global>, parent: u16) {
-    is_there(rt, tree, parent);
-    sees(
-        rt,
-        tree.add(ObjectId(parent)) == Err(TreeFault::Full),
-        "a full tree",
-    );
-}
-
-/// Asserts that the objects below the root are those of the chain.
-fn lists_the_chain(rt: &impl Abort, alloc: Global, tree: &Tree<Global>) -> Result<(), AllocError> {
-    is_there(rt, tree, 1);
-    let chain = tree.inferiors(alloc, ObjectId(1))?;
-    sees(rt, chain.len() == 4095, "how many");
-    for (k, o) in chain.iter().enumerate() {
-        sees(
-            rt,
-            Some(o.number() as usize) == k.checked_add(1),
-            "the order",
-        );
-    }
-    drop(chain);
-    Ok(())
-}
-
-/// Fills a tree with a chain and takes it out; its numbers aren't given again.
-fn fill_and_cut(rt: &impl Abort, alloc: Global, tree: &mut Tree<Global>) -> Result<(), AllocError> {
-    fill(rt, tree)?;
-    lists_the_chain(rt, alloc, tree)?;
-    remove(rt, tree, alloc, 1)?;
-    look(rt, tree, &Step::Gone(1));
-    look(rt, tree, &Step::Gone(4095));
-    look(rt, tree, &Step::Children(0, &[]));
-    is_full(rt, tree, 0);
-    Ok(())
-}
-
-#[test]
-fn a_chain_of_all_numbers(rt: HostRuntime) -> Result<(), Fail> {
-    let mut tree = Tree::new(rt.alloc())?;
-    let cut = fill_and_cut(&rt, rt.alloc(), &mut tree);
-    drop(tree);
-    cut?;
     Ok(())
 }

@@ -20,6 +20,8 @@ pub enum Step {
     Contains(u16, u16, Mode, bool),
     /// The objects that a subject accesses.
     Lists(u16, &'static [u16]),
+    /// The subjects that access an object.
+    Holders(u16, &'static [u16]),
 }
 
 /// How many subjects a set has, whether it is as wide as can be, what is done to it, what is done to it after a copy
@@ -32,7 +34,7 @@ pub struct Row {
     pub copied: &'static [Step],
 }
 
-/// Three triples, of which two are removed, and the last with its object.
+/// Three triples, of which two are removed, and the last with its object. After each step both lists are told.
 pub const WORKED: Row = Row {
     subjects: 3,
     widest: false,
@@ -40,17 +42,40 @@ pub const WORKED: Row = Row {
         Step::Widen,
         Step::Widen,
         Step::Insert(2, 1, Mode::Read, true),
+        Step::Holders(1, &[2]),
+        Step::Lists(2, &[1]),
         Step::Insert(0, 1, Mode::Write, true),
+        Step::Holders(1, &[0, 2]),
+        Step::Lists(0, &[1]),
         Step::Insert(0, 1, Mode::Write, false),
+        Step::Holders(1, &[0, 2]),
+        Step::Lists(0, &[1]),
         Step::Insert(0, 1, Mode::Read, true),
+        Step::Holders(1, &[0, 2]),
+        Step::Lists(0, &[1]),
         Step::Remove(0, 1, Mode::Write, true),
         Step::Has(0, 1, &[Mode::Read]),
+        Step::Holders(1, &[0, 2]),
+        Step::Lists(0, &[1]),
         Step::Remove(0, 1, Mode::Read, true),
         Step::Has(0, 1, &[]),
+        Step::Holders(1, &[2]),
+        Step::Lists(0, &[]),
         Step::Remove(0, 1, Mode::Read, false),
+        Step::Holders(1, &[2]),
+        Step::Lists(0, &[]),
     ],
-    after: &[Step::Drop(1), Step::Has(2, 1, &[]), Step::Lists(2, &[])],
-    copied: &[Step::Contains(2, 1, Mode::Read, true), Step::Lists(2, &[1])],
+    after: &[
+        Step::Drop(1),
+        Step::Has(2, 1, &[]),
+        Step::Holders(1, &[]),
+        Step::Lists(2, &[]),
+    ],
+    copied: &[
+        Step::Contains(2, 1, Mode::Read, true),
+        Step::Holders(1, &[2]),
+        Step::Lists(2, &[1]),
+    ],
 };
 
 /// One of three subjects has each access to four objects, of which two leave.
