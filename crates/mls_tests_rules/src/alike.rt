@@ -5,7 +5,7 @@ use mls_tables::{Mode, Modes, ObjectId, SubjectId};
 use std::alloc::Allocator;
 use std::process::Abort;
 
-const MODES: [Mode; 4] = [Mode::Execute, Mode::Read, Mode::Append, Mode::Write];
+pub const MODES: [Mode; 4] = [Mode::Execute, Mode::Read, Mode::Append, Mode::Write];
 
 /// Whether two sets have the same modes.
 fn same_modes(a: Modes, b: Modes) -> bool {
@@ -32,6 +32,13 @@ fn cells_are_alike<A: Allocator, B: Allocator>(
         same_modes(one.accesses(s, o), other.accesses(s, o)),
         "what is accessed",
     );
+    for x in &MODES {
+        sees(
+            rt,
+            one.has_access(s, o, *x) == other.has_access(s, o, *x),
+            "an access",
+        );
+    }
 }
 
 /// Asserts that no read distinguishes an object in two states.

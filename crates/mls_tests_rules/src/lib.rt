@@ -5,6 +5,8 @@
 #[cfg(test)]
 mod alike;
 #[cfg(test)]
+mod builders;
+#[cfg(test)]
 mod changes;
 #[cfg(test)]
 mod journals;

@@ -15,7 +15,7 @@ use std::process::Abort;
 use std::test::Fail;
 
 /// The opening of a start; where an allocation failed it is opened again.
-fn opening<A: Allocator + Copy>(heap: A, start: &Start<A>) -> Result<State<A>, AllocError> {
+pub fn opening<A: Allocator + Copy>(heap: A, start: &Start<A>) -> Result<State<A>, AllocError> {
     match start.opening(heap) {
         Ok(state) => Ok(state),
         Err(_) => start.opening(heap),
