@@ -1,0 +1,118 @@
+"""The calls of the library for C that read and write texts, by ctypes."""
+import ctypes
+import sys
+
+from outside import TOP
+
+sys.path.insert(1, f"{TOP}/c")
+from ask import Answer, Fault, Handle, Label, Request
+
+OK, CLOSED, INVALID, START, JOURNAL, REPLAY, NOT_FOUND, TOO_SHORT = 0, -1, -4, -5, -6, -7, -9, -8
+GET, DENIED, DISCRETIONARY = 0, 16, 0
+SECURITY, INTEGRITY = 0, 1
+# The byte that memory for a result is filled with, so that it is seen what was written.
+BEFORE = b"\xa5"
+BUFFER = 4096
+
+Size = ctypes.c_size_t
+
+
+def loaded(library):
+    """The library's calls."""
+    calls = ctypes.CDLL(library)
+    calls.mls_entries.restype = ctypes.c_uint64
+    return calls
+
+
+def filled(kind):
+    """Memory for a result that wasn't written yet."""
+    result = kind()
+    ctypes.memset(ctypes.byref(result), BEFORE[0], ctypes.sizeof(result))
+    return result
+
+
+def is_untouched(result):
+    return bytes(result) == ctypes.sizeof(result) * BEFORE
+
+
+class Opened:
+    """A handle that a start file, and perhaps a journal, was read into: the status, and the fault that was told."""
+
+    def __init__(self, calls, start, journal=None):
+        self.calls, self.handle, fault = calls, Handle(), filled(Fault)
+        self.at = ctypes.byref(self.handle)
+        texts = [start, Size(len(start))] + ([] if journal is None else [journal, Size(len(journal))])
+        read = calls.mls_open if journal is None else calls.mls_resume
+        self.status = read(self.at, *texts, ctypes.byref(fault))
+        is_told = self.status in (START, JOURNAL, REPLAY)
+        self.fault = (fault.kind, fault.number, fault.place) if is_told else None
+        assert self.status == OK or is_told, f"the start is read with status {self.status}"
+        assert is_told or is_untouched(fault), "a fault is written though there is none"
+        assert self.is_open() == (self.status == OK), f"the handle after status {self.status}"
+
+    def __enter__(self):
+        return self
+
+    def __exit__(self, *_):
+        self.calls.mls_close(self.at)
+
+    def is_open(self):
+        found = ctypes.c_uint16()
+        return self.calls.mls_subject(self.at, b"", Size(0), ctypes.byref(found)) != CLOSED
+
+    def entries(self):
+        return self.calls.mls_entries(self.at)
+
+    def number(self, find, name):
+        """The number of a name, by mls_subject or mls_object; None where there is no such name."""
+        found = filled(ctypes.c_uint16)
+        status = find(self.at, name, Size(len(name)), ctypes.byref(found))
+        assert status == OK or status == NOT_FOUND and is_untouched(found), f"{name} is looked for with status {status}"
+        return found.value if status == OK else None
+
+    def text(self, write, *what):
+        """A text that is copied out: into a buffer that is one byte too short, and into one that isn't."""
+        length, buffer = Size(), ctypes.create_string_buffer(BUFFER * BEFORE, BUFFER)
+        status = write(self.at, *what, buffer, Size(BUFFER), ctypes.byref(length))
+        assert status == OK, f"a text is copied out with status {status}"
+        found, rest = buffer.raw[:length.value], buffer.raw[length.value:]
+        assert rest == len(rest) * BEFORE, "more than a text is written"
+        short = ctypes.create_string_buffer(BUFFER * BEFORE, BUFFER)
+        status = write(self.at, *what, short, Size(len(found) - 1), ctypes.byref(length))
+        assert (status, length.value) == (TOO_SHORT, len(found)), f"status {status} where the buffer is too short"
+        assert short.raw == BUFFER * BEFORE, "a buffer that is too short is written to"
+        return found
+
+    def journal(self):
+        """The text of the journal."""
+        lines = (self.text(self.calls.mls_entry_text, ctypes.c_uint64(number)) for number in range(self.entries()))
+        return b"".join(lines)
+
+    def decided(self, **request):
+        """The reply that a request would have."""
+        answer = Answer()
+        status = self.calls.mls_decide(self.at, ctypes.byref(Request(**request)), ctypes.byref(answer))
+        assert status == OK, f"a decision has status {status}"
+        return answer.reply
+
+    def submit(self, session, request):
+        """The answer to a request, which is made."""
+        answer = Answer()
+        status = self.calls.mls_submit(self.at, ctypes.c_uint32(session), ctypes.byref(request), ctypes.byref(answer))
+        assert status == OK, f"a submit has status {status}"
+        return answer
+
+    def label(self, kind, text):
+        """The level and the bits of the categories of a label's text; None where it is no label's."""
+        found = filled(Label)
+        status = self.calls.mls_read_label(self.at, ctypes.c_int(kind), text, Size(len(text)), ctypes.byref(found))
+        assert status == OK or status == INVALID and is_untouched(found), f"a label is read with status {status}"
+        if status == INVALID:
+            return None
+        assert not any(found.categories[1:]), "categories that there are not"
+        return found.level, found.categories[0]
+
+    def label_text(self, kind, label):
+        """The text of a label."""
+        given = Label(label[0], (label[1], 0, 0, 0))
+        return self.text(self.calls.mls_write_label, ctypes.c_int(kind), ctypes.byref(given))
