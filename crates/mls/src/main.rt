@@ -12,6 +12,7 @@ use mls_threads::run_threads;
 use mls_words::{Job, RunWords, read_words};
 use std::env;
 use std::env::FillError;
+use std::io::ErrorKind;
 use std::process::ExitCode;
 use std::rt::Env;
 use std::sync::Wait;
@@ -117,8 +118,10 @@ fn run_words<R: Threads + Wait + Sync>(
 
 /// Reads the words and does what they ask for.
 fn run_args<R: Threads + Wait + Sync>(threads: &R, rt: &HostRuntime) -> ExitCode {
-    let Ok(args) = env::args(rt) else {
-        return refused(rt, "mls: a word isn't UTF-8", 2);
+    let args = match env::args(rt) {
+        Ok(args) => args,
+        Err(error) if error.kind() == ErrorKind::OutOfMemory => return refused(rt, NO_MEMORY, 1),
+        Err(_) => return refused(rt, "mls: a word isn't UTF-8", 2),
     };
     let Ok(words) = args.collect::<Vec<String>>(rt.alloc()) else {
         return refused(rt, NO_MEMORY, 1);
