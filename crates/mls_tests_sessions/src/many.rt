@@ -1,5 +1,5 @@
 //! Sessions of one office that ask one after the other.
-ghost use Rattle.std.specs.Prelude.{◌≡◌, vec_len};
+ghost use Rattle.std.specs.Prelude.{◌≡◌, ◌<◌, ◌∷◌, vec_len};
 ghost use Rattle.mls_sessions.specs.Sessions.{Ascending};
 
 use crate::standard::release;
@@ -39,6 +39,18 @@ fn is_in_order(monitor: &Monitor, count: usize) -> bool {
     entries.len() == count
 }
 
+/// Whether session k stands at place k - 1.
+fn are_after_first(sessions: &[Session]) -> bool {
+    let mut number = 0u32;
+    for session in sessions {
+        number = number.wrapping_add(1);
+        if session.number() != number {
+            return false;
+        }
+    }
+    true
+}
+
 /// With all sessions an office leaves an entry of each.
 fn close_whole(rt: &impl Abort, office: Office, sessions: Vec<Session>)
     requires { Ascending office 0 sessions.items }
@@ -53,22 +65,40 @@ fn close_whole(rt: &impl Abort, office: Office, sessions: Vec<Session>)
     }
 }
 
-/// With one session left out the office comes back with what was given; with all of them it leaves an entry of each.
-#[tactic(auto, using(crate::proofs::Lists::ascending_last))]
+/// Takes session 0 out of the sessions of an office.
+#[tactic(auto, using(crate::proofs::Lists::first_ascends, crate::proofs::Lists::rest_ascends))]
+fn take_first(office: &Office, sessions: &mut Vec<Session>) -> Session
+    requires sessions { Ascending office.now 0 sessions.old.items }
+    requires some { 0 < vec_len sessions.old }
+    ensures all { Ascending office.now 0 (result ∷ sessions.new.items) }
+    ensures rest { Ascending office.now 0 sessions.new.items }
+{
+    let _ = office;
+    sessions.remove(0)
+}
+
+/// Closes an office with all its sessions, after it came back for want of session 0.
+fn close_after(rt: &impl Abort, office: Office, first: Session, mut rest: Vec<Session>)
+    requires { Ascending office 0 (first ∷ rest.items) }
+{
+    assert!(rt; rest.insert(0, first).is_ok());
+    close_whole(rt, office, rest);
+}
+
+/// With session 0 left out the office comes back with the others, in their order; with all of them it leaves an entry of each.
 fn close_all(rt: &impl Abort, office: Office, mut sessions: Vec<Session>)
     requires { Ascending office 0 sessions.items }
 {
     let count = sessions.len();
-    let Some(last) = sessions.pop() else {
-        panic!(rt; "there are sessions")
-    };
-    let (office, mut sessions) = match office.close(sessions) {
+    assert!(rt; count > 0);
+    let first = take_first(&office, &mut sessions);
+    match office.close(sessions) {
         Ok(_) => panic!(rt; "a session is missing"),
-        Err(CloseFault { office, sessions }) => (office, sessions),
-    };
-    assert!(rt; sessions.len() + 1 == count);
-    assert!(rt; sessions.push(last).is_ok());
-    close_whole(rt, office, sessions);
+        Err(CloseFault { office, sessions }) => {
+            assert!(rt; sessions.len() + 1 == count && are_after_first(&sessions));
+            close_after(rt, office, first, sessions);
+        }
+    }
 }
 
 /// Each session of an office asks, and then it is closed.

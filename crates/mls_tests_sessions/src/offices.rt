@@ -3,8 +3,8 @@ ghost use Rattle.mls_sessions.specs.Sessions.{Ascending};
 
 use crate::many::share_one_journal;
 use crate::pair::{Deeds, over_two};
-use crate::single::over_one;
-use crate::standard::{ANN, PLANS, get, standard_monitor};
+use crate::single::{Before, over_one};
+use crate::standard::{ANN, PLANS, get, replayed_monitor, standard_monitor};
 use mls_monitor::Monitor;
 use mls_sessions::{MAX_SESSIONS, Office, Session};
 use mls_tables::Mode;
@@ -15,7 +15,7 @@ use std::sync::Wait;
 /// What the sessions of an office do.
 #[derive(Clone, Copy)]
 enum Test {
-    OneTries,
+    OneTries(Before),
     Two(Deeds),
     AllAsk,
 }
@@ -25,7 +25,7 @@ fn hand_on<R: Wait + Abort>(rt: &R, office: Office, sessions: Vec<Session>, test
     requires { Ascending office 0 sessions.items }
 {
     match test {
-        Test::OneTries => over_one(rt, office, sessions),
+        Test::OneTries(before) => over_one(rt, office, sessions, before),
         Test::Two(deeds) => over_two(rt, office, sessions, deeds),
         Test::AllAsk => share_one_journal(rt, office, sessions),
     }
@@ -55,12 +55,32 @@ fn open<R: Wait + Abort>(rt: &R, alloc: Global, added: u32, count: u16, test: Te
 
 #[test]
 fn one_session_is_never_told_busy(rt: HostRuntime) {
-    open(&rt, rt.alloc(), 0, 1, Test::OneTries);
+    let before = Before {
+        entries: 0,
+        is_held: false,
+    };
+    open(&rt, rt.alloc(), 0, 1, Test::OneTries(before));
 }
 
 #[test]
 fn an_office_goes_on_with_a_journal(rt: HostRuntime) {
-    open(&rt, rt.alloc(), 2, 1, Test::OneTries);
+    let before = Before {
+        entries: 2,
+        is_held: true,
+    };
+    open(&rt, rt.alloc(), 2, 1, Test::OneTries(before));
+}
+
+#[test]
+fn an_office_goes_on_with_a_replayed_journal(rt: HostRuntime) {
+    let before = Before {
+        entries: 6,
+        is_held: false,
+    };
+    match replayed_monitor(rt.alloc()) {
+        Ok(monitor) => open_over(&rt, rt.alloc(), monitor, 1, Test::OneTries(before)),
+        Err(_) => panic!(rt; "out of memory, or the journal isn't replayed"),
+    }
 }
 
 #[test]

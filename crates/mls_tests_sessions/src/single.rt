@@ -57,12 +57,21 @@ fn is_granted(office: &Office, session: &mut Session, number: u64) -> bool
     }
 }
 
-/// The only session tries, and is answered: over a journal of so many entries, which it has seen and goes on with.
-fn tries(rt: &impl Abort, office: &Office, session: &mut Session, base: u64)
+/// What a journal comes to that an office is opened over.
+#[derive(Clone, Copy)]
+pub struct Before {
+    pub entries: u64,
+    /// Whether ann reads the plans.
+    pub is_held: bool,
+}
+
+/// The only session tries, and is answered: over a journal, which it has seen and goes on with.
+fn tries(rt: &impl Abort, office: &Office, session: &mut Session, before: Before)
     requires { IsOf office.now session.old }
 {
+    let base = before.entries;
     assert!(rt; (session.seen(), session.made()) == (base, 0));
-    assert!(rt; held(office, session, Mode::Read) == Some(base > 0));
+    assert!(rt; held(office, session, Mode::Read) == Some(before.is_held));
     assert!(rt; is_granted(office, session, base));
     assert!(rt; held(office, session, Mode::Read) == Some(true));
     assert!(rt; held(office, session, Mode::Write) == Some(false));
@@ -71,14 +80,14 @@ fn tries(rt: &impl Abort, office: &Office, session: &mut Session, base: u64)
 
 /// The only session of an office tries.
 #[tactic(auto, using(crate::proofs::Lists::ascending_last))]
-pub fn over_one(rt: &impl Abort, office: Office, mut sessions: Vec<Session>)
+pub fn over_one(rt: &impl Abort, office: Office, mut sessions: Vec<Session>, before: Before)
     requires { Ascending office 0 sessions.items }
 {
-    let base = office.base();
+    assert!(rt; office.base() == before.entries);
     let Some(mut only) = sessions.pop() else {
         panic!(rt; "one session")
     };
-    tries(rt, &office, &mut only, base);
+    tries(rt, &office, &mut only, before);
     drop(only);
     drop(sessions);
     drop(office);
