@@ -83,6 +83,9 @@ ANSWERED_ALIKE = [
              "5 4294967294 1 level 0 yes"]),
     # an entry that no script asks for, since no level of the start has that number
     (CLIMB, ["5 0 0 level 9 undefined"]),
+    # nor any category beyond the first two, up to the last of 256
+    (CLIMB, ["5 0 0 level 0:63,64,255 undefined"]),
+    (CLIMB, ["5 0 0 level 0:200 undefined"]),
 ]
 
 # What stands in an entry in place of its own: replies of each kind, with each reason; and subjects that there are, the

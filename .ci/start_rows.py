@@ -50,6 +50,8 @@ UNKNOWN_MEMBERS = [
     *each("", '"security":{', '"Security":{'),
     *each("", '"subjects"', '"subject"'),
     *each("", '"matrix"', '"cells"'),
+    *each("", '"matrix"', '"accesses"'),
+    *each("", '"matrix":', '"matrix":[],"access":'),
     *each("", '"levels"', '"level"'),
     *each("", '"categories"', '"category"'),
     *each("", '"maximum"', '"maximal"'),
@@ -121,7 +123,7 @@ LEVELS, CATEGORIES = '["U"]', '"categories":[]'
 SCHEMES = [
     ("1 NoLevels", [(LEVELS, "[]")]),
     ("2 TooManyLevels", [(LEVELS, f'["U",{names(16)}]')]),
-    ("3 TooManyCategories", [(CATEGORIES, f'"categories":[{names(65)}]')]),
+    ("3 TooManyCategories", [(CATEGORIES, f'"categories":[{names(257)}]')]),
     ("4 BadName", [(LEVELS, '["U","a b"]')]),
     ("4 BadName", [(LEVELS, '["U",""]')]),
     ("4 BadName", [(LEVELS, f'["U","{LONG}"]')]),
@@ -140,7 +142,7 @@ SCHEMES = [
 # As many levels and categories as there may be; a level and a category of one name.
 SCHEMES_READ = [
     [(LEVELS, f'["U",{names(15)}]')],
-    [(CATEGORIES, f'"categories":[{names(64)}]')],
+    [(CATEGORIES, f'"categories":[{names(256)}]')],
     [(CATEGORIES, '"categories":["U"]')],
 ]
 
@@ -203,6 +205,49 @@ MATRIX_READ = [
     (1, [('"object":"o"', '"object":"r"')]),
     (1, [(CELL, f"{CELL},{CELL}")]),
     (3, [(CELL, '{"subject":"s","object":"r","modes":["read","read"]},' + CELL.replace('"read"', '"write","execute"'))]),
+]
+
+# What stands in the member accesses of the small file, and why it is then refused, or what is counted.
+ACCESSES = [
+    ((1, 2, 1), "[]"),
+    ((1, 2, 1), '[{"subject":"s","object":"o","modes":[]}]'),
+    ((1, 2, 1, 1), f"[{CELL}]"),
+    ((1, 2, 1, 1), f"[{CELL},{CELL}]"),
+    ((1, 2, 1, 1), '[{"subject":"s","object":"o","modes":["read","read"]}]'),
+    *[("2 Members", text) for text in ("null", "{}", "0", '"s"', "[0]", "[null]", "[[]]", "[{}]")],
+    ("2 Members", CELL),
+    ("2 Members", '[{"subject":"s","object":"o"}]'),
+    ("2 Members", '[{"subject":"s","object":"o","modes":"read"}]'),
+    ("2 Members", '[{"subject":"s","object":"o","modes":[0]}]'),
+    ("2 Members", '[{"subject":0,"object":"o","modes":["read"]}]'),
+    ("2 Members", '[{"subject":"s","object":"o","modes":["read"],"extra":0}]'),
+    ("6 Unknown", '[{"subject":"o","object":"o","modes":["read"]}]'),
+    ("6 Unknown", '[{"subject":"s","object":"s","modes":["read"]}]'),
+    ("6 Unknown", '[{"subject":"s","object":"o","modes":["Read"]}]'),
+    ("6 Unknown", '[{"subject":"s","object":"x","modes":[]}]'),
+    # (what the matrix doesn't permit)
+    ("7 Start 10 NotSecure", '[{"subject":"s","object":"r","modes":["read"]}]'),
+    ("7 Start 10 NotSecure", '[{"subject":"s","object":"o","modes":["read","write"]}]'),
+]
+
+# An access of the standard file, and why it is then refused, or what is counted.
+STANDARD_ACCESSES = [
+    ((4, 4, 12, 1), "ann", "plans", "read"),
+    ((4, 4, 12, 1), "sec", "plans", "write"),
+    # (star, discretionary security, integrity)
+    ("7 Start 10 NotSecure", "bob", "memo", "read"),
+    ("7 Start 10 NotSecure", "ann", "plans", "append"),
+    ("7 Start 10 NotSecure", "sec", "memo", "write"),
+]
+
+# What stands in the member profile of the small file, and why it is then refused, or what is counted.
+PROFILES = [
+    ((1, 2, 1), "1"),
+    ((1, 2, 1), "2"),
+    *[("2 Members", text) for text in ("0", "3", "-1", "-2", "1.0", "2.0", "1e0", "0.1e1", "258", "65537", "4294967297",
+                                       "18446744073709551617", '"1"', '"2"', "null", "true", "[1]", "{}")],
+    ("1 Json", "01"),
+    ("1 Json", "+1"),
 ]
 
 # Two faults, of which the lesser comes, whether it stands after the other or before it.

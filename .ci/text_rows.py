@@ -7,14 +7,14 @@ SCHEMES = [
     (LEVELS, CATEGORIES, None),
     ([], CATEGORIES, "1 NoLevels"),
     (17 * ["a"], [], "2 TooManyLevels"),
-    (LEVELS, 65 * ["a"], "3 TooManyCategories"),
+    (LEVELS, 257 * ["a"], "3 TooManyCategories"),
     (["a b"], [], "4 BadName"),
     (["U", "U"], [], "5 RepeatedName"),
     (["U"], ["U"], None),
-    ([], 65 * ["a"], "1 NoLevels"),
-    (17 * ["a"], 65 * ["a"], "2 TooManyLevels"),
+    ([], 257 * ["a"], "1 NoLevels"),
+    (17 * ["a"], 257 * ["a"], "2 TooManyLevels"),
     (["U", "U"], ["a b"], "4 BadName"),
-    ([f"l{n}" for n in range(16)], [f"c{n}" for n in range(64)], None),
+    ([f"l{n}" for n in range(16)], [f"c{n}" for n in range(256)], None),
 ]
 
 # Texts, and whether each is a name: of no byte, of one, of 32, of 33, and of another letter.

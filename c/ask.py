@@ -63,8 +63,8 @@ class Monitor:
         return self.library.mls_check(ctypes.byref(self.handle), subject, obj, mode) == 1
 
     def line(self, number):
-        text, length = ctypes.create_string_buffer(512), ctypes.c_size_t()
-        status = self.library.mls_entry_text(ctypes.byref(self.handle), ctypes.c_uint64(number), text, ctypes.c_size_t(512),
+        text, length = ctypes.create_string_buffer(4096), ctypes.c_size_t()
+        status = self.library.mls_entry_text(ctypes.byref(self.handle), ctypes.c_uint64(number), text, ctypes.c_size_t(4096),
                                              ctypes.byref(length))
         if status:
             raise IndexError(number)

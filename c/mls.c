@@ -4,6 +4,9 @@
 
 #define COUNT(words) (sizeof(words) / sizeof(words)[0])
 
+#define TEXT(number) #number
+#define VERSION(major, minor) TEXT(major) "." TEXT(minor)
+
 static uint8_t nothing;
 
 static const uint8_t *bytes(const uint8_t *at, size_t len) { return at || len ? at : &nothing; }
@@ -52,6 +55,8 @@ static const char *word(const char *const *words, size_t count, int number) {
     return number >= 0 && (size_t)number < count ? words[number] : "?";
 }
 
+const char *mls_version(void) { return VERSION(MLS_VERSION_MAJOR, MLS_VERSION_MINOR); }
+
 const char *mls_status_word(int status) {
     static const char *const words[] = {"ok", "closed", "open", "no memory", "invalid", "start refused", "journal refused",
                                         "replay differs", "too short", "not found"};
@@ -70,11 +75,11 @@ const char *mls_mode_word(int mode) {
 
 const char *mls_reply_word(int reply) {
     static const char *const words[] = {"yes", "created", "undefined"};
-    return reply >= MLS_DENIED && reply <= MLS_DENIED + MLS_FULL ? "no" : word(words, COUNT(words), reply);
+    return reply > MLS_DENIED && reply <= MLS_DENIED + MLS_FULL ? "no" : word(words, COUNT(words), reply);
 }
 
 const char *mls_reason_word(int reason) {
-    static const char *const words[] = {"discretionary", "simple", "star", "integrity", "authority", "compatibility", "ceiling",
-                                        "root", "full"};
+    static const char *const words[] = {"?", "discretionary", "simple", "star", "integrity", "authority", "compatibility",
+                                        "ceiling", "root", "full"};
     return word(words, COUNT(words), reason);
 }

@@ -234,26 +234,29 @@ static void bad_numbers(void) {
         q = request((uint8_t)n, ANN, 4, PLANS);
         CHECK(mls_submit(&m, 0, &q, &a) == MLS_EINVAL);
     }
-    for (n = 0; n < 4; n++) {
-        q = request(MLS_CREATE, SEC, 255, ROOT);
-        if (n == 0) q.security.level = 16;
-        else q.security.categories[n] = 1;
-        CHECK(mls_submit(&m, 0, &q, &a) == MLS_EINVAL);
-        q.action = MLS_SUBJECT_LEVEL;
-        CHECK(mls_submit(&m, 0, &q, &a) == MLS_EINVAL);
-        q.action = MLS_OBJECT_LEVEL;
-        CHECK(mls_submit(&m, 0, &q, &a) == MLS_EINVAL);
-        q.integrity = q.security;
-        q.security.level = 0;
-        q.security.categories[1] = q.security.categories[2] = q.security.categories[3] = 0;
-        q.action = MLS_CREATE;
-        CHECK(mls_submit(&m, 0, &q, &a) == MLS_EINVAL);
-    }
+    q = request(MLS_CREATE, SEC, 255, ROOT);
+    q.security.level = 16;
+    CHECK(mls_submit(&m, 0, &q, &a) == MLS_EINVAL);
+    q.action = MLS_SUBJECT_LEVEL;
+    CHECK(mls_submit(&m, 0, &q, &a) == MLS_EINVAL);
+    q.action = MLS_OBJECT_LEVEL;
+    CHECK(mls_submit(&m, 0, &q, &a) == MLS_EINVAL);
+    q.integrity = q.security;
+    q.security.level = 0;
+    q.action = MLS_CREATE;
+    CHECK(mls_submit(&m, 0, &q, &a) == MLS_EINVAL);
     CHECK(same_answer(&a, &no_answer) && mls_entries(&m) == 0);
     /* what an action doesn't use isn't looked at: a delete with numbers that are no mode and no label */
     q = request(MLS_DELETE, SEC, 255, 4000);
     q.security.level = q.integrity.level = 255;
     CHECK(asked(&m, q) == MLS_UNDEFINED);
+    /* each of 256 categories can be asked for; the scheme of the start has two */
+    for (n = 2; n < 256; n++) {
+        q = request(MLS_SUBJECT_LEVEL, ANN, 255, ROOT);
+        q.security.categories[n / 64] = (uint64_t)1 << n % 64;
+        CHECK(asked(&m, q) == MLS_UNDEFINED);
+        CHECK(mls_decide(&m, &q, &a) == MLS_OK && a.reply == MLS_UNDEFINED);
+    }
     mls_close(&m);
 }
 
@@ -457,8 +460,11 @@ static void words(void) {
     CHECK(strcmp(mls_action_word(MLS_OBJECT_LEVEL), "relabel") == 0 && strcmp(mls_action_word(8), "?") == 0);
     CHECK(strcmp(mls_mode_word(MLS_WRITE), "write") == 0 && strcmp(mls_mode_word(-1), "?") == 0);
     CHECK(strcmp(mls_reply_word(MLS_UNDEFINED), "undefined") == 0 && strcmp(mls_reply_word(MLS_DENIED + MLS_FULL), "no") == 0);
-    CHECK(strcmp(mls_reply_word(3), "?") == 0 && strcmp(mls_reply_word(25), "?") == 0);
-    CHECK(strcmp(mls_reason_word(MLS_FULL), "full") == 0 && strcmp(mls_reason_word(9), "?") == 0);
+    CHECK(MLS_DENIED + MLS_DISCRETIONARY == 17 && MLS_DENIED + MLS_FULL == 25 && strcmp(mls_reply_word(MLS_DENIED), "?") == 0);
+    CHECK(strcmp(mls_reply_word(3), "?") == 0 && strcmp(mls_reply_word(26), "?") == 0);
+    CHECK(strcmp(mls_reason_word(MLS_FULL), "full") == 0 && strcmp(mls_reason_word(10), "?") == 0 && strcmp(mls_reason_word(0), "?") == 0);
+    CHECK(strcmp(mls_reason_word(MLS_DISCRETIONARY), "discretionary") == 0);
+    CHECK(MLS_VERSION_MAJOR == 0 && MLS_VERSION_MINOR == 2 && strcmp(mls_version(), "0.2") == 0);
 }
 
 int main(int argc, char **argv) {

@@ -22,6 +22,10 @@
 extern "C" {
 #endif
 
+/* The version of this header. Numbers that stand here keep their meaning from 0.2 on. */
+#define MLS_VERSION_MAJOR 0
+#define MLS_VERSION_MINOR 2
+
 /* Statuses: MLS_OK, or below 0, where the handle is as it was; then only what the comments of the calls name is written, as the fault of
  * MLS_ESTART, MLS_EJOURNAL and MLS_EREPLAY and the length of MLS_ERANGE. The decision is never in the status. */
 enum {
@@ -52,13 +56,13 @@ enum {
 /* Modes of access. */
 enum { MLS_EXECUTE = 0, MLS_READ = 1, MLS_APPEND = 2, MLS_WRITE = 3 };
 
-/* Replies: a denial is MLS_DENIED and the number of its reason. */
+/* Replies: a denial is MLS_DENIED and the number of its reason, 17 to 25. */
 enum { MLS_YES = 0, MLS_CREATED = 1, MLS_UNDEFINED = 2, MLS_DENIED = 16 };
 
-/* Reasons of denials. */
+/* Reasons of denials, numbered as docs/POLICY.md counts them. */
 enum {
-    MLS_DISCRETIONARY = 0, MLS_SIMPLE = 1, MLS_STAR = 2, MLS_INTEGRITY = 3, MLS_AUTHORITY = 4, MLS_COMPATIBILITY = 5,
-    MLS_CEILING = 6, MLS_ROOT = 7, MLS_FULL = 8
+    MLS_DISCRETIONARY = 1, MLS_SIMPLE = 2, MLS_STAR = 3, MLS_INTEGRITY = 4, MLS_AUTHORITY = 5, MLS_COMPATIBILITY = 6,
+    MLS_CEILING = 7, MLS_ROOT = 8, MLS_FULL = 9
 };
 
 /* Kinds of labels. */
@@ -72,7 +76,7 @@ typedef struct {
 
 #define MLS_INIT { 0, NULL }
 
-/* A label: a level below 16, and bit n % 64 of word n / 64 for category n. Categories are below 64, so the other words are 0. */
+/* A label: a level below 16, and bit n % 64 of word n / 64 for category n, 0 to 255. */
 typedef struct {
     uint8_t level;
     uint64_t categories[4];
@@ -150,6 +154,9 @@ int mls_write_label(mls_t *m, int kind, const mls_label_t *label, char *buf, siz
 
 /* Closes a handle and frees what it holds. A closed handle stays closed. */
 void mls_close(mls_t *m);
+
+/* The version of the library, as MAJOR.MINOR. */
+const char *mls_version(void);
 
 /* The words of the numbers, as the program mls writes them; "?" where a number has none. */
 const char *mls_status_word(int status);

@@ -8,13 +8,18 @@ sys.path.insert(1, f"{TOP}/c")
 from ask import Answer, Fault, Handle, Label, Request
 
 OK, CLOSED, INVALID, START, JOURNAL, REPLAY, NOT_FOUND, TOO_SHORT = 0, -1, -4, -5, -6, -7, -9, -8
-GET, DENIED, DISCRETIONARY = 0, 16, 0
+GET, DENIED, DISCRETIONARY = 0, 16, 1
 SECURITY, INTEGRITY = 0, 1
 # The byte that memory for a result is filled with, so that it is seen what was written.
 BEFORE = b"\xa5"
 BUFFER = 4096
 
 Size = ctypes.c_size_t
+
+
+def label_of(level, bits):
+    """A label in numbers: its categories in four words."""
+    return Label(level, tuple(bits >> 64 * word & (1 << 64) - 1 for word in range(4)))
 
 
 def loaded(library):
@@ -95,6 +100,12 @@ class Opened:
         assert status == OK, f"a decision has status {status}"
         return answer.reply
 
+    def holds(self, subject, thing, mode):
+        """Whether a subject holds an access to an object now."""
+        status = self.calls.mls_check(self.at, ctypes.c_uint16(subject), ctypes.c_uint16(thing), ctypes.c_uint8(mode))
+        assert status in (0, 1), f"a check has status {status}"
+        return status == 1
+
     def submit(self, session, request):
         """The answer to a request, which is made."""
         answer = Answer()
@@ -109,10 +120,9 @@ class Opened:
         assert status == OK or status == INVALID and is_untouched(found), f"a label is read with status {status}"
         if status == INVALID:
             return None
-        assert not any(found.categories[1:]), "categories that there are not"
-        return found.level, found.categories[0]
+        return found.level, sum(word << 64 * place for place, word in enumerate(found.categories))
 
     def label_text(self, kind, label):
         """The text of a label."""
-        given = Label(label[0], (label[1], 0, 0, 0))
+        given = label_of(*label[:2])
         return self.text(self.calls.mls_write_label, ctypes.c_int(kind), ctypes.byref(given))

@@ -11,7 +11,7 @@ DECIMAL = re.compile(rb"0|[1-9][0-9]*")
 TOKEN = re.compile(rb"[\x21-\x7e]+")
 MODES = {b"execute": 0, b"read": 1, b"append": 2, b"write": 3}
 REASONS = {word: number for number, word in enumerate(
-    b"discretionary simple star integrity authority compatibility ceiling root full".split())}
+    b"discretionary simple star integrity authority compatibility ceiling root full".split(), 1)}
 # The operands of each action: a mode, a subject, an object, a security label, an integrity label.
 OPERANDS = {
     **{b"get-" + mode: "o" for mode in MODES}, b"release": "mo", b"give": "mso", b"rescind": "mso", b"create": "oli",
@@ -26,12 +26,14 @@ class Refused(Exception):
 
 
 class Start(NamedTuple):
-    """The numbers of names, levels and categories of a start file, and what its matrix permits."""
+    """The numbers of names, levels and categories of a start file, what its matrix permits, its accesses and its profile."""
     subjects: dict
     objects: dict
     security: tuple
     integrity: tuple
     cells: set
+    accesses: set
+    profile: int
 
 
 class Ask(NamedTuple):
@@ -141,7 +143,7 @@ def numbered_label(token):
     """The level and the bits of the categories of a label that is written by number."""
     level, colon, rest = token.partition(b":")
     numbers = rest.split(b",") if colon else []
-    require(is_number(level, 16) and all(is_number(it, 64) for it in numbers), "3 BadLabel")
+    require(is_number(level, 16) and all(is_number(it, 256) for it in numbers), "3 BadLabel")
     found = [int(it) for it in numbers]
     require(all(a < b for a, b in zip(found, found[1:])), "3 BadLabel")
     return int(level), sum(1 << it for it in found)

@@ -9,7 +9,7 @@ LINE = re.compile(rb"[^\n]*\n|[^\n]+")
 REPLIES = [b"yes", b"undefined", b"created 4", b"created 65535", *(b"no " + reason for reason in REASONS)]
 NUMBERS = [b"0", b"1", b"2", b"3", b"4", b"5", b"7", b"255", b"4095", b"65535", b"65536", b"4294967295",
            b"4294967296", b"18446744073709551615", b"18446744073709551616", b"00", b"01", b"-1", b"+1", b"0x1", b"1.0"]
-LABELS = [b"0", b"1:0", b"3:0,1", b"15:63", b"16", b"1:1,0", b"1:0,0", b"1:64", b"1:", b":", b"1:0,", b"1:00",
+LABELS = [b"0", b"1:0", b"3:0,1", b"15:63", b"15:0,64,255", b"1:256", b"16", b"1:1,0", b"1:0,0", b"1:64", b"1:", b":", b"1:0,", b"1:00",
           b"2:0,1,2"]
 SESSIONS = [b"0", b"1", b"63", b"64", b"4294967295"]
 TOKENS = [*OPERANDS, *MODES, *REPLIES, *NUMBERS, *LABELS, b"maybe", b"check", b"get", b"created", b"no", b"yes yes",

@@ -6,7 +6,7 @@ import c_calls
 import journal_inputs
 import journal_rows
 import replay_rows
-from c_calls import DENIED, GET, JOURNAL, OK, REPLAY, START, Label, Opened, Request
+from c_calls import DENIED, GET, JOURNAL, OK, REPLAY, START, Opened, Request, label_of
 from formats import MODES, OPERANDS, REASONS, entries_of
 from fuzzing import Fuzzer
 from labels import LARGEST
@@ -35,7 +35,7 @@ def some(rng, names):
 def label(rng, scheme):
     levels, categories = scheme
     bits = rng.getrandbits(len(categories)) if categories and rng.random() < 0.3 else 0
-    return Label(rng.randrange(len(levels)), (bits, 0, 0, 0))
+    return label_of(rng.randrange(len(levels)), bits)
 
 
 def request(rng, start):
@@ -59,7 +59,7 @@ def value_of(operand):
     """An operand of an entry as it is in a request."""
     if isinstance(operand, bytes):
         return MODES[operand]
-    return Label(operand[0], (operand[1], 0, 0, 0)) if isinstance(operand, tuple) else operand
+    return label_of(*operand) if isinstance(operand, tuple) else operand
 
 
 def request_of(entry):

@@ -53,7 +53,8 @@ def accepted(words, files, output):
     if words[:1] == [b"check"] and output.startswith(b"subjects "):
         start = start_of(files[last[0]])
         counts = len(start.subjects), len(start.objects), len(start.cells)
-        same(output, b"subjects %d\nobjects %d\ncells %d\nsecure yes\n" % counts)
+        accesses = b"accesses %d\n" % len(start.accesses) if start.accesses else b""
+        same(output, b"subjects %d\nobjects %d\ncells %d\n%bsecure yes\n" % (*counts, accesses))
         return "counted"
     if words[:1] == [b"replay"] and output.startswith(b"entries "):
         same(output, b"entries %d\nsecure yes\n" % files[last[0]].count(b"\n"))

@@ -7,7 +7,7 @@ OTHER_MEMBERS = ["extra", "name", "levels", "Name", ""]
 LABEL_ENDS = [":", ",c0", ":c0", ":c0,c0", "x"]
 LABELS = ["maximum", "current", "integrity", "security"]
 # How often a member of a list is repeated: some times, and as often as a limit of a scheme has it.
-TIMES = (1, 1, 2, 15, 16, 17, 63, 64, 65)
+TIMES = (1, 1, 2, 15, 16, 17, 63, 64, 65, 255, 256, 257)
 LIMITS = {"subjects": 256, "objects": 4096}
 
 

@@ -8,17 +8,29 @@ from formats import MODES, NAME, Refused, Start, has_label, label_of, require
 DEPTH = 127
 STRING = re.compile(rb'"(?:[^"\\]|\\.)*"', re.S)
 # The members of each object of the file, and the type of each, where it is always the same.
-FILE = {"security": dict, "integrity": dict, "subjects": list, "objects": list, "matrix": list}
+FILE = {"security": dict, "integrity": dict, "subjects": list, "objects": list, "matrix": list,
+        "accesses": list, "profile": int}
 SCHEME = {"levels": list, "categories": list}
 SUBJECT = {"name": str, "maximum": str, "current": str, "integrity": str, "trusted": bool}
 OBJECT = {"name": str, "parent": object, "security": str, "integrity": str}
 CELL = {"subject": str, "object": str, "modes": list}
+# The members of the file that may be left out, and what they then are.
+LEFT_OUT = {"profile": 1, "accesses": []}
+# What each mode does: it observes, it alters, it uses.
+OBSERVES, ALTERS, USES = {1, 3}, {2, 3}, {0, 1, 3}
 
 
 def finite(text):
-    """A number; those that a double can't hold are refused, as docs/FORMATS.md leaves it to JSON's reader."""
+    """A number with a point or an exponent; those that a double can't hold are refused, as docs/FORMATS.md leaves it to
+    JSON's reader."""
     require(math.isfinite(float(text)), "1 Json")
-    return 0
+    return 0.5
+
+
+def whole(text):
+    """A whole number."""
+    finite(text)
+    return int(text) if len(text) < 20 else 0
 
 
 def constant(_):
@@ -37,7 +49,7 @@ def depth_of(text):
 def json_of(text):
     """The value of bytes that are JSON."""
     try:
-        value = json.loads(text.decode(), parse_int=finite, parse_float=finite, parse_constant=constant)
+        value = json.loads(text.decode(), parse_int=whole, parse_float=finite, parse_constant=constant)
         for string in STRING.findall(text) if b"\\u" in text else ():
             json.loads(string).encode()
     except (ValueError, RecursionError):
@@ -53,16 +65,21 @@ def require_members(value, members):
 
 def require_types(data):
     """Sees that the file has the members that it must have, each of its type."""
+    require(type(data) is dict, "2 Members")
+    for name, value in LEFT_OUT.items():
+        data.setdefault(name, value)
     require_members(data, FILE)
+    require(data["profile"] in (1, 2), "2 Members")
     for scheme in (data["security"], data["integrity"]):
         require_members(scheme, SCHEME)
         require(all(type(name) is str for name in [*scheme["levels"], *scheme["categories"]]), "2 Members")
-    for kind, members in (("subjects", SUBJECT), ("objects", OBJECT), ("matrix", CELL)):
+    for kind, members in (("subjects", SUBJECT), ("objects", OBJECT), ("matrix", CELL), ("accesses", CELL)):
         for it in data[kind]:
             require_members(it, members)
     parents = [type(it["parent"]) for it in data["objects"]]
     require(parents and parents[0] is type(None) and all(kind is str for kind in parents[1:]), "2 Members")
-    require(all(type(mode) is str for cell in data["matrix"] for mode in cell["modes"]), "2 Members")
+    cells = data["matrix"] + data["accesses"]
+    require(all(type(mode) is str for cell in cells for mode in cell["modes"]), "2 Members")
 
 
 def numbered(names):
@@ -74,7 +91,7 @@ def scheme_of(scheme):
     levels, categories = scheme["levels"], scheme["categories"]
     require(levels, "3 Scheme 1 NoLevels")
     require(len(levels) <= 16, "3 Scheme 2 TooManyLevels")
-    require(len(categories) <= 64, "3 Scheme 3 TooManyCategories")
+    require(len(categories) <= 256, "3 Scheme 3 TooManyCategories")
     require(all(NAME.fullmatch(name.encode()) for name in levels + categories), "3 Scheme 4 BadName")
     found = numbered(levels), numbered(categories)
     require([*map(len, found)] == [len(levels), len(categories)], "3 Scheme 5 RepeatedName")
@@ -108,12 +125,33 @@ def start_of(text):
     of_subjects = labels_of(data["subjects"], ["maximum", "current", "integrity"], security, integrity)
     of_objects = labels_of(data["objects"], ["security", "integrity"], security, integrity)
     parents = [objects.get(it["parent"].encode()) for it in data["objects"][1:]]
-    pairs = [(subjects.get(cell["subject"].encode()), objects.get(cell["object"].encode())) for cell in data["matrix"]]
-    modes = [[MODES.get(mode.encode()) for mode in cell["modes"]] for cell in data["matrix"]]
-    require(not any(None in row for row in (parents, *pairs, *modes)), "6 Unknown")
+    require(None not in parents, "6 Unknown")
+    cells, accesses = [triples_of(data[name], subjects, objects) for name in ("matrix", "accesses")]
     require_start(of_subjects, of_objects, parents)
-    cells = {(*pair, mode) for pair, given in zip(pairs, modes) for mode in given}
-    return Start(subjects, objects, security, integrity, cells)
+    require(accesses <= cells, "7 Start 10 NotSecure")
+    trusted = [it["trusted"] for it in data["subjects"]]
+    for subject, thing, mode in accesses:
+        require_secure(of_subjects[subject], trusted[subject], of_objects[thing], mode)
+    return Start(subjects, objects, security, integrity, cells, accesses, data["profile"])
+
+
+def triples_of(rows, subjects, objects):
+    """The triples of cells, by the numbers of their names."""
+    found = [(subjects.get(it["subject"].encode()), objects.get(it["object"].encode()),
+              [MODES.get(mode.encode()) for mode in it["modes"]]) for it in rows]
+    require(not any(None in (subject, thing, *modes) for subject, thing, modes in found), "6 Unknown")
+    return {(subject, thing, mode) for subject, thing, modes in found for mode in modes}
+
+
+def require_secure(subject, is_trusted, thing, mode):
+    """Sees that labels permit an access: simple security, star and integrity."""
+    (maximum, current, own), (label, level) = subject, thing
+    is_fit = [mode not in OBSERVES or dominates(maximum, label),
+              is_trusted or mode not in OBSERVES or dominates(current, label),
+              is_trusted or mode not in ALTERS or dominates(label, current),
+              mode not in USES or dominates(level, own),
+              mode not in ALTERS or dominates(own, level)]
+    require(all(is_fit), "7 Start 10 NotSecure")
 
 
 def require_start(subjects, objects, parents):

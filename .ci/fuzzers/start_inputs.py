@@ -2,6 +2,9 @@
 import json
 import re
 
+from formats import Refused
+from start_format import start_of
+
 MODES = ["execute", "read", "append", "write"]
 MEMBER = re.compile(rb'"\w+": *(?:"[^"]*"|true|false|null|\[[^\]{]*\])')
 STRING = re.compile(rb'"[^"\\]+"')
@@ -10,7 +13,7 @@ SPACES = (b" ", b"\n", b"\t", b"\r\n", b"  ")
 
 
 def scheme(rng):
-    levels, categories = rng.choice((2, 1, 2, 4, 16)), rng.choice((0, 1, 2, 3, 64))
+    levels, categories = rng.choice((2, 1, 2, 4, 16)), rng.choice((0, 1, 2, 3, 64, 256))
     return {"levels": [f"l{n}" for n in range(levels)], "categories": [f"c{n}" for n in range(categories)]}
 
 
@@ -67,6 +70,20 @@ def cell(rng, data):
     }
 
 
+def held(rng, data):
+    """Some of what the matrix permits, where it may be accessed."""
+    found = []
+    for it in data["matrix"]:
+        for mode in it["modes"]:
+            access = {**it, "modes": [mode]}
+            try:
+                start_of(json.dumps({**data, "accesses": [access]}).encode())
+            except Refused:
+                continue
+            found.append(access)
+    return rng.sample(found, rng.randrange(len(found) + 1))
+
+
 def valid(rng):
     """A start file, as JSON."""
     data = {"security": scheme(rng), "integrity": scheme(rng)}
@@ -74,6 +91,10 @@ def valid(rng):
     data["subjects"] = [subject(rng, number, *kinds) for number in range(rng.choice((1, 2, 3, 5)))]
     data["objects"] = objects(rng, rng.choice((1, 2, 4, 8)), *kinds)
     data["matrix"] = [cell(rng, data) for _ in range(rng.choice((0, 1, 3, 6)))]
+    if rng.random() < 0.5:
+        data["accesses"] = held(rng, data)
+    if rng.random() < 0.5:
+        data["profile"] = rng.choice((1, 2))
     return data
 
 

@@ -14,7 +14,7 @@ from start_rows import SMALL
 OF_SCHEMES = ["1 NoLevels", "2 TooManyLevels", "3 TooManyCategories", "4 BadName", "5 RepeatedName"]
 # (4 BadLabel and 9 NoSuchCell are faults of starts that no file has)
 OF_STARTS = ["1 NoSubjects", "2 TooManySubjects", "3 TooManyObjects", "5 BadParent", "6 CurrentAboveMaximum",
-             "7 NotCompatible", "8 IntegrityAboveParent"]
+             "7 NotCompatible", "8 IntegrityAboveParent", "10 NotSecure"]
 FAULTS = {"1 Json", "2 Members", *(f"3 Scheme {it}" for it in OF_SCHEMES), "4 Name", "5 Label", "6 Unknown",
           *(f"7 Start {it}" for it in OF_STARTS)}
 TOKENS = [b"{", b"}", b"[", b"]", b",", b":", b"null", b"true", b"false", b"0", b"-1", b"1.5e3", b"1e300", b"1e400",
@@ -90,10 +90,12 @@ class Starts(Fuzzer):
                 assert found == names.get(name), f"{name} is {found}, and not {names.get(name)}"
 
     def compare_matrix(self, opened, wanted, chosen):
-        """What isn't permitted is denied for that, before any other reason."""
+        """What isn't permitted is denied for that, before any other reason; what is accessed is held."""
         pairs = [(int(one * len(wanted.subjects)), int(other * len(wanted.objects))) for one, other in chosen]
         for subject, obj in pairs:
             for mode in MODES.values():
                 reply = opened.decided(action=c_calls.GET, subject=subject, object=obj, mode=mode)
                 is_permitted = reply != c_calls.DENIED + c_calls.DISCRETIONARY
                 assert is_permitted == ((subject, obj, mode) in wanted.cells), f"{subject} {obj} {mode}: reply {reply}"
+                is_held = opened.holds(subject, obj, mode)
+                assert is_held == ((subject, obj, mode) in wanted.accesses), f"{subject} {obj} {mode}: held {is_held}"

@@ -1,4 +1,5 @@
-//! The program `mls`: it runs the command that its words name; without words it answers the script on standard input over the standard start.
+//! The program `mls`: it runs the command that its words name; without words it answers the script on standard input
+//! over the standard start.
 #![tactic(auto)]
 
 ghost use Rattle.std.specs.Prelude.{◌<◌, ◌≤◌, length, vec_len, All};
@@ -26,7 +27,8 @@ fn has_words(env: &impl Env) -> bool {
     !matches!(env.arg(1, &mut [0u8; 1]), Err(FillError::NotPresent))
 }
 
-/// Runs scripts over the bytes of a start file: each in a thread of its own, or one after the other where that was asked for.
+/// Runs scripts over the bytes of a start file: each in a thread of its own, or one after the other where that was
+/// asked for.
 fn run_texts<R: Threads + Wait + Sync>(
     threads: &R,
     progress: &mut Progress<'_>,

@@ -12,24 +12,29 @@ use Rattle.mls_facts.specs.Numbered.{holds_of}
 use Rattle.mls_facts.proofs.Each.{each-contains}
 use Rattle.mls_facts.proofs.Numbered.{get-numbered}
 use Rattle.mls_labels.specs.Label.{Label, dominates}
-use Rattle.mls_tables.specs.Triples.{Triple, triple_cmp}
+use Rattle.mls_tables.specs.Triples.{Triple, TripleSet, triple_cmp}
 use Rattle.mls_tables.specs.declared.limits.TheConstants.{MAX_SUBJECTS, MAX_OBJECTS}
 use Rattle.mls_tables.proofs.Laws.{triples_total, same_triple}
-use Rattle.mls_tree.specs.Tree.{IsTree, Reaches}
+use Rattle.mls_tree.specs.Tree.{IsTree, Reaches, IsNextOf}
+use Rattle.mls_tree.specs.declared.profile.Profile.{Profile}
+use Rattle.mls_tree.specs.declared.profile.Profile.TheVariants.{One, Two}
+use Rattle.mls_facts.proofs.Least.{least_failing-is}
 use Rattle.mls_tree.specs.Tree.Reaches.{here, up}
 use Rattle.mls_state.specs.declared.subject.Subject.{Subject}
 use Rattle.mls_state.specs.declared.subject.ObjectLabels.{ObjectLabels}
 use Rattle.mls_builder.specs.declared.object_row.ObjectRow.{ObjectRow}
 use Rattle.mls_builder.specs.declared.start_fault.StartFault.{StartFault}
-use Rattle.mls_builder.specs.declared.start_fault.StartFault.TheVariants.{NoSubjects, TooManySubjects, TooManyObjects, BadLabel, BadParent, CurrentAboveMaximum, NotCompatible, IntegrityAboveParent, NoSuchCell}
+use Rattle.mls_builder.specs.declared.start_fault.StartFault.TheVariants.{NoSubjects, TooManySubjects, TooManyObjects, BadLabel, BadParent, CurrentAboveMaximum, NotCompatible, IntegrityAboveParent, NoSuchCell, NotSecure}
 use Rattle.mls_state.specs.State.{State, is_subject, is_active, is_above}
-use Rattle.mls_state.specs.Properties.{Each, IsSecure, compatible_holds, is_known}
+use Rattle.mls_state.specs.Properties.{Each, IsSecure, compatible_holds, is_known, simple_holds, star_holds, discretionary_holds, integrity_holds}
+use Rattle.mls_state.specs.Audit.{access_holds}
 use Rattle.mls_builder.specs.Rows.{Rows, object_count, labels_of, parents_of, opening}
-use Rattle.mls_builder.specs.StartFaults.{start_fault, labels_fit, parents_before, current_fits, security_fits, integrity_fits, is_cell}
+use Rattle.mls_builder.specs.StartFaults.{start_fault, labels_fit, parents_before, current_fits, security_fits, integrity_fits, is_cell, has_known_accesses}
 use Rattle.mls_state.specs.First.{first_state}
 use Rattle.mls_builder.specs.Growing.{with_rows}
-use Rattle.mls_state.proofs.Laws.{at-from_Each, Each-empty}
+use Rattle.mls_state.proofs.Laws.{at-from_Each}
 use Rattle.mls_builder.proofs.Opening.{active_opening, subject_opening, opened}
+use Rattle.mls_builder.proofs.Secured.{item_at}
 
 -- what is so of rows with which nothing is wrong
 pub record Faultless (rows : Rows) : Type 0 where
@@ -42,6 +47,8 @@ pub record Faultless (rows : Rows) : Type 0 where
   pub security : list_all (security_fits (labels_of rows)) rows.objects ≡ true
   pub integrity : list_all (integrity_fits (labels_of rows)) rows.objects ≡ true
   pub cells : each rows.cells (is_cell (length rows.subjects) (object_count rows)) ≡ true
+  pub accesses : has_known_accesses rows ≡ true
+  pub secure : each rows.accesses (access_holds (opening rows)) ≡ true
 
 -- a test that leads to a fault fails where there is none
 passed : (b : Bool) (fault : StartFault) (rest : Option StartFault) → (if b then Some fault else rest) ≡ None → (b ≡ false) × (rest ≡ None)
@@ -63,6 +70,8 @@ faultless rows none =
     let security = passed (not (list_all (security_fits (labels_of rows)) rows.objects)) NotCompatible _ currents.1 in
     let integrity = passed (not (list_all (integrity_fits (labels_of rows)) rows.objects)) IntegrityAboveParent _ security.1 in
     let cells = passed (not (each rows.cells (is_cell (length rows.subjects) (object_count rows)))) NoSuchCell _ integrity.1 in
+    let accesses = passed (not (has_known_accesses rows)) NoSuchCell _ cells.1 in
+    let secure = passed (not (each rows.accesses (access_holds (opening rows)))) NotSecure None accesses.1 in
     record {
       some = grind (arith, nat_tests, some.0);
       few = grind (arith, nat_tests, few.0);
@@ -73,6 +82,8 @@ faultless rows none =
       security = held (list_all (security_fits (labels_of rows)) rows.objects) security.0;
       integrity = held (list_all (integrity_fits (labels_of rows)) rows.objects) integrity.0;
       cells = held (each rows.cells (is_cell (length rows.subjects) (object_count rows))) cells.0;
+      accesses = held (has_known_accesses rows) accesses.0;
+      secure = held (each rows.accesses (access_holds (opening rows))) secure.0;
     }
 
 -- what all items pass, one passes
@@ -80,12 +91,6 @@ all_at : {X : Type 0} (p : X → Bool) (xs : List X) → list_all p xs ≡ true 
 all_at p [] all k x at = cc
 all_at p (y ∷ xs) all zero x at = let same : y ≡ x = cc in ap p (sym same) ∙ (and_parts (p y) (list_all p xs) all).0
 all_at p (y ∷ xs) all (suc k) x at = all_at p xs ((and_parts (p y) (list_all p xs) all).1) k x at
-
--- the item at a place of a list
-item_at : {X : Type 0} (xs : List X) (k : ℕ) → k < length xs → (x : X) × (slice_get xs k ≡ Some x)
-item_at [] k within = absurd (omega arith)
-item_at (x ∷ xs) zero within = (x, refl)
-item_at (x ∷ xs) (suc k) within = item_at xs k (omega arith)
 
 -- the object whose parent stands at a place
 row_of : (objects : List ObjectRow) (k p : ℕ) → option_and_then (λ e. e) (slice_get (map (λ (o : ObjectRow). Some o.parent) objects) k) ≡ Some p
@@ -156,7 +161,7 @@ module _ (rows : Rows) (h : Faultless rows) where
       let row = parent_row k parent is in
       subst (P (suc k)) row.2 (each_row k row.0 row.1)
 
-  tree : IsTree (opening rows).parent (is_active (opening rows)) (object_count rows)
+  tree : IsTree (opening rows).parent (is_active (opening rows))
   tree = record {
     root_active = active 0 (omega arith);
     root_has_no_parent = no_parent;
@@ -165,9 +170,15 @@ module _ (rows : Rows) (h : Faultless rows) where
         let within : k < length rows.objects = slice_get_within rows.objects k o at in
         let less : o.parent < 1 + k = before 1 rows.objects h.parents k o at in
         (active (suc k) (omega arith), active o.parent (omega arith)));
-    below_next = below_count;
-    few = h.room;
+    below = λ o is. let less : o < object_count rows = below_count o is in let most : object_count rows ≤ MAX_OBJECTS = h.room in omega arith;
   }
+
+  -- the next number is that of the profile
+  next_right : (p : Profile) → IsNextOf p (is_active (opening rows)) (object_count rows)
+  next_right One = below_count
+  next_right Two = sym (least_failing-is (is_active (opening rows)) MAX_OBJECTS 0 (object_count rows) (omega arith) h.room
+      (λ q low below. active q below)
+      (λ high. let past : nat_lt (object_count rows) (object_count rows) ≡ false = grind (arith, nat_tests) in active_opening rows (object_count rows) ∙ past))
 
   compatible : (child parent : ℕ) → map.get (opening rows).parent child ≡ Some parent → IsTrue (compatible_holds (opening rows) child parent)
   unfolding opening
@@ -190,26 +201,63 @@ module _ (rows : Rows) (h : Faultless rows) where
       ∙ ap (λ e. is_above (option_and_then (λ (x : Subject). Some x.maximum) e) (option_and_then (λ (x : Subject). Some x.current) e)) row.1
       ∙ all_at current_fits rows.subjects h.currents s row.0 row.1
 
-  known : Each rows.cells (is_known (opening rows))
-  known t there =
+  known_of : (b : TripleSet) → each b (is_cell (length rows.subjects) (object_count rows)) ≡ true → Each b (is_known (opening rows))
+  known_of b all t there =
       (λ i. subject_opening rows t.0 i && active_opening rows t.1 i)
-      ∙ each-contains triples_total same_triple rows.cells (is_cell (length rows.subjects) (object_count rows)) t h.cells there
+      ∙ each-contains triples_total same_triple b (is_cell (length rows.subjects) (object_count rows)) t all there
 
-  -- each cell is known in the state with all objects
-  pub cells_known : (cells : List Triple) (v : State) → v ≡ with_rows (first_state rows.subjects rows.root rows.security rows.integrity) rows.objects
-      → set.from_list {R = triple_cmp} cells ≡ rows.cells → (k : ℕ) (d : Triple) → k < length cells → is_known v (get_or cells k d) ≡ true
-  cells_known cells v is all k d within =
-      ap (λ (w : State). is_known w (get_or cells k d)) (opened rows cells v is all) ∙ at-from_Each cells rows.cells (is_known (opening rows)) all known k d within
+  -- each cell and each access is known in the state with all objects
+  module _ (cells accesses : List Triple) (v : State)
+      (is : v ≡ with_rows (first_state rows.subjects rows.root rows.security rows.integrity rows.profile) rows.objects)
+      (all : set.from_list {R = triple_cmp} cells ≡ rows.cells) (accessed : set.from_list {R = triple_cmp} accesses ≡ rows.accesses) where
+    pub cells_known : (k : ℕ) (d : Triple) → k < length cells → is_known v (get_or cells k d) ≡ true
+    cells_known k d within =
+        ap (λ (w : State). is_known w (get_or cells k d)) (opened rows cells accesses v is all accessed)
+        ∙ at-from_Each cells rows.cells (is_known (opening rows)) all (known_of rows.cells h.cells) k d within
+
+    pub accesses_known : (k : ℕ) (d : Triple) → k < length accesses → is_known v (get_or accesses k d) ≡ true
+    accesses_known k d within =
+        ap (λ (w : State). is_known w (get_or accesses k d)) (opened rows cells accesses v is all accessed)
+        ∙ at-from_Each accesses rows.accesses (is_known (opening rows)) accessed (known_of rows.accesses h.accesses) k d within
+
+  -- what is so of each access of the rows
+  holds : (t : Triple) → set.contains rows.accesses t ≡ true → access_holds (opening rows) t ≡ true
+  holds t there = each-contains triples_total same_triple rows.accesses (access_holds (opening rows)) t h.secure there
+
+  discretionary : Each rows.accesses (discretionary_holds (opening rows))
+  discretionary t there =
+      (and_parts (discretionary_holds (opening rows) t) (simple_holds (opening rows) t && (star_holds (opening rows) t && integrity_holds (opening rows) t)) (holds t there)).0
+
+  others : (t : Triple) → set.contains rows.accesses t ≡ true → (simple_holds (opening rows) t && (star_holds (opening rows) t && integrity_holds (opening rows) t)) ≡ true
+  others t there =
+      (and_parts (discretionary_holds (opening rows) t) (simple_holds (opening rows) t && (star_holds (opening rows) t && integrity_holds (opening rows) t)) (holds t there)).1
+
+  simple : Each rows.accesses (simple_holds (opening rows))
+  simple t there = (and_parts (simple_holds (opening rows) t) (star_holds (opening rows) t && integrity_holds (opening rows) t) (others t there)).0
+
+  last : (t : Triple) → set.contains rows.accesses t ≡ true → (star_holds (opening rows) t && integrity_holds (opening rows) t) ≡ true
+  last t there = (and_parts (simple_holds (opening rows) t) (star_holds (opening rows) t && integrity_holds (opening rows) t) (others t there)).1
+
+  star : Each rows.accesses (star_holds (opening rows))
+  star t there = (and_parts (star_holds (opening rows) t) (integrity_holds (opening rows) t) (last t there)).0
+
+  strict : Each rows.accesses (integrity_holds (opening rows))
+  strict t there = (and_parts (star_holds (opening rows) t) (integrity_holds (opening rows) t) (last t there)).1
 
   -- the opening of rows with which nothing is wrong is secure
   pub secure_opening : IsSecure (opening rows)
   unfolding opening
   secure_opening = record {
-    simple = Each-empty _;
-    star = Each-empty _;
-    discretionary = Each-empty _;
+    simple = simple;
+    star = star;
+    discretionary = discretionary;
     compatible = compatible;
-    tree = record { objects = tree; accesses_known = Each-empty _; matrix_known = known };
-    integrity = Each-empty _;
+    tree = record {
+      objects = tree;
+      next = record { few = h.room; right = next_right rows.profile };
+      accesses_known = known_of rows.accesses h.accesses;
+      matrix_known = known_of rows.cells h.cells;
+    };
+    integrity = strict;
     ceiling = ceiling;
   }

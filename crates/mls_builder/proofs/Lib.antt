@@ -2,3 +2,4 @@ mod Cells
 mod Faultless
 pub mod Laws
 mod Opening
+mod Secured

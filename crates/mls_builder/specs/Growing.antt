@@ -1,6 +1,8 @@
--- States with objects more.
+-- States with objects and triples more.
 use Rattle.std.specs.Prelude.{◌+◌, List, [], ◌∷◌}
 use Rattle.std.specs.FinMap as map
+use Rattle.mls_tables.specs.Triples.{Triple}
+use Rattle.mls_state.specs.First.{with_triples}
 use Rattle.mls_state.specs.State.{State}
 use Rattle.mls_builder.specs.declared.object_row.ObjectRow.{ObjectRow}
 
@@ -17,3 +19,10 @@ with_row v o = record v {
 abbrev pub with_rows : State → List ObjectRow → State
 with_rows v [] = v
 with_rows v (o ∷ objects) = with_rows (with_row v o) objects
+
+-- A state with some cells and some accesses more. (own)
+abbrev pub with_cells_and_accesses : State → List Triple → List Triple → State
+with_cells_and_accesses v cells accesses = record v {
+  matrix = with_triples v.matrix cells;
+  accesses = with_triples v.accesses accesses;
+}

@@ -1,3 +1,4 @@
 pub mod Growing
+pub mod RowAccesses
 pub mod Rows
 pub mod StartFaults

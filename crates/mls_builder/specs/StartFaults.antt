@@ -1,5 +1,6 @@
 -- What is wrong with the rows of a start.
-use Rattle.std.specs.Prelude.{ℕ, suc, Bool, true, not, ◌&&◌, ◌==◌, nat_lt, List, [], ◌∷◌, length, slice_get, Option, Some, None, if◌then◌else◌}
+use Rattle.std.specs.Prelude.{ℕ, suc, Bool, true, not, ◌&&◌, ◌==◌, nat_lt, List, [], ◌∷◌, length, slice_get, Option}
+use Rattle.std.specs.Prelude.{Some, None, if◌then◌else◌}
 use Rattle.std.specs.List.{list_all}
 use Rattle.mls_facts.specs.Each.{each}
 use Rattle.mls_facts.specs.Numbered.{holds_of}
@@ -10,12 +11,17 @@ use Rattle.mls_state.specs.declared.subject.Subject.{Subject}
 use Rattle.mls_state.specs.declared.subject.ObjectLabels.{ObjectLabels}
 use Rattle.mls_builder.specs.declared.object_row.ObjectRow.{ObjectRow}
 use Rattle.mls_builder.specs.declared.start_fault.StartFault.{StartFault}
-use Rattle.mls_builder.specs.declared.start_fault.StartFault.TheVariants.{NoSubjects, TooManySubjects, TooManyObjects, BadLabel, BadParent, CurrentAboveMaximum, NotCompatible, IntegrityAboveParent, NoSuchCell}
-use Rattle.mls_builder.specs.Rows.{Rows, object_count, labels_of}
+use Rattle.mls_builder.specs.declared.start_fault.StartFault.TheVariants.{NoSubjects, TooManySubjects, TooManyObjects}
+use Rattle.mls_builder.specs.declared.start_fault.StartFault.TheVariants.{BadLabel, BadParent, CurrentAboveMaximum}
+use Rattle.mls_builder.specs.declared.start_fault.StartFault.TheVariants.{NotCompatible, IntegrityAboveParent}
+use Rattle.mls_builder.specs.declared.start_fault.StartFault.TheVariants.{NoSuchCell, NotSecure}
+use Rattle.mls_state.specs.Audit.{access_holds}
+use Rattle.mls_builder.specs.Rows.{Rows, object_count, labels_of, opening}
 
 -- A subject's labels are within the bounds of security and of integrity. (own)
 abbrev pub subject_within : Bounds → Bounds → Subject → Bool
-subject_within security integrity s = has_label security s.maximum && (has_label security s.current && has_label integrity s.integrity)
+subject_within security integrity s = has_label security s.maximum
+    && (has_label security s.current && has_label integrity s.integrity)
 
 -- An object's labels are within the bounds of security and of integrity. (own)
 abbrev pub labels_within : Bounds → Bounds → ObjectLabels → Bool
@@ -25,7 +31,8 @@ labels_within security integrity o = has_label security o.security && has_label 
 abbrev pub labels_fit : Rows → Bool
 labels_fit rows =
     list_all (subject_within rows.security rows.integrity) rows.subjects
-    && (labels_within rows.security rows.integrity rows.root && list_all (λ o. labels_within rows.security rows.integrity o.labels) rows.objects)
+    && (labels_within rows.security rows.integrity rows.root
+    && list_all (λ o. labels_within rows.security rows.integrity o.labels) rows.objects)
 
 -- Of objects that are numbered from n on, each has a parent of a smaller number than its own. (own)
 abbrev pub parents_before : ℕ → List ObjectRow → Bool
@@ -52,6 +59,15 @@ integrity_fits labels o = holds_of (λ parent. dominates parent.integrity o.labe
 abbrev pub is_cell : ℕ → ℕ → Triple → Bool
 is_cell subjects objects (s, o, x) = nat_lt s subjects && nat_lt o objects
 
+-- Each access of the rows names a subject and an object of them. (own)
+abbrev pub has_known_accesses : Rows → Bool
+has_known_accesses rows = each rows.accesses (is_cell (length rows.subjects) (object_count rows))
+
+-- What is wrong with the accesses of rows of which all else is right: one breaks simple security, star, discretionary
+-- security or integrity in the state that opens with the rows. (own)
+abbrev pub access_fault : Rows → Option StartFault
+access_fault rows = if not (each rows.accesses (access_holds (opening rows))) then Some NotSecure else None
+
 -- What is wrong with the rows: the first, in the order of the faults, that applies to any of them. (own)
 abbrev pub start_fault : Rows → Option StartFault
 start_fault rows =
@@ -64,4 +80,5 @@ start_fault rows =
     else if not (list_all (security_fits (labels_of rows)) rows.objects) then Some NotCompatible
     else if not (list_all (integrity_fits (labels_of rows)) rows.objects) then Some IntegrityAboveParent
     else if not (each rows.cells (is_cell (length rows.subjects) (object_count rows))) then Some NoSuchCell
-    else None
+    else if not (has_known_accesses rows) then Some NoSuchCell
+    else access_fault rows

@@ -1,6 +1,7 @@
 //! The builder of starts: what it is given, what is wrong with that, and the secure start that it makes.
 #![tactic(auto)]
 
+mod counts;
 mod object_row;
 mod start;
 mod start_builder;

@@ -29,7 +29,10 @@ pub enum StartFault {
     /// An object's parent has an integrity label that doesn't dominate the object's.
     #[error("an integrity label that the parent's doesn't dominate")]
     IntegrityAboveParent,
-    /// A permitted triple names a subject or an object that isn't there.
-    #[error("a permitted triple of no such subject or object")]
+    /// A permitted triple or a current access names a subject or an object that isn't there.
+    #[error("a triple of no such subject or object")]
     NoSuchCell,
+    /// A current access breaks simple security, star, discretionary security or integrity.
+    #[error("accesses that aren't secure")]
+    NotSecure,
 }

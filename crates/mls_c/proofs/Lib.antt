@@ -4,4 +4,3 @@ pub mod Pointers
 pub mod ReadBack
 pub mod Resumings
 pub mod Utf8
-pub mod Words

@@ -12,7 +12,7 @@ use Rattle.mls_facts.proofs.Bits.{bit_at-number_of}
 use Rattle.mls_facts.proofs.Each.{each-contains}
 use Rattle.mls_facts.proofs.Passing.{contains-passing}
 use Rattle.mls_labels.specs.Label.{Label}
-use Rattle.mls_labels.specs.CategoryBits.{bits_of, categories_of}
+use Rattle.mls_labels.proofs.Laws.{categories_back}
 use Rattle.mls_labels.specs.declared.limits.TheConstants.{MAX_LEVELS}
 use Rattle.mls_tables.specs.declared.mode.Mode.{Mode}
 use Rattle.mls_tables.specs.declared.mode.Mode.TheVariants.{Execute, Read, Append, Write}
@@ -31,20 +31,8 @@ use Rattle.mls_c.specs.Requests.{mode_at, number_of_mode, action_of, numbers_of_
 use Rattle.mls_c.specs.Answers.{number_of_reason, number_of_reply, object_of_reply, numbers_of_entry}
 use Rattle.mls_c.specs.declared.answer.EntryNumbers.{EntryNumbers}
 
--- a number within the limit is in the set of a word just where its bit is 1
-member : (within there : Bool) → (there ≡ true → within ≡ true) → (within && nat_eq (cond (within && there) 1 0) 1) ≡ there
-member true true h = refl
-member true false h = refl
-member false true h = h refl
-member false false h = refl
-
-categories_read : (s : FinSet nat_cmp) → IsTrue (each s (λ n. nat_lt n 64)) → categories_of (bits_of s) ≡ s
-categories_read s all = same_set nat_cmp_total nat_cmp-IsAntisymmetric _ _ (λ q.
-    contains-passing (has_bit (bits_of s)) 64 q
-    ∙ rw (bit_at-number_of (contains s) 64 q) (member (nat_lt q 64) (contains s q) (each-contains nat_cmp_total nat_cmp-IsAntisymmetric s (λ n. nat_lt n 64) q all)))
-
 pub label_read : (l : Label) → LabelHasRanges l → label_of (numbers_of_label l) ≡ Some l
-label_read l h = rw (lt-ltb l.level MAX_LEVELS h.0, categories_read l.categories h.1) refl
+label_read l h = rw (lt-ltb l.level MAX_LEVELS h.0, categories_back l.categories h.1) refl
 
 pub label_apart : (a b : Label) → LabelHasRanges a → LabelHasRanges b → numbers_of_label a ≡ numbers_of_label b → a ≡ b
 label_apart a b h k e = same_Some a b (sym (label_read a h) ∙ ap label_of e ∙ label_read b k)
@@ -85,14 +73,14 @@ request_apart a b h k e = same_Some a b (sym (request_read a h) ∙ ap request_o
 -- the reply that numbers say
 abbrev reason_at : ℕ → Reason
 reason_at n =
-    if n == 0 then Discretionary
-    else if n == 1 then Simple
-    else if n == 2 then Star
-    else if n == 3 then Integrity
-    else if n == 4 then Authority
-    else if n == 5 then Compatibility
-    else if n == 6 then Ceiling
-    else if n == 7 then Root
+    if n == 1 then Discretionary
+    else if n == 2 then Simple
+    else if n == 3 then Star
+    else if n == 4 then Integrity
+    else if n == 5 then Authority
+    else if n == 6 then Compatibility
+    else if n == 7 then Ceiling
+    else if n == 8 then Root
     else Full
 
 abbrev reply_at : ℕ → ℕ → Reply

@@ -1,10 +1,12 @@
 -- Replies and entries in numbers, and what calls tell.
-use Rattle.std.specs.Prelude.{◌≡◌, ◌⊎◌, ℕ, ◌+◌, ℤ, pos, length, Option, Some, None, slice_get, IsSomeAnd, MatchOption, if◌then◌else◌}
+use Rattle.std.specs.Prelude.{◌≡◌, ◌⊎◌, ℕ, ◌+◌, ℤ, pos, length, Option, Some, None, slice_get, IsSomeAnd, MatchOption}
+use Rattle.std.specs.Prelude.{if◌then◌else◌}
 use Rattle.std.specs.FinSet as set
 use Rattle.mls_tables.specs.declared.mode.Mode.{Mode}
 use Rattle.mls_requests.specs.declared.entry.Entry.{Entry}
 use Rattle.mls_requests.specs.declared.reason.Reason.{Reason}
-use Rattle.mls_requests.specs.declared.reason.Reason.TheVariants.{Discretionary, Simple, Star, Integrity, Authority, Compatibility, Ceiling, Root, Full}
+use Rattle.mls_requests.specs.declared.reason.Reason.TheVariants.{Discretionary, Simple, Star, Integrity, Authority}
+use Rattle.mls_requests.specs.declared.reason.Reason.TheVariants.{Compatibility, Ceiling, Root, Full}
 use Rattle.mls_requests.specs.declared.reply.Reply.{Reply}
 use Rattle.mls_requests.specs.declared.reply.Reply.TheVariants.{Yes, Created, No, Undefined}
 use Rattle.mls_requests.specs.declared.request.Request.{Request}
@@ -17,15 +19,15 @@ use Rattle.mls_c.specs.declared.status.TheConstants.{OK, ECLOSED, ENOMEM, EINVAL
 
 -- The number of a reason, in the order of the reasons. (own)
 abbrev pub number_of_reason : Reason → ℕ
-number_of_reason Discretionary = 0
-number_of_reason Simple = 1
-number_of_reason Star = 2
-number_of_reason Integrity = 3
-number_of_reason Authority = 4
-number_of_reason Compatibility = 5
-number_of_reason Ceiling = 6
-number_of_reason Root = 7
-number_of_reason Full = 8
+number_of_reason Discretionary = 1
+number_of_reason Simple = 2
+number_of_reason Star = 3
+number_of_reason Integrity = 4
+number_of_reason Authority = 5
+number_of_reason Compatibility = 6
+number_of_reason Ceiling = 7
+number_of_reason Root = 8
+number_of_reason Full = 9
 
 -- The number of a reply: of a denial 16 and that of its reason. (own)
 abbrev pub number_of_reply : Reply → ℕ
@@ -61,7 +63,8 @@ held_number None s o x = pos 0
 held_number (Some v) s o None = pos 0
 held_number (Some v) s o (Some x) = if set.contains (state_of v).accesses (s, o, x) then pos 1 else pos 0
 
--- What a submit returns: whether the handle is closed, or the numbers are no request, or there is an answer, or no memory. (own)
+-- What a submit returns: whether the handle is closed, or the numbers are no request, or there is an answer, or no
+-- memory. (own)
 abbrev pub SubmitStatus : Option Opened → Option Request → ℤ → Type 0
 SubmitStatus None r status = status ≡ ECLOSED
 SubmitStatus (Some v) None status = status ≡ EINVAL
@@ -76,7 +79,8 @@ decide_status (Some v) (Some r) = OK
 -- An open monitor answered one request more: it has just the next entry more, and the answer is that entry's. (own)
 abbrev pub Answers : Option Opened → ℕ → Option Request → Option Opened → Answer → Type 0
 Answers old session request new answer = IsSomeAnd old (λ v. IsSomeAnd request (λ r.
-    (new ≡ Some (with_entry v (next_entry v session r))) × (answer ≡ answer_of (length v.entries) (reply (state_of v) r))))
+    (new ≡ Some (with_entry v (next_entry v session r)))
+    × (answer ≡ answer_of (length v.entries) (reply (state_of v) r))))
 
 -- What an open monitor would answer to a request, with the number that its entry would have. (own)
 abbrev pub WouldAnswer : Option Opened → Option Request → Answer → Type 0
@@ -88,7 +92,8 @@ abbrev pub entry_count : Option Opened → ℕ
 entry_count None = 0
 entry_count (Some v) = length v.entries
 
--- What looking up an entry returns: whether the handle is closed, or the journal has none of this number, or it is there. (own)
+-- What looking up an entry returns: whether the handle is closed, or the journal has none of this number, or it is
+-- there. (own)
 abbrev pub EntryStatus : Option Opened → ℕ → ℤ → Type 0
 EntryStatus None n status = status ≡ ECLOSED
 EntryStatus (Some v) n status = MatchOption (slice_get v.entries n) (status ≡ ENOTFOUND) (λ _. status ≡ OK)

@@ -5,7 +5,8 @@ use Rattle.mls_labels.specs.declared.scheme_fault.SchemeFault.TheVariants as sch
 use Rattle.mls_builder.specs.declared.start_fault.StartFault.{StartFault}
 use Rattle.mls_builder.specs.declared.start_fault.StartFault.TheVariants as rows
 use Rattle.mls_starts.specs.declared.load_fault.LoadFault.{LoadFault}
-use Rattle.mls_starts.specs.declared.load_fault.LoadFault.TheVariants.{Json, Members, Scheme, Name, Label, Unknown, Start, Memory}
+use Rattle.mls_starts.specs.declared.load_fault.LoadFault.TheVariants.{Json, Members, Scheme, Name, Label, Unknown}
+use Rattle.mls_starts.specs.declared.load_fault.LoadFault.TheVariants.{Start, Memory}
 use Rattle.mls_starts.specs.Says.{SaysStart, RefusesStart}
 use Rattle.mls_starts.specs.Ties.{Loaded}
 use Rattle.mls_c.specs.Opened.{Opened, opened_with}
@@ -32,6 +33,7 @@ number_of_start_fault rows.CurrentAboveMaximum = 6
 number_of_start_fault rows.NotCompatible = 7
 number_of_start_fault rows.IntegrityAboveParent = 8
 number_of_start_fault rows.NoSuchCell = 9
+number_of_start_fault rows.NotSecure = 10
 
 -- The fault of a start file: its kind, and the number of its cause where it has one. (own)
 abbrev pub start_fault_numbers : LoadFault → FaultNumbers
@@ -54,8 +56,8 @@ pub record Opens (bytes : List ℕ) (new : Option Opened) : Type 0 where
   pub says : SaysStart bytes loaded
   pub holds : new ≡ Some (opened_with loaded [])
 
--- What opening returns: that the handle is open already; else a monitor was opened, or the start is refused, or there is no
--- memory. (own)
+-- What opening returns: that the handle is open already; else a monitor was opened, or the start is refused, or there
+-- is no memory. (own)
 abbrev pub OpenStatus : Option Opened → ℤ → Type 0
 OpenStatus (Some v) status = status ≡ EOPEN
 OpenStatus None status = (status ≡ OK) ⊎ (status ≡ ESTART) ⊎ (status ≡ ENOMEM)

@@ -24,9 +24,11 @@ state_of o = fold o.start o.entries
 abbrev pub opened_with : Loaded → List Entry → Opened
 opened_with loaded journal = record { names = loaded.names; start = loaded.start; entries = journal }
 
--- The entry that the next request gets: its number is how many entries there are, and its reply is that of the rules. (own)
+-- The entry that the next request gets: its number is how many entries there are, and its reply is that of the rules.
+-- (own)
 abbrev pub next_entry : Opened → ℕ → Request → Entry
-next_entry o session r = record { number = length o.entries; session = session; reply = reply (state_of o) r; request = r }
+next_entry o session r =
+    record { number = length o.entries; session = session; reply = reply (state_of o) r; request = r }
 
 -- An open monitor with one entry more. (own)
 abbrev pub with_entry : Opened → Entry → Opened

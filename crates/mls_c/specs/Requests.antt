@@ -3,7 +3,8 @@ use Rattle.std.specs.Prelude.{ℕ, ◌==◌, Option, Some, None, if◌then◌els
 use Rattle.mls_tables.specs.declared.mode.Mode.{Mode}
 use Rattle.mls_tables.specs.declared.mode.Mode.TheVariants.{Execute, Read, Append, Write}
 use Rattle.mls_requests.specs.declared.action.Action.{Action}
-use Rattle.mls_requests.specs.declared.action.Action.TheVariants.{Get, Release, Give, Rescind, Create, Delete, SubjectLevel, ObjectLevel}
+use Rattle.mls_requests.specs.declared.action.Action.TheVariants.{Get, Release, Give, Rescind, Create, Delete}
+use Rattle.mls_requests.specs.declared.action.Action.TheVariants.{SubjectLevel, ObjectLevel}
 use Rattle.mls_requests.specs.declared.request.Request.{Request}
 use Rattle.mls_starts.specs.Each.{having}
 use Rattle.mls_c.specs.Labels.{label_of, numbers_of_label, no_label}
@@ -32,7 +33,8 @@ action_of q =
     else if q.action == 1 then having (mode_at q.mode) (λ x. Some (Release x q.object))
     else if q.action == 2 then having (mode_at q.mode) (λ x. Some (Give x q.other q.object))
     else if q.action == 3 then having (mode_at q.mode) (λ x. Some (Rescind x q.other q.object))
-    else if q.action == 4 then having (label_of q.security) (λ l. having (label_of q.integrity) (λ i. Some (Create q.object l i)))
+    else if q.action == 4
+    then having (label_of q.security) (λ l. having (label_of q.integrity) (λ i. Some (Create q.object l i)))
     else if q.action == 5 then Some (Delete q.object)
     else if q.action == 6 then having (label_of q.security) (λ l. Some (SubjectLevel l))
     else if q.action == 7 then having (label_of q.security) (λ l. Some (ObjectLevel q.object l))
@@ -52,7 +54,8 @@ numbers_of_action s (Get x o) = record (blank s) { mode = number_of_mode x; obje
 numbers_of_action s (Release x o) = record (blank s) { action = 1; mode = number_of_mode x; object = o }
 numbers_of_action s (Give x t o) = record (blank s) { action = 2; mode = number_of_mode x; other = t; object = o }
 numbers_of_action s (Rescind x t o) = record (blank s) { action = 3; mode = number_of_mode x; other = t; object = o }
-numbers_of_action s (Create o l i) = record (blank s) { action = 4; object = o; security = numbers_of_label l; integrity = numbers_of_label i }
+numbers_of_action s (Create o l i) =
+    record (blank s) { action = 4; object = o; security = numbers_of_label l; integrity = numbers_of_label i }
 numbers_of_action s (Delete o) = record (blank s) { action = 5; object = o }
 numbers_of_action s (SubjectLevel l) = record (blank s) { action = 6; security = numbers_of_label l }
 numbers_of_action s (ObjectLevel o l) = record (blank s) { action = 7; object = o; security = numbers_of_label l }

@@ -1,5 +1,6 @@
 -- Names and label texts that C lends, and the texts that it is given.
-use Rattle.std.specs.Prelude.{◌≡◌, ◌⊎◌, ℕ, ℤ, ◌++◌, ◌==◌, nat_lt, List, length, drop, Option, Some, None, slice_get, option_map, IsSomeAnd, if◌then◌else◌}
+use Rattle.std.specs.Prelude.{◌≡◌, ◌⊎◌, ℕ, ℤ, ◌++◌, ◌==◌, nat_lt, List, length, drop, Option, Some, None, slice_get}
+use Rattle.std.specs.Prelude.{option_map, IsSomeAnd, if◌then◌else◌}
 use Rattle.std.specs.Result.{result_ok}
 use Rattle.std.specs.Str.{is_utf8}
 use Rattle.mls_labels.specs.Label.{Label, has_label}
@@ -65,8 +66,8 @@ label_written scheme numbers = having scheme (λ s. having (label_of numbers) (t
 abbrev pub line_of : Opened → ℕ → Option (List ℕ)
 line_of v n = option_map entry_line (slice_get v.entries n)
 
--- What copying a text into a buffer of so many bytes returns: that it is there, or that the buffer is too short; or there is no
--- memory. (own)
+-- What copying a text into a buffer of so many bytes returns: that it is there, or that the buffer is too short; or
+-- there is no memory. (own)
 abbrev pub TextStatus : List ℕ → ℕ → ℤ → Type 0
 TextStatus text room status = (status ≡ (if nat_lt room (length text) then ERANGE else OK)) ⊎ (status ≡ ENOMEM)
 
@@ -83,7 +84,8 @@ LineStatus (Some v) n room status = StatusOfText ENOTFOUND (line_of v n) room st
 -- What copying out a label's text returns. (own)
 abbrev pub LabelTextStatus : Option Opened → ℕ → LabelNumbers → ℕ → ℤ → Type 0
 LabelTextStatus None kind numbers room status = status ≡ ECLOSED
-LabelTextStatus (Some v) kind numbers room status = StatusOfText EINVAL (label_written (scheme_of v.names kind) numbers) room status
+LabelTextStatus (Some v) kind numbers room status =
+    StatusOfText EINVAL (label_written (scheme_of v.names kind) numbers) room status
 
 -- A text lies at the front of a buffer, and what stands after it is as before. (own)
 abbrev pub LiesIn : Option (List ℕ) → List ℕ → List ℕ → Type 0

@@ -1,5 +1,5 @@
 //! Replies and entries in numbers.
-ghost use Rattle.std.specs.Prelude.{◌≡◌, ◌<◌};
+ghost use Rattle.std.specs.Prelude.{◌≡◌, ◌≤◌};
 ghost use Rattle.mls_c.specs.Answers.{number_of_reason, number_of_reply, object_of_reply, answer_of, numbers_of_entry};
 
 use crate::request::RequestNumbers;
@@ -28,18 +28,18 @@ pub struct EntryNumbers {
 /// The number of a reason.
 fn number_of_reason(reason: Reason) -> u16
     ensures number { result ≡ number_of_reason reason }
-    ensures few { result < 9 }
+    ensures few { result ≤ 9 }
 {
     match reason {
-        Reason::Discretionary => 0,
-        Reason::Simple => 1,
-        Reason::Star => 2,
-        Reason::Integrity => 3,
-        Reason::Authority => 4,
-        Reason::Compatibility => 5,
-        Reason::Ceiling => 6,
-        Reason::Root => 7,
-        Reason::Full => 8,
+        Reason::Discretionary => 1,
+        Reason::Simple => 2,
+        Reason::Star => 3,
+        Reason::Integrity => 4,
+        Reason::Authority => 5,
+        Reason::Compatibility => 6,
+        Reason::Ceiling => 7,
+        Reason::Root => 8,
+        Reason::Full => 9,
     }
 }
 

@@ -12,8 +12,8 @@ use crate::status::{ECLOSED, EINVAL, ENOMEM, OK};
 use mls_tables::{ObjectId, SubjectId};
 use std::alloc::Global;
 
-/// Whether a subject holds an access to an object in a mode now: 1 or 0. It is 0 too where the handle is closed and where the
-/// mode is none. It adds no entry and doesn't allocate.
+/// Whether a subject holds an access to an object in a mode now: 1 or 0. It is 0 too where the handle is closed and
+/// where the mode is none. It adds no entry and doesn't allocate.
 #[unsafe(no_mangle)]
 pub extern "C" fn mls_check(m: &mut Mls, alloc: Global, subject: u16, object: u16, mode: u8) -> i32
     ensures held { result ≡ held_number m.old.monitor.value subject object (mode_at mode) }
@@ -38,7 +38,8 @@ fn submit_numbers(
     answer: &mut Answer,
 ) -> i32
     ensures status { SubmitStatus (Some opened.old) (request_of asked.now) result }
-    ensures answered { result ≡ OK → Answers (Some opened.old) session (request_of asked.now) (Some opened.new) answer.new }
+    ensures answered { result ≡ OK
+        → Answers (Some opened.old) session (request_of asked.now) (Some opened.new) answer.new }
     ensures same { result ≢ OK → opened.new ≡ opened.old }
     ensures silent { result ≢ OK → answer.new ≡ answer.old }
 {
@@ -64,7 +65,8 @@ pub extern "C" fn mls_submit(
     answer: &mut Answer,
 ) -> i32
     ensures status { SubmitStatus m.old.monitor.value (request_of asked.now) result }
-    ensures answered { result ≡ OK → Answers m.old.monitor.value session (request_of asked.now) m.new.monitor.value answer.new }
+    ensures answered { result ≡ OK
+        → Answers m.old.monitor.value session (request_of asked.now) m.new.monitor.value answer.new }
     ensures same { result ≢ OK → m.new.monitor.value ≡ m.old.monitor.value }
     ensures silent { result ≢ OK → answer.new ≡ answer.old }
 {
@@ -91,7 +93,8 @@ fn decide_numbers(opened: &Opened, asked: &RequestNumbers, answer: &mut Answer) 
     OK
 }
 
-/// What would be replied to a request now, with the number that its entry would have. Nothing changes, and it doesn't allocate.
+/// What would be replied to a request now, with the number that its entry would have. Nothing changes, and it doesn't
+/// allocate.
 #[unsafe(no_mangle)]
 pub extern "C" fn mls_decide(
     m: &mut Mls,

@@ -45,6 +45,7 @@ fn number_of_start_fault(fault: StartFault) -> u16
         StartFault::NotCompatible => 7,
         StartFault::IntegrityAboveParent => 8,
         StartFault::NoSuchCell => 9,
+        StartFault::NotSecure => 10,
     }
 }
 

@@ -6,8 +6,8 @@ use crate::kept::Kept;
 use crate::opened::Opened;
 use std::alloc::Global;
 
-/// A handle: closed, or open with the names of a start, the start and a journal. The caller allocates it, all zeros, and never
-/// copies it.
+/// A handle: closed, or open with the names of a start, the start and a journal. The caller allocates it, all zeros,
+/// and never copies it.
 #[repr(C)]
 #[derive(Drop)]
 pub struct Mls {

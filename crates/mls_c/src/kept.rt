@@ -8,8 +8,8 @@ use crate::opened::Opened;
 use std::alloc::Global;
 use std::marker::Model;
 
-/// An open monitor's address, which is all that C has of it. Dropping it frees nothing: whoever holds one puts it back into a
-/// handle or makes a box of it.
+/// An open monitor's address, which is all that C has of it. Dropping it frees nothing: whoever holds one puts it back
+/// into a handle or makes a box of it.
 #[repr(C)]
 #[derive(Drop)]
 pub struct Kept {

@@ -6,7 +6,8 @@ ghost use Rattle.mls_labels.specs.Scheme.{bounds_of};
 ghost use Rattle.mls_starts.specs.Each.{having};
 ghost use Rattle.mls_c.specs.Labels.{numbers_of_label, label_of};
 ghost use Rattle.mls_c.specs.Opened.{Opened};
-ghost use Rattle.mls_c.specs.Texts.{scheme_of, label_spelled, label_written, spelled_status, status_if_open, StatusOfText, LabelTextStatus, LiesIn, HasLabel, HasLength, TextStatus};
+ghost use Rattle.mls_c.specs.Texts.{scheme_of, label_spelled, label_written, spelled_status, status_if_open};
+ghost use Rattle.mls_c.specs.Texts.{StatusOfText, LabelTextStatus, LiesIn, HasLabel, HasLength, TextStatus};
 ghost use Rattle.mls_c.specs.declared.status.TheConstants.{OK, ERANGE, EINVAL};
 
 use crate::handle::Mls;
@@ -56,7 +57,8 @@ fn read_text(opened: &Opened, kind: u32, text: &[u8], label: &mut LabelNumbers) 
     }
 }
 
-/// Reads a label text in a scheme of the start: kind 0 for security labels, 1 for integrity labels. It doesn't allocate.
+/// Reads a label text in a scheme of the start: kind 0 for security labels, 1 for integrity labels. It doesn't
+/// allocate.
 #[unsafe(no_mangle)]
 pub extern "C" fn mls_read_label_bytes(
     m: &mut Mls,
@@ -65,8 +67,10 @@ pub extern "C" fn mls_read_label_bytes(
     text: &[u8],
     label: &mut LabelNumbers,
 ) -> i32
-    ensures status { result ≡ status_if_open m.old.monitor.value (λ v. spelled_status (label_spelled (scheme_of v.names kind) text.now)) }
-    ensures read { result ≡ OK → HasLabel (having m.old.monitor.value (λ v. label_spelled (scheme_of v.names kind) text.now)) label.new }
+    ensures status { result
+        ≡ status_if_open m.old.monitor.value (λ v. spelled_status (label_spelled (scheme_of v.names kind) text.now)) }
+    ensures read { result ≡ OK
+        → HasLabel (having m.old.monitor.value (λ v. label_spelled (scheme_of v.names kind) text.now)) label.new }
     ensures silent { result ≢ OK → label.new ≡ label.old }
     ensures same { m.new.monitor.value ≡ m.old.monitor.value }
 {
@@ -142,9 +146,11 @@ fn copy_label_of(
     len: &mut usize,
 ) -> i32
     ensures status { LabelTextStatus (Some opened.now) kind numbers.now (length buffer.old) result }
-    ensures copied { result ≡ OK → LiesIn (label_written (scheme_of opened.now.names kind) numbers.now) buffer.old buffer.new }
+    ensures copied { result ≡ OK
+        → LiesIn (label_written (scheme_of opened.now.names kind) numbers.now) buffer.old buffer.new }
     ensures short { result ≢ OK → buffer.new ≡ buffer.old }
-    ensures told { (result ≡ OK) ⊎ (result ≡ ERANGE) → HasLength (label_written (scheme_of opened.now.names kind) numbers.now) len.new }
+    ensures told { (result ≡ OK) ⊎ (result ≡ ERANGE)
+        → HasLength (label_written (scheme_of opened.now.names kind) numbers.now) len.new }
     ensures silent { result ≢ OK → result ≢ ERANGE → len.new ≡ len.old }
 {
     match scheme(opened.names(), kind) {
@@ -153,8 +159,8 @@ fn copy_label_of(
     }
 }
 
-/// Copies out the text of a label in a scheme of the start: kind 0 for security labels, 1 for integrity labels. The length of the
-/// text is told where the buffer is too short, too.
+/// Copies out the text of a label in a scheme of the start: kind 0 for security labels, 1 for integrity labels. The
+/// length of the text is told where the buffer is too short, too.
 #[unsafe(no_mangle)]
 pub extern "C" fn mls_write_label_bytes(
     m: &mut Mls,
@@ -165,9 +171,12 @@ pub extern "C" fn mls_write_label_bytes(
     len: &mut usize,
 ) -> i32
     ensures status { LabelTextStatus m.old.monitor.value kind numbers.now (length buffer.old) result }
-    ensures copied { result ≡ OK → LiesIn (having m.old.monitor.value (λ v. label_written (scheme_of v.names kind) numbers.now)) buffer.old buffer.new }
+    ensures copied { result ≡ OK
+        → LiesIn (having m.old.monitor.value
+        (λ v. label_written (scheme_of v.names kind) numbers.now)) buffer.old buffer.new }
     ensures short { result ≢ OK → buffer.new ≡ buffer.old }
-    ensures told { (result ≡ OK) ⊎ (result ≡ ERANGE) → HasLength (having m.old.monitor.value (λ v. label_written (scheme_of v.names kind) numbers.now)) len.new }
+    ensures told { (result ≡ OK) ⊎ (result ≡ ERANGE)
+        → HasLength (having m.old.monitor.value (λ v. label_written (scheme_of v.names kind) numbers.now)) len.new }
     ensures silent { result ≢ OK → result ≢ ERANGE → len.new ≡ len.old }
     ensures same { m.new.monitor.value ≡ m.old.monitor.value }
 {

@@ -12,18 +12,21 @@ ghost use Rattle.mls_c.specs.Answers.{number_of_reply, object_of_reply, numbers_
 /// The numbers of a label are read as that label. So no two labels have the same.
 pub fn labels_have_their_numbers()
     ensures read { (l : LabelView) → LabelHasRanges l → label_of (numbers_of_label l) ≡ Some l }
-    ensures apart { (a b : LabelView) → LabelHasRanges a → LabelHasRanges b → numbers_of_label a ≡ numbers_of_label b → a ≡ b }
+    ensures apart { (a b : LabelView) → LabelHasRanges a → LabelHasRanges b → numbers_of_label a ≡ numbers_of_label b
+        → a ≡ b }
 {}
 
 /// The numbers of a request are read as that request. So no two requests have the same.
 pub fn requests_have_their_numbers()
     ensures read { (r : RequestView) → ActionHasRanges r.action → request_of (numbers_of_request r) ≡ Some r }
-    ensures apart { (a b : RequestView) → ActionHasRanges a.action → ActionHasRanges b.action → numbers_of_request a ≡ numbers_of_request b → a ≡ b }
+    ensures apart { (a b : RequestView) → ActionHasRanges a.action → ActionHasRanges b.action
+        → numbers_of_request a ≡ numbers_of_request b → a ≡ b }
 {}
 
 /// No two replies have the same numbers: who reads an answer knows the reply.
 pub fn replies_have_their_numbers()
-    ensures apart { (a b : ReplyView) → number_of_reply a ≡ number_of_reply b → object_of_reply a ≡ object_of_reply b → a ≡ b }
+    ensures apart { (a b : ReplyView) → number_of_reply a ≡ number_of_reply b → object_of_reply a ≡ object_of_reply b
+        → a ≡ b }
 {}
 
 /// No two entries have the same numbers: who reads an entry in numbers knows the entry.

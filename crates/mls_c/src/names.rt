@@ -64,7 +64,8 @@ pub extern "C" fn mls_subject_bytes(
     name: &[u8],
     number: &mut u16,
 ) -> i32
-    ensures status { result ≡ status_if_open m.old.monitor.value (λ v. found_status (name_in v.names.subjects name.now)) }
+    ensures status { result
+        ≡ status_if_open m.old.monitor.value (λ v. found_status (name_in v.names.subjects name.now)) }
     ensures found { result ≡ OK → subject_named m.old.monitor.value name.now ≡ Some number.new }
     ensures silent { result ≢ OK → number.new ≡ number.old }
     ensures same { m.new.monitor.value ≡ m.old.monitor.value }
@@ -80,7 +81,8 @@ pub extern "C" fn mls_subject_bytes(
 /// The number of the object of a name of the start. It doesn't allocate.
 #[unsafe(no_mangle)]
 pub extern "C" fn mls_object_bytes(m: &mut Mls, alloc: Global, name: &[u8], number: &mut u16) -> i32
-    ensures status { result ≡ status_if_open m.old.monitor.value (λ v. found_status (name_in v.names.objects name.now)) }
+    ensures status { result
+        ≡ status_if_open m.old.monitor.value (λ v. found_status (name_in v.names.objects name.now)) }
     ensures found { result ≡ OK → object_named m.old.monitor.value name.now ≡ Some number.new }
     ensures silent { result ≢ OK → number.new ≡ number.old }
     ensures same { m.new.monitor.value ≡ m.old.monitor.value }

@@ -2,8 +2,8 @@
 use crate::fault::FaultNumbers;
 use std::alloc::AllocError;
 
-/// Why a start and a journal are refused. Where several apply, the first of the first three is returned, and `Memory` as soon as an
-/// allocation fails.
+/// Why a start and a journal are refused. Where several apply, the first of the first three is returned, and `Memory`
+/// as soon as an allocation fails.
 #[derive(Clone, Copy)]
 pub(crate) enum ResumeFault {
     /// The start is refused.

@@ -17,7 +17,8 @@ pub(crate) fn text_of(bytes: &[u8]) -> Option<&str>
     }
 }
 
-/// Copies a text to the front of a buffer, and tells its length. Where the buffer is too short, only its length is told.
+/// Copies a text to the front of a buffer, and tells its length. Where the buffer is too short, only its length is
+/// told.
 pub(crate) fn copy_text(text: &[u8], buffer: &mut [u8], len: &mut usize) -> i32
     ensures status { result ≡ (if nat_lt (length buffer.old) (length text.now) then ERANGE else OK) }
     ensures copied { result ≡ OK → LiesIn (Some text.now) buffer.old buffer.new }

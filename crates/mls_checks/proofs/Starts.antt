@@ -22,12 +22,12 @@ load_refuses bytes (refused.Start cause) why = why (λ is. cc)
 load_refuses bytes refused.Memory why = tt
 
 -- what is told of a start
-pub checks_over : {X E : Type 0} (start : State) (subjects objects cells : ℕ) (told : X → List ℕ) (result : Result X E)
-    → ((s : ℕ) → is_subject start s ≡ nat_lt s subjects) → objects ≡ start.next → cells ≡ set.len start.matrix
-    → IfOk result (λ x. told x ≡ check_text subjects objects cells) → IfOk result (λ x. ChecksOver start (told x))
-checks_over start subjects objects cells told (Ok x) known next many text =
-    record { subjects = subjects; known = known; text = text ∙ (λ i. check_text subjects (next i) (many i)) }
-checks_over start subjects objects cells told (Err fault) known next many text = tt
+pub checks_over : {X E : Type 0} (start : State) (subjects objects cells accesses : ℕ) (told : X → List ℕ) (result : Result X E)
+    → ((s : ℕ) → is_subject start s ≡ nat_lt s subjects) → objects ≡ start.next → cells ≡ set.len start.matrix → accesses ≡ set.len start.accesses
+    → IfOk result (λ x. told x ≡ check_text subjects objects cells accesses) → IfOk result (λ x. ChecksOver start (told x))
+checks_over start subjects objects cells accesses told (Ok x) known next many held text =
+    record { subjects = subjects; known = known; text = text ∙ (λ i. check_text subjects (next i) (many i) (held i)) }
+checks_over start subjects objects cells accesses told (Err fault) known next many held text = tt
 
 -- what is told of the start that a file says is told of the file
 pub checks : (bytes told : List ℕ) (start : State) → SaysState bytes start → ChecksOver start told → Checks bytes told

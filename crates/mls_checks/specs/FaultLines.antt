@@ -35,6 +35,7 @@ start_words start.CurrentAboveMaximum = codes "6 CurrentAboveMaximum"
 start_words start.NotCompatible = codes "7 NotCompatible"
 start_words start.IntegrityAboveParent = codes "8 IntegrityAboveParent"
 start_words start.NoSuchCell = codes "9 NoSuchCell"
+start_words start.NotSecure = codes "10 NotSecure"
 
 -- The number and the name of a start file's fault, and those of its cause where it has one. (own)
 abbrev pub load_words : LoadFault → List ℕ
@@ -56,15 +57,18 @@ entry_words entry.BadReply = codes "4 BadReply"
 
 -- The line that tells of a journal's first entry that isn't as the start and the rules have it. (own)
 abbrev pub replay_line : List ℕ → ReplayFault → List ℕ
-replay_line file (replayed.Number at) = codes "mls: " ++ file ++ codes ": replay 1 Number at " ++ decimal at ++ codes "\n"
+replay_line file (replayed.Number at) = codes "mls: " ++ file ++ codes ": replay 1 Number at " ++ decimal at
+    ++ codes "\n"
 replay_line file (replayed.Differs at expected) =
-    codes "mls: " ++ file ++ codes ": replay 2 Differs at " ++ decimal at ++ codes " expected " ++ reply_text expected ++ codes "\n"
+    codes "mls: " ++ file ++ codes ": replay 2 Differs at " ++ decimal at ++ codes " expected " ++ reply_text expected
+    ++ codes "\n"
 replay_line file replayed.Memory = codes "mls: memory\n"
 
 -- The line that tells why a command over a file was refused. (own)
 abbrev pub fault_line : List ℕ → CommandFault → List ℕ
 fault_line file (Load cause) = codes "mls: " ++ file ++ codes ": start " ++ load_words cause ++ codes "\n"
-fault_line file (Entry line cause) = codes "mls: " ++ file ++ codes ": line " ++ decimal line ++ codes ": entry " ++ entry_words cause ++ codes "\n"
+fault_line file (Entry line cause) = codes "mls: " ++ file ++ codes ": line " ++ decimal line ++ codes ": entry "
+    ++ entry_words cause ++ codes "\n"
 fault_line file (Replay fault) = replay_line file fault
 fault_line file Thread = codes "mls: thread\n"
 fault_line file Memory = codes "mls: memory\n"

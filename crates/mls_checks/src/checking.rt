@@ -1,7 +1,7 @@
 //! What `mls check` prints.
 ghost use Rattle.std.specs.Prelude.{◌≡◌, ◌++◌, string_bytes, OnOk, IfOk, IfErr, IsTrue};
 ghost use Rattle.mls_outcomes.specs.Loads.{RefusesLoad};
-ghost use Rattle.mls_checks.specs.Checked.{count_line, check_text, ChecksOver, Checks};
+ghost use Rattle.mls_checks.specs.Checked.{count_line, access_line, check_text, ChecksOver, Checks};
 
 use crate::start_file::load;
 use itoa::Buffer;
@@ -33,21 +33,34 @@ fn push_count(text: &mut String, word: &str, count: usize) -> Result<(), AllocEr
     text.push_str("\n")
 }
 
-/// The lines that `mls check` prints of a start that has so many subjects, objects and cells, and opens secure.
+/// Appends the line that tells how many accesses there are, where there are any.
+fn push_accesses(text: &mut String, count: usize) -> Result<(), AllocError>
+    ensures { OnOk result (string_bytes text.new ≡ string_bytes text.old ++ access_line count) }
+{
+    if count == 0 {
+        return Ok(());
+    }
+    push_count(text, "accesses ", count)
+}
+
+/// The lines that `mls check` prints of a start that has so many subjects, objects, cells and accesses, and opens
+/// secure.
 fn report_lines(
     alloc: Global,
     subjects: u16,
     objects: u16,
     cells: usize,
+    accesses: usize,
     secure: bool,
 ) -> Result<String, AllocError>
     requires { IsTrue secure }
-    ensures { IfOk result (λ text. string_bytes text ≡ check_text subjects objects cells) }
+    ensures { IfOk result (λ text. string_bytes text ≡ check_text subjects objects cells accesses) }
 {
     let mut text = String::new(alloc);
     push_count(&mut text, "subjects ", usize::from(subjects))?;
     push_count(&mut text, "objects ", usize::from(objects))?;
     push_count(&mut text, "cells ", cells)?;
+    push_accesses(&mut text, accesses)?;
     text.push_str(if secure {
         "secure yes\n"
     } else {
@@ -64,10 +77,12 @@ fn report(alloc: Global, start: &Start) -> Result<String, AllocError>
     let subjects = start.subject_count();
     let objects = start.object_count();
     let cells = start.cell_count();
-    report_lines(alloc, subjects, objects, cells, secure)
+    let accesses = start.access_count();
+    report_lines(alloc, subjects, objects, cells, accesses, secure)
 }
 
-/// What `mls check` prints of a start file: how many subjects, objects and cells it has, and whether it opens secure.
+/// What `mls check` prints of a start file: how many subjects, objects and cells it has, how many accesses where it has
+/// any, and whether it opens secure.
 ///
 /// # Errors
 /// `Load` where the file is refused, `Memory` where an allocation failed.

@@ -65,7 +65,8 @@ fn push_load(line: &mut String, file: &str, fault: LoadFault) -> Result<(), Allo
 
 /// Appends the line that tells of the first line of a journal that is no entry's.
 fn push_entry(line: &mut String, file: &str, at: u64, fault: EntryFault) -> Result<(), AllocError>
-    ensures { OnOk result (string_bytes line.new ≡ string_bytes line.old ++ fault_line file.now (refused.Entry at fault)) }
+    ensures { OnOk result
+        (string_bytes line.new ≡ string_bytes line.old ++ fault_line file.now (refused.Entry at fault)) }
 {
     push_file(line, file)?;
     line.push_str(": line ")?;
@@ -95,7 +96,8 @@ fn push_reply(line: &mut String, reply: Reply) -> Result<(), AllocError>
 
 /// Appends the line that tells which reply the rules give where a journal has another.
 fn push_differs(line: &mut String, file: &str, at: u64, expected: Reply) -> Result<(), AllocError>
-    ensures { OnOk result (string_bytes line.new ≡ string_bytes line.old ++ replay_line file.now (replayed.Differs at expected)) }
+    ensures { OnOk result
+        (string_bytes line.new ≡ string_bytes line.old ++ replay_line file.now (replayed.Differs at expected)) }
 {
     push_file(line, file)?;
     line.push_str(": replay 2 Differs at ")?;

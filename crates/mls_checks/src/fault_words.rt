@@ -1,6 +1,7 @@
 //! The numbers and names of the faults that a fault line tells of.
 ghost use Rattle.std.specs.Prelude.{◌≡◌};
-ghost use Rattle.mls_checks.specs.FaultLines.{scheme_words as words_of_scheme, start_words as words_of_start, entry_words as words_of_entry};
+ghost use Rattle.mls_checks.specs.FaultLines.{scheme_words as words_of_scheme, start_words as words_of_start};
+ghost use Rattle.mls_checks.specs.FaultLines.{entry_words as words_of_entry};
 
 use mls_builder::StartFault;
 use mls_journal::EntryFault;
@@ -34,6 +35,7 @@ pub(crate) fn start_words(fault: StartFault) -> &'static str
         StartFault::NotCompatible => "7 NotCompatible",
         StartFault::IntegrityAboveParent => "8 IntegrityAboveParent",
         StartFault::NoSuchCell => "9 NoSuchCell",
+        StartFault::NotSecure => "10 NotSecure",
     }
 }
 

@@ -8,6 +8,8 @@ ghost use Rattle.mls_script_feeds.specs.Threads.{LeavesInThreads};
 
 /// One script that is run in a thread prints what a serial run of it prints, and leaves the same journal.
 pub fn one_script_runs_alike()
-    ensures { (names : Names) (start : State) (script : List ℕ) (asked : Bool) (output : List ℕ) (journal : Option (List ℕ)) → LeavesInThreads names start (script ∷ []) asked output journal
-        → (output ≡ run_text names start (script ∷ [])) × (journal ≡ (if asked then Some (journal_text (run_entries names start (script ∷ []))) else None)) }
+    ensures { (names : Names) (start : State) (script : List ℕ) (asked : Bool) (output : List ℕ)
+        (journal : Option (List ℕ)) → LeavesInThreads names start (script ∷ []) asked output journal
+        → (output ≡ run_text names start (script ∷ []))
+        × (journal ≡ (if asked then Some (journal_text (run_entries names start (script ∷ []))) else None)) }
 {}

@@ -41,7 +41,8 @@ fn open(rt: &HostRuntime, start: Start<Global>) -> Option<Monitor<Global>> {
     Monitor::open(rt.alloc(), start).ok()
 }
 
-/// Answers the script over a start. What is lent is dropped by a call: at the end of its scope the proof of that is dear.
+/// Answers the script over a start. What is lent is dropped by a call: at the end of its scope the proof of that is
+/// dear.
 fn serve_start(
     rt: &HostRuntime,
     names: &Names<Global>,

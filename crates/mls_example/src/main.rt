@@ -46,7 +46,8 @@ fn talk(rt: &impl Print, names: &Names, monitor: &mut Monitor) -> io::Result<()>
     show(rt, monitor.entries())
 }
 
-/// Opens a monitor over a start, and talks to it. What is lent is dropped by a call: at the end of its scope the proof of that is dear.
+/// Opens a monitor over a start, and talks to it. What is lent is dropped by a call: at the end of its scope the proof
+/// of that is dear.
 fn open(rt: &HostRuntime, names: &Names, start: Start) -> io::Result<()> {
     let Some(mut monitor) = Monitor::open(rt.alloc(), start).ok() else {
         return Err(AllocError.into());

@@ -6,9 +6,11 @@ pub mod Entries
 pub mod Filters
 pub mod Increasing
 pub mod Keys
+pub mod Least
 pub mod Lists
 pub mod Numbered
 pub mod Passing
 pub mod Places
 pub mod Ranges
 pub mod Sets
+pub mod Words

@@ -1,7 +1,9 @@
 -- What a list has at a place after a change.
-use Rattle.std.specs.Prelude.{◌≡◌, ℕ, zero, suc, ◌<◌, cond, List, [], ◌∷◌, ◌++◌, length, map, refl}
-use Rattle.std.proofs.Common.{◌⊎◌, inl, inr, arith, sym, ap, ◌∙◌, eqb, get_or, set, get_or-set_same, get_or-set_other, length-set}
-use Rattle.std.proofs.lemmas.Bool.{cases_eq, eq-eqb, ne_eqb}
+use Rattle.std.specs.Prelude.{◌≡◌, ℕ, zero, suc, ◌+◌, ◌<◌, ◌≤◌, Bool, true, false, cond, List, [], ◌∷◌, ◌++◌, length, map, refl}
+use Rattle.std.proofs.Common.{◌⊎◌, inl, inr, arith, sym, ap, ◌∙◌, eqb, get_or, set, get_or-set_same, get_or-set_other, length-set, length-append}
+use Rattle.std.proofs.lemmas.Bool.{cases_eq, cases_Bool, eqb-true, eq-eqb, ne_eqb}
+use Rattle.std.proofs.lemmas.Bool.Decides.{nat_tests}
+use Rattle.mls_facts.specs.Places.{placed}
 use Rattle.std.proofs.lemmas.List.{same_lists, get_or-map, length-map}
 
 -- an item is written at a place of the list
@@ -42,3 +44,16 @@ map-set {A = A} {B = B} f g xs i x a y within new kept =
 
       at : (k : ℕ) (d : B) → k < length (map g (set xs i x)) → get_or (map g (set xs i x)) k d ≡ get_or (set (map f xs) i y) k d
       at k d h = let here : k < length xs = omega (arith, longer) in from k d here (cases_eq k i)
+
+-- the length with an item at a place
+pub length-placed : {X : Type 0} (xs : List X) (n : ℕ) (x : X) → n ≤ length xs → (length xs ≤ length (placed xs n x)) × (n < length (placed xs n x)) × (length (placed xs n x) ≡ cond (eqb n (length xs)) (length xs + 1) (length xs))
+length-placed {X} xs n x within = from (cases_Bool (eqb n (length xs))) where
+  from : (eqb n (length xs) ≡ true) ⊎ (eqb n (length xs) ≡ false) → (length xs ≤ length (placed xs n x)) × (n < length (placed xs n x)) × (length (placed xs n x) ≡ cond (eqb n (length xs)) (length xs + 1) (length xs))
+  from (inl end) =
+      let long : length (xs ++ x ∷ []) ≡ length xs + 1 = length-append xs (x ∷ []) in
+      let same : n ≡ length xs = eqb-true n (length xs) end in
+      rw end (omega (arith, long), omega (arith, long, same), long)
+  from (inr inside) =
+      let long : length (set xs n x) ≡ length xs = length-set xs n x in
+      let low : n < length xs = grind (arith, nat_tests, inside, within) in
+      rw inside (omega (arith, long), omega (arith, long, low), long)

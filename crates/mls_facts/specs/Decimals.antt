@@ -13,7 +13,8 @@ value_of digits = number_from_digits 10 (map (λ b. b - 48) digits)
 
 -- The number that digits write, where it is at most so great. (own)
 abbrev pub value_within : ℕ → List ℕ → Option ℕ
-value_within most token = if list_all is_digit token && nat_le (value_of token) most then Some (value_of token) else None
+value_within most token = if list_all is_digit token && nat_le (value_of token) most then Some (value_of token)
+    else None
 
 -- The number of a token: a digit, or digits of which the first isn't `0`, and at most so great. (own)
 abbrev pub decimal_within : ℕ → List ℕ → Option ℕ

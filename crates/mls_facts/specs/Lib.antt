@@ -2,6 +2,9 @@ pub mod Bits
 pub mod Decimals
 pub mod Each
 pub mod Keys
+pub mod Least
 pub mod Numbered
 pub mod Passing
+pub mod Places
 pub mod Sets
+pub mod Words

@@ -79,15 +79,15 @@ numbers_read names p (suc count) from total e once all known =
       | false ↦ λ _ rest. rest
     ] refl rest
 
-all_there : (s : FinSet nat_cmp) → ((n : ℕ) → contains s n ≡ true → n < 64) → passing (contains s) 64 ≡ s
-all_there s known = same_set nat_cmp_total nat_cmp-IsAntisymmetric _ s (λ q. contains-passing (contains s) 64 q ∙ elim (contains s q) as (λ b. contains s q ≡ b → (nat_lt q 64 && b) ≡ b) [
-  | true ↦ λ there. rw (lt-ltb q 64 (known q there)) refl
-  | false ↦ λ _. and-false (nat_lt q 64)
+all_there : (s : FinSet nat_cmp) → ((n : ℕ) → contains s n ≡ true → n < 256) → passing (contains s) 256 ≡ s
+all_there s known = same_set nat_cmp_total nat_cmp-IsAntisymmetric _ s (λ q. contains-passing (contains s) 256 q ∙ elim (contains s q) as (λ b. contains s q ≡ b → (nat_lt q 256 && b) ≡ b) [
+  | true ↦ λ there. rw (lt-ltb q 256 (known q there)) refl
+  | false ↦ λ _. and-false (nat_lt q 256)
 ] refl)
 
-from_none : (names : List (List ℕ)) (c : FinSet nat_cmp) → has_twice names ≡ false → list_all is_name names ≡ true → ((n : ℕ) → contains c n ≡ true → n < length names) → with_words names (Ok empty) (map (name_at names) (ascending c)) ≡ Ok (passing (contains c) 64)
+from_none : (names : List (List ℕ)) (c : FinSet nat_cmp) → has_twice names ≡ false → list_all is_name names ≡ true → ((n : ℕ) → contains c n ≡ true → n < length names) → with_words names (Ok empty) (map (name_at names) (ascending c)) ≡ Ok (passing (contains c) 256)
 unfolding passing
-from_none names c once all known = numbers_read names (contains c) 64 0 64 refl once all known
+from_none names c once all known = numbers_read names (contains c) 256 0 256 refl once all known
 
 -- what is written is read as the label
 pub written_read : (s : Scheme) (l : Label) → IsScheme s → has_label (bounds_of s) l ≡ true → label_at s (written s l) ≡ Ok l
@@ -96,7 +96,7 @@ written_read s l is has =
     let parts = and_parts (nat_lt l.level (length s.levels)) (each l.categories (λ n. nat_lt n (length s.categories))) has in
     let level : l.level < length s.levels = grind (arith, nat_tests, parts.0) in
     let known : (n : ℕ) → contains l.categories n ≡ true → n < length s.categories = λ n there. below n (length s.categories) (each-contains nat_cmp_total nat_cmp-IsAntisymmetric l.categories (λ k. nat_lt k (length s.categories)) n parts.1 there) in
-    let few : length s.categories ≤ 64 = facts.categories in
+    let few : length s.categories ≤ 256 = facts.categories in
     let name = name_at s.levels l.level in
     let words = map (name_at s.categories) (ascending l.categories) in
     let all : list_all is_name words ≡ true = all_named s.categories (ascending l.categories) facts.category_names (ascending-all l.categories (λ n. nat_lt n (length s.categories)) parts.1) in
@@ -106,7 +106,7 @@ written_read s l is has =
       below : (n m : ℕ) → nat_lt n m ≡ true → n < m
       below n m h = grind (arith, nat_tests, h)
 
-      less : (n m : ℕ) → n < m → m ≤ 64 → n < 64
+      less : (n m : ℕ) → n < m → m ≤ 256 → n < 256
       less n m h k = omega arith
 
 -- what is written spells the label

@@ -1,5 +1,5 @@
 -- What others may know of labels: dominance is a partial order, and the tests of equality are of values.
-use Rattle.std.specs.Prelude.{◌≡◌, ◌↔◌, IsTrue, true, ◌&&◌, nat_eq, nat_le}
+use Rattle.std.specs.Prelude.{◌≡◌, ◌↔◌, IsTrue, true, ◌&&◌, nat_eq, nat_le, nat_lt}
 use Rattle.std.specs.Ordering.{nat_cmp}
 use Rattle.std.specs.Cmp.{nat_cmp_total, nat_eq_equiv}
 use Rattle.std.specs.Cmp.Derive.{both_true}
@@ -7,9 +7,12 @@ use Rattle.std.specs.FinSet.{FinSet, is_subset, is_subset-contains, contains-is_
 use Rattle.std.proofs.Common.{arith}
 use Rattle.std.proofs.lemmas.Bool.{and_parts, eqb-true}
 use Rattle.std.proofs.lemmas.Bool.Decides.{nat_tests}
+use Rattle.mls_facts.specs.Each.{each}
 use Rattle.mls_facts.proofs.Sets.{is_subset-itself, is_same_set-true, is_same_set-itself}
+use Rattle.mls_labels.specs.CategoryBits.{categories_in, words_in}
 use Rattle.mls_labels.specs.Label.{Label, Bounds, dominates}
 use Rattle.mls_labels.specs.Same.{same_categories, same_label, same_bounds}
+use Rattle.mls_labels.proofs.CategoryWords.{words_read}
 
 -- a label dominates itself
 pub reflexive : (a : Label) → IsTrue (dominates a a)
@@ -59,3 +62,7 @@ bounds_same a b = (
       λ i. record { levels = eqb-true a.levels b.levels parts.0 i; categories = eqb-true a.categories b.categories parts.1 i },
   λ e. rw e (λ i. nat_eq_equiv.refl b.levels i && nat_eq_equiv.refl b.categories i),
 )
+
+-- the words of a set of categories stand for that set
+pub categories_back : (s : FinSet nat_cmp) → IsTrue (each s (λ n. nat_lt n 256)) → categories_in (words_in s) ≡ s
+categories_back = words_read

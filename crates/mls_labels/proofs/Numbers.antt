@@ -1,20 +1,24 @@
 -- Numbers that pass a test, in order.
-use Rattle.std.specs.Prelude.{◌≡◌, ℕ, zero, suc, ◌+◌, ◌-◌, ◌*◌, ◌^◌, ◌<◌, ◌≤◌, Bool, true, false, cond, nat_lt, [], ◌∷◌, bit_and, refl}
+use Rattle.std.specs.Prelude.{◌≡◌, ℕ, zero, suc, ◌+◌, ◌-◌, ◌*◌, ◌/◌, ◌%◌, ◌^◌, ◌<◌, ◌≤◌, Bool, true, false, cond, not, ◌&&◌, nat_eq, nat_lt, [], ◌∷◌, bit_and, refl}
 use Rattle.std.specs.Int.{bit_at, bit_not, w64, trailing_zeros}
 use Rattle.std.specs.List.{list_all}
 use Rattle.std.specs.Ordering.{nat_cmp}
 use Rattle.std.specs.Cmp.{nat_cmp_total}
 use Rattle.std.specs.FinSet.{FinSet, contains, contains-empty, empty, nat_cmp-IsAntisymmetric}
-use Rattle.std.proofs.Common.{◌%◌, inl, inr, arith, sym, ap, ◌∙◌}
-use Rattle.std.proofs.lemmas.Bool.{cases_lt, cases_eq, le-ltb, lt-ltb}
+use Rattle.std.proofs.Common.{◌⊎◌, inl, inr, arith, sym, ap, ◌∙◌}
+use Rattle.std.proofs.lemmas.Bool.{cases_lt, cases_eq}
+use Rattle.std.proofs.lemmas.Bool.Decides.{nat_tests}
 use Rattle.std.proofs.Math.Bool.{and-false}
 use Rattle.std.specs.Cmp.Derive.{both_true}
-use Rattle.std.proofs.lemmas.Nat.Bits.{bit_at-trailing_zeros, bit_at_clear_same, bit_at_clear_other}
-use Rattle.mls_labels.specs.Ascending.{numbers, ascending}
-use Rattle.mls_labels.specs.CategoryBits.{categories_of}
-use Rattle.mls_labels.proofs.CategoryWords.{contains-categories_of}
+use Rattle.std.proofs.lemmas.Nat.Bits.{bit_at-trailing_zeros, bit_at-zero}
 use Rattle.mls_facts.specs.Each.{each}
+use Rattle.mls_facts.specs.Words.{has_bit_in}
 use Rattle.mls_facts.proofs.Each.{each-contains}
+use Rattle.mls_facts.proofs.Words.{quotient, remainder, has_bit_in-clear}
+use Rattle.mls_labels.specs.Ascending.{numbers, ascending}
+use Rattle.mls_labels.specs.CategoryBits.{word_at, put, AreWide, IsFirst, categories_of}
+use Rattle.mls_labels.specs.declared.words.Words.{Words}
+use Rattle.mls_labels.proofs.CategoryWords.{contains-categories_of, contains-at, put_same, put_other, wide_at}
 
 -- over a gap where none passes
 numbers-gap : (p : ℕ → Bool) (gap count total from at : ℕ) → total ≡ gap + count → at ≡ from + gap → ((i : ℕ) → from ≤ i → i < at → p i ≡ false) → numbers p total from ≡ numbers p count at
@@ -39,32 +43,67 @@ unfolding numbers
 numbers-first p count from h = rw h refl
 
 -- the first number, and those without it
-pub numbers-without : (p q : ℕ → Bool) (t : ℕ) → t < 64 → p t ≡ true → ((i : ℕ) → i < t → p i ≡ false) → ((i : ℕ) → i ≤ t → q i ≡ false) → ((i : ℕ) → t < i → p i ≡ q i) → numbers p 64 0 ≡ t ∷ numbers q 64 0
+pub numbers-without : (p q : ℕ → Bool) (t : ℕ) → t < 256 → p t ≡ true → ((i : ℕ) → i < t → p i ≡ false) → ((i : ℕ) → i ≤ t → q i ≡ false) → ((i : ℕ) → t < i → p i ≡ q i) → numbers p 256 0 ≡ t ∷ numbers q 256 0
 numbers-without p q t within first before removed after =
-    numbers-gap p t (suc (63 - t)) 64 0 t (omega arith) (omega arith) (λ i low high. before i high)
-    ∙ numbers-first p (63 - t) t first
-    ∙ ap (λ ns. t ∷ ns) (numbers-same p q (63 - t) (suc t) (λ i low. after i (omega arith)) ∙ sym (numbers-gap q (suc t) (63 - t) 64 0 (suc t) (omega arith) (omega arith) (λ i low high. removed i (omega arith))))
+    numbers-gap p t (suc (255 - t)) 256 0 t (omega arith) (omega arith) (λ i low high. before i high)
+    ∙ numbers-first p (255 - t) t first
+    ∙ ap (λ ns. t ∷ ns) (numbers-same p q (255 - t) (suc t) (λ i low. after i (omega arith)) ∙ sym (numbers-gap q (suc t) (255 - t) 256 0 (suc t) (omega arith) (omega arith) (λ i low high. removed i (omega arith))))
 
-unset : (b q : ℕ) → bit_at b q ≡ 0 → contains (categories_of b) q ≡ false
-unset b q h = contains-categories_of b q ∙ rw h (and-false (nat_lt q 64))
+without_test : (t h u : Bool) → (u && (not t && h)) ≡ (not t && (u && h))
+without_test true h u = and-false u
+without_test false h u = refl
 
--- the lowest bit of a word is the first category
-pub ascending-lowest : (b : ℕ) → 0 < b → b < 2 ^ 64 → ascending (categories_of b) ≡ trailing_zeros w64 b ∷ ascending (categories_of (bit_and b (bit_not w64 (1 * 2 ^ trailing_zeros w64 b % 2 ^ 64))))
-ascending-lowest b some small =
-    let t = trailing_zeros w64 b in
-    let lowest = bit_at-trailing_zeros w64 b some small in
-    let c = bit_and b (bit_not w64 (1 * 2 ^ t % 2 ^ 64)) in
-    numbers-without (contains (categories_of b)) (contains (categories_of c)) t lowest.0
-    (contains-categories_of b t ∙ rw (lt-ltb t 64 lowest.0, lowest.1) refl)
-    (λ i before. unset b i (lowest.2 i before))
-    (λ i low. elim (cases_eq i t) [
-      | inl e ↦ unset c i (rw e (bit_at_clear_same w64 b t lowest.0))
-      | inr other ↦ let less : i < t = omega (arith, other) in unset c i (bit_at_clear_other w64 b t lowest.0 i (omega (arith, lowest.0)) other ∙ lowest.2 i less)
+within_all : (k z : ℕ) → k < 4 → z < 64 → k * 64 + z < 256
+within_all k z place low = omega arith
+
+-- without the bit of a category, words stand for the set without it
+contains-cleared : (w : Words) (k z : ℕ) → k < 4 → z < 64 → (q : ℕ)
+    → contains (categories_of (put w k (bit_and (word_at w k) (bit_not w64 (1 * 2 ^ z % 2 ^ 64))))) q ≡ (not (nat_eq q (k * 64 + z)) && contains (categories_of w) q)
+contains-cleared w k z place low q =
+    let word = bit_and (word_at w k) (bit_not w64 (1 * 2 ^ z % 2 ^ 64)) in
+    let new = put w k word in
+    let n = k * 64 + z in
+    let where_word : n / 64 ≡ k = quotient k z low in
+    let where_bit : n % 64 ≡ z = remainder k z low in
+    contains-categories_of new q
+    ∙ ap (λ t. nat_lt q 256 && t) (has_bit_in-clear (word_at w) (word_at new) n
+    (λ j other. put_other w word k j (λ e. other (e ∙ sym where_word)))
+    (rw (where_word, where_bit) (put_same w word k place)) q)
+    ∙ without_test (nat_eq q n) (has_bit_in (word_at w) q) (nat_lt q 256)
+    ∙ ap (λ t. not (nat_eq q n) && t) (sym (contains-categories_of w q))
+
+earlier : (q k z : ℕ) → z < 64 → q < k * 64 + z → (q / 64 < k) ⊎ (k ≤ q / 64) → (q / 64 < k) ⊎ ((q / 64 ≡ k) × (q % 64 < z))
+earlier q k z low h (inl word) = inl word
+earlier q k z low h (inr past) =
+    let word : q / 64 ≡ k = omega arith in
+    let bit : q % 64 < z = omega arith in
+    inr (word, bit)
+
+none_before : (w : Words) (k z : ℕ) → z < 64 → ((j : ℕ) → j < k → word_at w j ≡ 0) → ((i : ℕ) → i < z → bit_at (word_at w k) i ≡ 0) → (q : ℕ) → q < k * 64 + z → contains (categories_of w) q ≡ false
+none_before w k z low words bits q h = contains-categories_of w q ∙ elim (earlier q k z low h (cases_lt (q / 64) k)) [
+  | inl word ↦ rw (words (q / 64) word, bit_at-zero (q % 64)) (and-false (nat_lt q 256))
+  | inr at ↦ rw (at.0, bits (q % 64) at.1) (and-false (nat_lt q 256))
+]
+
+-- the lowest bit of the first word that isn't 0 is the first category
+pub ascending-first : (w : Words) (k : ℕ) → IsFirst w k → AreWide w
+    → ascending (categories_of w) ≡ (k * 64 + trailing_zeros w64 (word_at w k)) ∷ ascending (categories_of (put w k (bit_and (word_at w k) (bit_not w64 (1 * 2 ^ trailing_zeros w64 (word_at w k) % 2 ^ 64)))))
+ascending-first w k is wide =
+    let z = trailing_zeros w64 (word_at w k) in
+    let t = k * 64 + z in
+    let lowest = bit_at-trailing_zeros w64 (word_at w k) is.some (wide_at w wide k is.within) in
+    let low : z < 64 = lowest.0 in
+    let new = put w k (bit_and (word_at w k) (bit_not w64 (1 * 2 ^ z % 2 ^ 64))) in
+    let cleared = contains-cleared w k z is.within low in
+    let before = none_before w k z low is.before lowest.2 in
+    numbers-without (contains (categories_of w)) (contains (categories_of new)) t (within_all k z is.within low)
+    (contains-at w k z is.within low ∙ rw lowest.1 refl)
+    before
+    (λ i upto. cleared i ∙ elim (cases_eq i t) [
+      | inl same ↦ let here : nat_eq i t ≡ true = grind (arith, nat_tests, same) in rw here refl
+      | inr other ↦ let less : i < t = omega (arith, other) in rw (before i less) (and-false (not (nat_eq i t)))
     ])
-    (λ i after. contains-categories_of b i ∙ elim (cases_lt i 64) [
-      | inl within ↦ rw (bit_at_clear_other w64 b t lowest.0 i within (λ e. omega (arith, e))) refl
-      | inr past ↦ rw (le-ltb i 64 past) refl
-    ] ∙ sym (contains-categories_of c i))
+    (λ i after. let no : nat_eq i t ≡ false = grind (arith, nat_tests, after) in sym (cleared i ∙ rw no refl))
 
 numbers-none : (p : ℕ → Bool) (count from : ℕ) → ((i : ℕ) → p i ≡ false) → numbers p count from ≡ []
 unfolding numbers
@@ -73,7 +112,7 @@ numbers-none p (suc count) from none = rw (none from) (numbers-none p count (suc
 
 -- no category
 pub ascending-empty : ascending empty ≡ []
-ascending-empty = numbers-none (contains empty) 64 0 (contains-empty nat_cmp)
+ascending-empty = numbers-none (contains empty) 256 0 (contains-empty nat_cmp)
 
 numbers-all : (p : ℕ → Bool) (test : ℕ → Bool) (count from : ℕ) → ((i : ℕ) → p i ≡ true → test i ≡ true) → list_all test (numbers p count from) ≡ true
 unfolding numbers
@@ -85,4 +124,4 @@ numbers-all p test (suc count) from known = elim (p from) as (λ b. p from ≡ b
 
 -- what each member passes, each of the numbers does
 pub ascending-all : (s : FinSet nat_cmp) (test : ℕ → Bool) → each s test ≡ true → list_all test (ascending s) ≡ true
-ascending-all s test all = numbers-all (contains s) test 64 0 (λ i there. each-contains nat_cmp_total nat_cmp-IsAntisymmetric s test i all there)
+ascending-all s test all = numbers-all (contains s) test 256 0 (λ i there. each-contains nat_cmp_total nat_cmp-IsAntisymmetric s test i all there)

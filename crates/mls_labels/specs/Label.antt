@@ -26,8 +26,11 @@ has_label b l = nat_lt l.level b.levels && each l.categories (λ n. nat_lt n b.c
 -- A label is stored as the pair of its parts. (own)
 abbrev pub label_code : Coded Label
 label_code =
-    code_by (ℕ × set.FinSet nat_cmp) (coded× coded_ℕ (set.code coded_ℕ)) (λ l. (l.level, l.categories)) (λ p. record { level = p.0; categories = p.1 }) (λ _. refl)
+    code_by (ℕ × set.FinSet nat_cmp) (coded× coded_ℕ (set.code coded_ℕ)) (λ l. (l.level, l.categories))
+    (λ p. record { level = p.0; categories = p.1 }) (λ _. refl)
 
 -- Bounds are stored as the pair of their parts. (own)
 abbrev pub bounds_code : Coded Bounds
-bounds_code = code_by (ℕ × ℕ) (coded× coded_ℕ coded_ℕ) (λ b. (b.levels, b.categories)) (λ p. record { levels = p.0; categories = p.1 }) (λ _. refl)
+bounds_code =
+    code_by (ℕ × ℕ) (coded× coded_ℕ coded_ℕ) (λ b. (b.levels, b.categories))
+    (λ p. record { levels = p.0; categories = p.1 }) (λ _. refl)

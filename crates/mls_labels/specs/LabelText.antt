@@ -9,7 +9,8 @@ use Rattle.mls_labels.specs.Label.{Label}
 use Rattle.mls_labels.specs.Names.{is_name, is_name_byte}
 use Rattle.mls_labels.specs.Scheme.{Scheme}
 use Rattle.mls_labels.specs.declared.label_fault.LabelFault.{LabelFault}
-use Rattle.mls_labels.specs.declared.label_fault.LabelFault.TheVariants.{BadForm, UnknownLevel, UnknownCategory, RepeatedCategory}
+use Rattle.mls_labels.specs.declared.label_fault.LabelFault.TheVariants.{BadForm, UnknownLevel, UnknownCategory}
+use Rattle.mls_labels.specs.declared.label_fault.LabelFault.TheVariants.{RepeatedCategory}
 
 -- The text is these words with a comma between each two, by cases on the text: it ends, a comma ends the first word,
 -- or a byte of a name begins it. (own)
@@ -17,7 +18,8 @@ abbrev pub AreWords : List ℕ → List (List ℕ) → Type 0
 AreWords [] words = words ≡ [] ∷ []
 AreWords (b ∷ text) words =
     ((b ≡ 44) × (rest : List (List ℕ)) × (words ≡ [] ∷ rest) × AreWords text rest)
-    ⊎ (IsTrue (is_name_byte b) × (first : List ℕ) × (rest : List (List ℕ)) × (words ≡ (b ∷ first) ∷ rest) × AreWords text (first ∷ rest))
+    ⊎ (IsTrue (is_name_byte b) × (first : List ℕ) × (rest : List (List ℕ)) × (words ≡ (b ∷ first) ∷ rest)
+    × AreWords text (first ∷ rest))
 
 -- The text is the word of a level alone, or that word, a colon and words of categories, by cases on the text: it ends,
 -- a colon ends the level, or a byte of a name begins it. (own)
@@ -47,11 +49,13 @@ SomeNotIn names words = (word : List ℕ) × IsIn words word × (IsIn names word
 
 -- A word stands twice. (own)
 abbrev pub Repeats : List (List ℕ) → Type 0
-Repeats words = (i j : ℕ) × (word : List ℕ) × (i < j) × (slice_get words i ≡ Some word) × (slice_get words j ≡ Some word)
+Repeats words = (i j : ℕ) × (word : List ℕ) × (i < j) × (slice_get words i ≡ Some word)
+    × (slice_get words j ≡ Some word)
 
 -- The set has just the places of the words among the names. (own)
 abbrev pub HasJust : List (List ℕ) → List (List ℕ) → set.FinSet nat_cmp → Type 0
-HasJust names words s = (n : ℕ) → IsTrue (set.contains s n) ↔ ((word : List ℕ) × (slice_get names n ≡ Some word) × IsIn words word)
+HasJust names words s = (n : ℕ) → IsTrue (set.contains s n)
+    ↔ ((word : List ℕ) × (slice_get names n ≡ Some word) × IsIn words word)
 
 -- A text spells a label in a scheme: it has the form, the level's name stands in the place of the label's level, the
 -- categories are known and none stands twice, and the label has just theirs. The order of the categories is free. (own)
@@ -69,13 +73,16 @@ abbrev pub IsRefused : Scheme → List ℕ → LabelFault → Type 0
 -- the text isn't of the form
 IsRefused s text BadForm = (level : List ℕ) (categories : List (List ℕ)) → IsForm text level categories → ⊥
 -- it is, and the level isn't known
-IsRefused s text UnknownLevel = (level : List ℕ) × (categories : List (List ℕ)) × IsForm text level categories × (IsIn s.levels level → ⊥)
+IsRefused s text UnknownLevel = (level : List ℕ) × (categories : List (List ℕ)) × IsForm text level categories
+    × (IsIn s.levels level → ⊥)
 -- the level is known, and some category isn't
 IsRefused s text UnknownCategory =
-    (level : List ℕ) × (categories : List (List ℕ)) × IsForm text level categories × IsIn s.levels level × SomeNotIn s.categories categories
+    (level : List ℕ) × (categories : List (List ℕ)) × IsForm text level categories × IsIn s.levels level
+    × SomeNotIn s.categories categories
 -- all are known, and some category stands twice
 IsRefused s text RepeatedCategory =
-    (level : List ℕ) × (categories : List (List ℕ)) × IsForm text level categories × IsIn s.levels level × AllIn s.categories categories × Repeats categories
+    (level : List ℕ) × (categories : List (List ℕ)) × IsForm text level categories × IsIn s.levels level
+    × AllIn s.categories categories × Repeats categories
 
 -- The name in a place. (own)
 abbrev pub name_at : List (List ℕ) → ℕ → List ℕ

@@ -6,7 +6,8 @@ use Rattle.mls_labels.specs.declared.limits.TheConstants.{MAX_NAME}
 
 -- A byte of a name is an ASCII letter, a digit, '-' or '_'. (own)
 abbrev pub is_name_byte : ℕ → Bool
-is_name_byte b = (nat_le 97 b && nat_le b 122) || (nat_le 65 b && nat_le b 90) || (nat_le 48 b && nat_le b 57) || nat_eq b 45 || nat_eq b 95
+is_name_byte b = (nat_le 97 b && nat_le b 122) || (nat_le 65 b && nat_le b 90) || (nat_le 48 b && nat_le b 57)
+    || nat_eq b 45 || nat_eq b 95
 
 -- How many bytes a name may have. (own)
 abbrev pub is_name_len : ℕ → Bool

@@ -1,5 +1,6 @@
 -- How a label text is read, step by step. What it means is said in LabelText.
-use Rattle.std.specs.Prelude.{ℕ, suc, nat_eq, List, [], ◌∷◌, Option, None, Some, option_map, Result, Ok, Err, if◌then◌else◌}
+use Rattle.std.specs.Prelude.{ℕ, suc, nat_eq, List, [], ◌∷◌, Option, None, Some, option_map, Result, Ok, Err}
+use Rattle.std.specs.Prelude.{if◌then◌else◌}
 use Rattle.std.specs.Ordering.{nat_cmp}
 use Rattle.std.specs.FinSet as set
 use Rattle.std.specs.List.{slice_split}
@@ -8,7 +9,8 @@ use Rattle.mls_labels.specs.Label.{Label}
 use Rattle.mls_labels.specs.Names.{is_name, is_name_byte}
 use Rattle.mls_labels.specs.Scheme.{Scheme}
 use Rattle.mls_labels.specs.declared.label_fault.LabelFault.{LabelFault}
-use Rattle.mls_labels.specs.declared.label_fault.LabelFault.TheVariants.{BadForm, UnknownLevel, UnknownCategory, RepeatedCategory}
+use Rattle.mls_labels.specs.declared.label_fault.LabelFault.TheVariants.{BadForm, UnknownLevel, UnknownCategory}
+use Rattle.mls_labels.specs.declared.label_fault.LabelFault.TheVariants.{RepeatedCategory}
 
 -- The first place of a name, counted from 0. (own)
 unfoldable pub place_of : List (List ℕ) → List ℕ → Option ℕ
@@ -19,12 +21,15 @@ place_of (other ∷ others) name = if bytes_eq name other then Some 0 else optio
 abbrev pub with_one : Result (set.FinSet nat_cmp) LabelFault → Option ℕ → Result (set.FinSet nat_cmp) LabelFault
 with_one found None = Err UnknownCategory
 with_one (Err fault) (Some n) = Err fault
-with_one (Ok categories) (Some n) = if set.contains categories n then Err RepeatedCategory else Ok (set.insert categories n)
+with_one (Ok categories) (Some n) = if set.contains categories n then Err RepeatedCategory
+    else Ok (set.insert categories n)
 
 -- What has been read of the categories, with those that the words name. (own)
-unfoldable pub with_words : List (List ℕ) → Result (set.FinSet nat_cmp) LabelFault → List (List ℕ) → Result (set.FinSet nat_cmp) LabelFault
+unfoldable pub with_words : List (List ℕ) → Result (set.FinSet nat_cmp) LabelFault → List (List ℕ)
+    → Result (set.FinSet nat_cmp) LabelFault
 with_words names found [] = found
-with_words names found (word ∷ words) = if is_name word then with_words names (with_one found (place_of names word)) words else Err BadForm
+with_words names found (word ∷ words) = if is_name word
+    then with_words names (with_one found (place_of names word)) words else Err BadForm
 
 -- The words between commas. (own)
 abbrev pub words_of : List ℕ → List (List ℕ)
@@ -67,4 +72,5 @@ rest_of (b ∷ text) = if is_name_byte b then rest_of text else b ∷ text
 
 -- The label of a text, or its fault. (own)
 abbrev pub label_at : Scheme → List ℕ → Result Label LabelFault
-label_at s text = if is_name (front_of text) then label_with (place_of s.levels (front_of text)) (tail_at s.categories (rest_of text)) else Err BadForm
+label_at s text = if is_name (front_of text)
+    then label_with (place_of s.levels (front_of text)) (tail_at s.categories (rest_of text)) else Err BadForm

@@ -1,5 +1,6 @@
 -- Schemes of labels: the names of levels and categories, whose places are their numbers.
-use Rattle.std.specs.Prelude.{◌≡◌, ℕ, not, ◌||◌, nat_eq, nat_lt, List, length, map, Option, None, Some, if◌then◌else◌, refl}
+use Rattle.std.specs.Prelude.{◌≡◌, ℕ, not, ◌||◌, nat_eq, nat_lt, List, length, map, Option, None, Some, if◌then◌else◌}
+use Rattle.std.specs.Prelude.{refl}
 use Rattle.std.specs.List.{list_all}
 use Rattle.std.proofs.Common.{Bor}
 use Rattle.std.specs.Coded.{Coded, code_by, coded×, coded_ℕ, coded_list}
@@ -8,7 +9,8 @@ use Rattle.mls_labels.specs.Names.{is_name, has_twice}
 use Rattle.mls_labels.specs.declared.limits.TheConstants.{MAX_LEVELS, MAX_CATEGORIES}
 use Rattle.mls_labels.specs.declared.scheme_fault.SchemeFault.{SchemeFault}
 use Rattle.mls_labels.specs.declared.scheme_fault.SchemeFault.TheVariants as refused
-use Rattle.mls_labels.specs.declared.scheme_fault.SchemeFault.TheVariants.{NoLevels, TooManyLevels, TooManyCategories, BadName, RepeatedName}
+use Rattle.mls_labels.specs.declared.scheme_fault.SchemeFault.TheVariants.{NoLevels, TooManyLevels, TooManyCategories}
+use Rattle.mls_labels.specs.declared.scheme_fault.SchemeFault.TheVariants.{BadName, RepeatedName}
 use Rattle.mls_labels.specs.declared.name_set_fault.NameSetFault.{NameSetFault}
 use Rattle.mls_labels.specs.declared.name_set_fault.NameSetFault.TheVariants.{Repeated, Memory}
 
@@ -19,7 +21,8 @@ pub record Scheme : Type 0 where
 
 -- The scheme of these texts. (own)
 abbrev pub named : List (Bor (List ℕ)) → List (Bor (List ℕ)) → Scheme
-named levels categories = record { levels = map (λ name. name.now) levels; categories = map (λ name. name.now) categories }
+named levels categories =
+    record { levels = map (λ name. name.now) levels; categories = map (λ name. name.now) categories }
 
 -- How many levels and categories there are. (own)
 abbrev pub bounds_of : Scheme → Bounds
@@ -47,4 +50,5 @@ IsScheme s = scheme_fault s ≡ None
 -- A scheme is stored as the pair of its lists. (own)
 abbrev pub scheme_code : Coded Scheme
 scheme_code =
-    code_by (List (List ℕ) × List (List ℕ)) (coded× (coded_list (coded_list coded_ℕ)) (coded_list (coded_list coded_ℕ))) (λ s. (s.levels, s.categories)) (λ p. record { levels = p.0; categories = p.1 }) (λ _. refl)
+    code_by (List (List ℕ) × List (List ℕ)) (coded× (coded_list (coded_list coded_ℕ)) (coded_list (coded_list coded_ℕ)))
+    (λ s. (s.levels, s.categories)) (λ p. record { levels = p.0; categories = p.1 }) (λ _. refl)

@@ -10,7 +10,7 @@ use std::marker::Model;
 #[derive(Clone, Copy, Debug, PartialEq, Eq)]
 pub struct Bounds {
     levels: u8,
-    categories: u8,
+    categories: u16,
 }
 
 impl Model for Bounds {
@@ -31,7 +31,7 @@ impl Model for Bounds {
 
 impl Bounds {
     /// The bounds of a scheme with this many levels and categories.
-    pub fn new(levels: u8, categories: u8) -> Bounds
+    pub fn new(levels: u8, categories: u16) -> Bounds
         requires some { 1 ≤ levels }
         requires levels { levels ≤ MAX_LEVELS }
         requires categories { categories ≤ MAX_CATEGORIES }

@@ -1,75 +1,116 @@
 //! Sets of categories.
-ghost use Rattle.std.specs.Prelude.{◌≡◌, ◌<◌, ◌≤◌, ◌∷◌, nat_lt, IfNone, IfSome};
+ghost use Rattle.std.specs.Prelude.{◌≡◌, ◌∷◌, nat_lt, IfNone, IfSome};
 ghost use Rattle.std.specs.FinSet as set;
 ghost use Rattle.mls_facts.specs.Each.{each};
 ghost use Rattle.mls_labels.specs.Ascending.{ascending};
+ghost use Rattle.mls_labels.specs.CategoryBits.{categories_in, words_in};
 
-use crate::limits::MAX_CATEGORIES;
+use crate::words::Words;
 use std::marker::Model;
 
-/// A set of categories, each a number less than `MAX_CATEGORIES`. It is one word, whose bit `n` is set where
-/// category `n` is in the set.
+/// A set of categories, each a number from 0 to 255.
 #[derive(Clone, Copy, Debug)]
 pub struct CatSet {
-    bits: u64,
+    words: Words,
 }
 
 impl Model for CatSet {
-    ghost use Rattle.std.specs.Prelude.{◌<◌, ◌^◌};
     ghost use Rattle.std.specs.Ordering.{nat_cmp};
+    ghost use Rattle.std.specs.Prelude.{refl};
     ghost use Rattle.std.specs.FinSet as set;
     ghost use Rattle.std.specs.Coded.{coded_ℕ};
-    ghost use Rattle.mls_facts.proofs.Bits.{number_of-bits};
-    ghost use Rattle.mls_labels.specs.CategoryBits.{categories_of, bits_of};
+    ghost use Rattle.mls_facts.proofs.Words.{number_of-word, fits_first, fits_second, fits_third, fits_fourth};
+    ghost use Rattle.mls_labels.specs.CategoryBits.{AreWide, categories_of, word_at, words_of};
 
     ghost Value = { set.FinSet nat_cmp };
 
     ghost coded = { set.code coded_ℕ };
 
-    ghost view = { λ a. categories_of a.bits };
+    ghost view = { λ a. categories_of a.words };
 
-    ghost invariant = { λ a. a.bits < 2 ^ 64 };
+    ghost invariant = { λ a. AreWide a.words };
 
-    ghost inverse = { λ s. record { bits = bits_of s } };
+    ghost inverse = { λ s. record { words = words_of s } };
 
-    ghost inverse_ok = { λ a h i. record { bits = number_of-bits 64 a.bits h i } };
+    ghost inverse_ok = { λ a h i. record {
+      words = record {
+        first = number_of-word (word_at a.words) 256 0 a.words.first refl h.first fits_first i;
+        second = number_of-word (word_at a.words) 256 1 a.words.second refl h.second fits_second i;
+        third = number_of-word (word_at a.words) 256 2 a.words.third refl h.third fits_third i;
+        fourth = number_of-word (word_at a.words) 256 3 a.words.fourth refl h.fourth fits_fourth i;
+      };
+    } };
 }
 
 impl CatSet {
     /// The set without a category.
-    #[tactic(auto, using(crate::proofs::CategoryWords::empty_word))]
+    #[tactic(auto, using(crate::proofs::CategoryWords::no_words))]
     pub fn empty() -> CatSet
         ensures { result ≡ set.empty }
     {
-        CatSet { bits: 0 }
+        CatSet {
+            words: Words {
+                first: 0,
+                second: 0,
+                third: 0,
+                fourth: 0,
+            },
+        }
+    }
+
+    /// The set of four words: category `n` is in it where bit `n % 64` of word `n / 64` is 1.
+    #[tactic(auto, using(crate::proofs::CategoryWords::listed_words))]
+    pub fn from_words(words: [u64; 4]) -> CatSet
+        ensures { result ≡ categories_in words }
+    {
+        CatSet {
+            words: Words {
+                first: words[0],
+                second: words[1],
+                third: words[2],
+                fourth: words[3],
+            },
+        }
+    }
+
+    /// The four words of the set, as [`from_words`](CatSet::from_words) reads them.
+    #[tactic(auto, using(crate::proofs::CategoryWords::words_back))]
+    pub fn words(self) -> [u64; 4]
+        ensures { result ≡ words_in self }
+    {
+        let words = self.words;
+        [words.first, words.second, words.third, words.fourth]
     }
 
     /// Whether category `n` is in the set.
     #[tactic(auto, using(crate::proofs::CategoryWords::contains_word))]
     pub fn contains(self, n: u8) -> bool
-        requires { n < MAX_CATEGORIES }
         ensures { result ≡ set.contains self n }
     {
-        self.bits >> n & 1 == 1
+        self.words.word(n / 64) >> (n % 64) & 1 == 1
     }
 
     /// The set with category `n` added; the same set where it is there already.
     #[tactic(auto, using(crate::proofs::CategoryWords::with_word, crate::proofs::CategoryWords::with_fits))]
     pub fn with(self, n: u8) -> CatSet
-        requires { n < MAX_CATEGORIES }
         ensures { result ≡ set.insert self n }
     {
+        let place = n / 64;
+        let word = self.words.word(place) | 1 << (n % 64);
         CatSet {
-            bits: self.bits | 1 << n,
+            words: self.words.put(place, word),
         }
     }
 
     /// Whether each category of this set is in `other`.
-    #[tactic(auto, using(crate::proofs::CategoryWords::subset_word))]
+    #[tactic(auto, using(crate::proofs::CategoryWords::subset_words))]
     pub fn is_subset(self, other: &CatSet) -> bool
         ensures { result ≡ set.is_subset self other.now }
     {
-        self.bits & !other.bits == 0
+        let (a, b) = (self.words, other.words);
+        let low = (a.first & !b.first) | (a.second & !b.second);
+        let high = (a.third & !b.third) | (a.fourth & !b.fourth);
+        low | high == 0
     }
 
     /// Takes the least category out of the set; `None` where the set is empty.
@@ -77,24 +118,23 @@ impl CatSet {
         ensures none { IfNone result (self.old ≡ set.empty) }
         ensures empty { IfNone result (self.new ≡ set.empty) }
         ensures first { IfSome result (λ first. ascending self.old ≡ first ∷ ascending self.new) }
-        ensures limit { IfSome result (λ first. first < MAX_CATEGORIES) }
     {
-        let bits = self.bits;
-        if bits == 0 {
+        let words = self.words;
+        let Some(place) = words.first_place() else {
             return None;
-        }
-        let first = bits.trailing_zeros();
-        self.bits = bits & !(1 << first);
-        Some(first as u8)
+        };
+        let word = words.word(place);
+        let bit = word.trailing_zeros();
+        self.words = words.put(place, word & !(1 << bit));
+        Some(place * 64 + bit as u8)
     }
 
     /// Whether each category of the set is less than `n`.
-    pub(crate) fn all_below(self, n: u8) -> bool
-        requires { n ≤ MAX_CATEGORIES }
+    #[tactic(auto, using(crate::proofs::CategoryWords::words_below))]
+    pub(crate) fn all_below(self, n: u16) -> bool
         ensures { result ≡ each self (λ q. nat_lt q n) }
     {
-        let bits = self.bits;
-        n as usize == MAX_CATEGORIES || bits < 1 << n
+        self.words.are_below(n)
     }
 }
 
@@ -108,9 +148,9 @@ impl PartialEq for CatSet {
 
     ghost laws = { partial_equiv_from_equiv (is_same_set_laws nat_cmp_total nat_cmp-IsAntisymmetric) };
 
-    #[tactic(auto, using(crate::proofs::CategoryWords::same_word))]
+    #[tactic(auto, using(crate::proofs::CategoryWords::same_words))]
     fn eq(&self, other: &CatSet) -> bool {
-        self.bits == other.bits
+        self.words.are_same(other.words)
     }
 }
 

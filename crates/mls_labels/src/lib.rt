@@ -15,6 +15,7 @@ mod scheme;
 mod scheme_fault;
 mod sec_label;
 mod theorems;
+mod words;
 mod writing;
 
 pub use bounds::Bounds;

@@ -1,5 +1,6 @@
 //! Names in order, found by name and by place.
-ghost use Rattle.std.specs.Prelude.{◌≡◌, ◌<◌, [], ◌∷◌, ◌++◌, false, true, not, if◌then◌else◌, length, map, slice_get, IfErr, IfOk, IfSome, OnOk, Some};
+ghost use Rattle.std.specs.Prelude.{◌≡◌, ◌<◌, [], ◌∷◌, ◌++◌, false, true, not, if◌then◌else◌, length, map, slice_get};
+ghost use Rattle.std.specs.Prelude.{IfErr, IfOk, IfSome, OnOk, Some};
 ghost use Rattle.std.specs.List.{list_any};
 ghost use Rattle.std.specs.Str.{bytes_eq};
 ghost use Rattle.mls_labels.specs.Names.{has_twice};
@@ -11,7 +12,8 @@ use std::alloc::{AllocError, Allocator, Global};
 use std::hash::{BuildHasherDefault, FoldHasher};
 use std::marker::Model;
 
-/// Names, each once, in the order in which they came. Contracts see the list of their bytes. Any text can be a name here.
+/// Names, each once, in the order in which they came. Contracts see the list of their bytes. Any text can be a name
+/// here.
 #[derive(Drop)]
 pub struct NameSet<A: Allocator = Global> {
     names: IndexSet<String<A>, BuildHasherDefault<FoldHasher>, A>,
@@ -34,7 +36,8 @@ impl<A: Allocator + Copy> NameSet<A> {
     pub fn from_names(alloc: A, names: &[&str]) -> Result<NameSet<A>, NameSetFault>
         ensures ok { IfOk result (λ s. s ≡ map (λ name. name.now) names.now) }
         ensures once { OnOk result (has_twice (map (λ name. name.now) names.now) ≡ false) }
-        ensures repeated { IfErr result (λ fault. fault ≡ NameSetFault.Repeated → has_twice (map (λ name. name.now) names.now) ≡ true) }
+        ensures repeated { IfErr result
+            (λ fault. fault ≡ NameSetFault.Repeated → has_twice (map (λ name. name.now) names.now) ≡ true) }
     {
         let mut kept = NameSet {
             names: IndexSet::with_capacity(alloc, names.len())?,

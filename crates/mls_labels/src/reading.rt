@@ -1,9 +1,11 @@
 //! The steps of reading a label text, in one pass over it.
-ghost use Rattle.std.specs.Prelude.{◌≡◌, ◌≢◌, ◌<◌, ◌≤◌, ◌∷◌, List, ℕ, length, false, true, IfNone, IfSome, MatchOption, Ok};
+ghost use Rattle.std.specs.Prelude.{◌≡◌, ◌≢◌, ◌<◌, ◌≤◌, ◌∷◌, List, ℕ, length, false, true, IfNone, IfSome, MatchOption};
+ghost use Rattle.std.specs.Prelude.{Ok};
 ghost use Rattle.std.specs.FinSet as set;
 ghost use Rattle.mls_labels.specs.Names.{is_name};
 ghost use Rattle.mls_labels.specs.Scheme.{Scheme};
-ghost use Rattle.mls_labels.specs.Reading.{front_of, rest_of, words_of, with_one, with_words, tail_at, label_with, label_at};
+ghost use Rattle.mls_labels.specs.Reading.{front_of, rest_of, words_of, with_one, with_words, tail_at, label_with};
+ghost use Rattle.mls_labels.specs.Reading.{label_at};
 
 use crate::cat_set::CatSet;
 use crate::label::Label;
@@ -31,7 +33,8 @@ fn split_name(text: &str) -> Option<(&str, &str)>
 /// What stands after a separator at the front.
 fn after(text: &str, separator: char) -> Option<&str>
     requires { separator < 128 }
-    ensures { MatchOption result ((rest : List ℕ) → text.now ≢ separator ∷ rest) (λ rest. text.now ≡ separator ∷ rest.now) }
+    ensures { MatchOption result ((rest : List ℕ) → text.now ≢ separator ∷ rest)
+        (λ rest. text.now ≡ separator ∷ rest.now) }
 {
     text.strip_prefix(separator)
 }

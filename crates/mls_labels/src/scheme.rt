@@ -17,8 +17,8 @@ use crate::writing::push_label;
 use std::alloc::{AllocError, Allocator, Global};
 use std::marker::Model;
 
-/// The names of 1 to `MAX_LEVELS` levels and of 0 to `MAX_CATEGORIES` categories. The place of a name, counted from 0, is the
-/// number by which a label knows it; the first level is the lowest.
+/// The names of 1 to `MAX_LEVELS` levels and of 0 to `MAX_CATEGORIES` categories. The place of a name, counted from 0,
+/// is the number by which a label knows it; the first level is the lowest.
 #[derive(Drop)]
 pub struct Scheme<A: Allocator = Global> {
     levels: NameSet<A>,
@@ -67,7 +67,8 @@ impl<A: Allocator + Copy> Scheme<A> {
     pub fn new(alloc: A, levels: &[&str], categories: &[&str]) -> Result<Scheme<A>, SchemeFault>
         ensures ok { IfOk result (λ scheme. scheme ≡ named levels.now categories.now) }
         ensures fault { IfSome (scheme_fault (named levels.now categories.now)) (λ fault. result ≡ Err fault) }
-        ensures memory { IfNone (scheme_fault (named levels.now categories.now)) (IfErr result (λ fault. fault ≡ SchemeFault.Memory)) }
+        ensures memory { IfNone (scheme_fault (named levels.now categories.now))
+            (IfErr result (λ fault. fault ≡ SchemeFault.Memory)) }
     {
         if let Some(fault) = first_fault(levels, categories) {
             return Err(fault);
@@ -84,7 +85,7 @@ impl<A: Allocator> Scheme<A> {
         ensures counts { result ≡ bounds_of self.now }
         ensures sound { IsScheme self.now }
     {
-        Bounds::new(self.levels.len() as u8, self.categories.len() as u8)
+        Bounds::new(self.levels.len() as u8, self.categories.len() as u16)
     }
 
     /// Whether the label's level and each of its categories have a name.

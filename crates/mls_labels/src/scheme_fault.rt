@@ -13,7 +13,7 @@ pub enum SchemeFault {
     #[error("more than 16 levels")]
     TooManyLevels,
     /// There are more than [`MAX_CATEGORIES`](crate::MAX_CATEGORIES) categories.
-    #[error("more than 64 categories")]
+    #[error("more than 256 categories")]
     TooManyCategories,
     /// A name isn't 1 to [`MAX_NAME`](crate::MAX_NAME) of the ASCII letters, digits, `-` and `_`.
     #[error("a name that isn't 1 to 32 letters, digits, hyphens and underscores")]

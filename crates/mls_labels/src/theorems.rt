@@ -28,18 +28,22 @@ pub fn dominance_is_a_partial_order()
     ensures transitive { (a b c : Label) → IsTrue (dominates a b) → IsTrue (dominates b c) → IsTrue (dominates a c) }
 {}
 
-/// Read step by step, a text gives the label that it spells or the fault for which it is refused, and a text that spells a
-/// label or is refused gives just that.
+/// Read step by step, a text gives the label that it spells or the fault for which it is refused, and a text that
+/// spells a label or is refused gives just that.
 pub fn a_text_is_read_as_it_is_spelled()
     ensures label { (s : Scheme) (text : List ℕ) (l : Label) → IsScheme s → (label_at s text ≡ Ok l) ↔ Spells s text l }
-    ensures fault { (s : Scheme) (text : List ℕ) (f : LabelFault) → IsScheme s → (label_at s text ≡ Err f) ↔ IsRefused s text f }
+    ensures fault { (s : Scheme) (text : List ℕ) (f : LabelFault) → IsScheme s → (label_at s text ≡ Err f)
+        ↔ IsRefused s text f }
 {}
 
 /// A text spells one label at most in a scheme, is refused for one fault at most, and not both.
 pub fn a_text_has_one_meaning()
-    ensures label { (s : Scheme) (text : List ℕ) (a b : Label) → IsScheme s → Spells s text a → Spells s text b → a ≡ b }
-    ensures fault { (s : Scheme) (text : List ℕ) (f g : LabelFault) → IsScheme s → IsRefused s text f → IsRefused s text g → f ≡ g }
-    ensures either { (s : Scheme) (text : List ℕ) (a : Label) (f : LabelFault) → IsScheme s → Spells s text a → IsRefused s text f → ⊥ }
+    ensures label { (s : Scheme) (text : List ℕ) (a b : Label) → IsScheme s → Spells s text a → Spells s text b
+        → a ≡ b }
+    ensures fault { (s : Scheme) (text : List ℕ) (f g : LabelFault) → IsScheme s → IsRefused s text f
+        → IsRefused s text g → f ≡ g }
+    ensures either { (s : Scheme) (text : List ℕ) (a : Label) (f : LabelFault) → IsScheme s → Spells s text a
+        → IsRefused s text f → ⊥ }
 {}
 
 /// What is written of a label that a scheme has spells that label.

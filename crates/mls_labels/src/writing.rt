@@ -38,7 +38,9 @@ fn push_categories<A: Allocator, B: Allocator>(
     text: &mut String<B>,
 ) -> Result<(), AllocError>
     requires { IsTrue (each categories (λ n. nat_lt n (length names.now))) }
-    ensures ok { OnOk result (string_bytes text.new ≡ string_bytes text.old ++ words_after 58 (map (name_at names.now) (ascending categories))) }
+    ensures ok { OnOk result
+        (string_bytes text.new ≡ string_bytes text.old
+        ++ words_after 58 (map (name_at names.now) (ascending categories))) }
     ensures err { OnErr result (Extends (string_bytes text.old) (string_bytes text.new)) }
 {
     let mut separator = ':';
@@ -62,7 +64,9 @@ pub(crate) fn push_label<A: Allocator, B: Allocator>(
 ) -> Result<(), AllocError>
     requires level { label.level < length levels.now }
     requires categories { IsTrue (each label.categories (λ n. nat_lt n (length categories.now))) }
-    ensures ok { OnOk result (string_bytes text.new ≡ string_bytes text.old ++ written (record { levels = levels.now; categories = categories.now }) label) }
+    ensures ok { OnOk result
+        (string_bytes text.new ≡ string_bytes text.old
+        ++ written (record { levels = levels.now; categories = categories.now }) label) }
     ensures err { OnErr result (Extends (string_bytes text.old) (string_bytes text.new)) }
 {
     text.push_str(levels.name(label.level() as usize))?;

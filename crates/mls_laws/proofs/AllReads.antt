@@ -87,6 +87,7 @@ module _ (v w : State) (tv : HasTree v) (tw : HasTree w) (hv : HasWholeTables v)
     object_label = same_table v.object_label w.object_label (is_active v) (λ o. refl) object reads.object_label i;
     object_integrity = same_table v.object_integrity w.object_integrity (is_active v) hv.object_integrity (λ o. hw.object_integrity o ∙ object o) reads.object_integrity i;
     parent = parent i;
+    profile = reads.profile i;
     next = reads.next i;
     security = reads.security i;
     integrity = reads.integrity i;

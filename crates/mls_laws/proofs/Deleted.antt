@@ -13,7 +13,7 @@ use Rattle.mls_requests.specs.declared.request.Request.{Request}
 use Rattle.mls_requests.specs.declared.reply.Reply.TheVariants.{Yes}
 use Rattle.mls_state.specs.State.{State, is_subject, is_active}
 use Rattle.mls_state.specs.Properties.{IsSecure}
-use Rattle.mls_state.specs.Changes.{stays, with_objects}
+use Rattle.mls_state.specs.Changes.{stays, without_group}
 use Rattle.mls_rules.specs.Rules.{reply, after}
 use Rattle.mls_laws.specs.Journals.{is_grant}
 use Rattle.mls_laws.proofs.Answered.{after_grant}
@@ -21,7 +21,7 @@ use Rattle.mls_laws.proofs.Answered.{after_grant}
 abbrev pub deletes : ℕ → ℕ → Request
 deletes s o = record { subject = s; action = Delete o }
 
-pub after_delete : (v : State) (s o : ℕ) → reply v (deletes s o) ≡ Yes → after v (deletes s o) ≡ with_objects v (stays v o)
+pub after_delete : (v : State) (s o : ℕ) → reply v (deletes s o) ≡ Yes → after v (deletes s o) ≡ without_group v o
 after_delete v s o grants = after_grant v (deletes s o) (ap is_grant grants)
 
 goes : (there below : Bool) → there ≡ true → (there && not below) ≡ false → below ≡ true
@@ -38,7 +38,7 @@ module _ (v : State) (s o : ℕ) (h : IsSecure v) (grants : reply v (deletes s o
   -- what is gone of something that speaks of an active object is what speaks of one that reaches the deleted one
   just_those : (q : ℕ) (there left : Bool) → is_active v q ≡ true → there ≡ true → left ≡ (there && stays v o q) → (left ≡ false) ↔ Reaches v.parent q o
   just_those q there left active is splits =
-      let known = is_inferior-Reaches v.parent (is_active v) v.next h.tree.objects q o in (
+      let known = is_inferior-Reaches v.parent (is_active v) h.tree.objects q o in (
         λ gone. (known.0 (goes there (is_inferior v.parent q o) is (sym splits ∙ gone))).1,
         λ reaches. splits ∙ taken there (is_inferior v.parent q o) (known.1 (active, reaches)),
       )

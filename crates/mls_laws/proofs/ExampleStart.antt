@@ -1,5 +1,5 @@
 -- The start of the examples: nothing is wrong with its rows, and what its tables have.
-use Rattle.std.proofs.Common.{◌≡◌, ℕ, Bool, true, false, not, ◌&&◌, Option, Some, None, nat_lt, refl, ◌∙◌}
+use Rattle.std.proofs.Common.{◌≡◌, ℕ, Bool, true, false, not, ◌&&◌, [], Option, Some, None, nat_lt, refl, ◌∙◌}
 use Rattle.std.specs.Prelude.{slice_get, option_and_then, if◌then◌else◌}
 use Rattle.std.specs.List.{list_any, list_all}
 use Rattle.std.specs.FinSet as set
@@ -12,12 +12,14 @@ use Rattle.mls_facts.proofs.Passing.{contains-passing}
 use Rattle.mls_labels.specs.Label.{has_label}
 use Rattle.mls_tables.specs.Triples.{Triple, triple_cmp, is_triple}
 use Rattle.mls_tables.proofs.Laws.{triples_total, same_triple, contains-from_list-triple}
+use Rattle.mls_tree.specs.declared.profile.Profile.TheVariants.{One}
 use Rattle.mls_state.specs.declared.subject.Subject.{Subject}
 use Rattle.mls_state.specs.declared.subject.ObjectLabels.{ObjectLabels}
 use Rattle.mls_state.specs.State.{State, is_subject, is_active}
+use Rattle.mls_state.specs.Audit.{access_holds}
 use Rattle.mls_state.specs.Properties.{IsSecure}
 use Rattle.mls_builder.specs.declared.start_fault.StartFault.{StartFault}
-use Rattle.mls_builder.specs.declared.start_fault.StartFault.TheVariants.{BadLabel, BadParent, CurrentAboveMaximum, NotCompatible, IntegrityAboveParent, NoSuchCell}
+use Rattle.mls_builder.specs.declared.start_fault.StartFault.TheVariants.{BadLabel, BadParent, CurrentAboveMaximum, NotCompatible, IntegrityAboveParent, NoSuchCell, NotSecure}
 use Rattle.mls_builder.specs.Rows.{labels_of, parents_of, opening}
 use Rattle.mls_builder.specs.StartFaults.{start_fault, labels_fit, parents_before, current_fits, security_fits, integrity_fits, is_cell}
 use Rattle.mls_builder.proofs.Laws.{subject_opening, active_opening, faultless, secure_opening}
@@ -51,6 +53,9 @@ integrities = λ i. plain_dominates 1 1 i && (plain_dominates 1 1 i && (plain_do
 cells : each example_rows.cells (is_cell 3 4) ≡ true
 cells = each-from_list triples_total same_triple (is_cell 3 4) example_cells
 
+no_access : (p : Triple → Bool) → each {R = triple_cmp} example_rows.accesses p ≡ true
+no_access p = each-from_list triples_total same_triple p []
+
 -- a fault whose test holds doesn't apply
 unless : (b : Bool) (fault : StartFault) (rest : Option StartFault) → b ≡ true → rest ≡ None → (if not b then Some fault else rest) ≡ None
 unless b fault rest holds none = rw holds none
@@ -62,7 +67,9 @@ nothing_wrong =
     (unless (list_all current_fits example_subjects) CurrentAboveMaximum _ currents
     (unless (list_all (security_fits (labels_of example_rows)) example_objects) NotCompatible _ compatible
     (unless (list_all (integrity_fits (labels_of example_rows)) example_objects) IntegrityAboveParent _ integrities
-    (unless (each example_rows.cells (is_cell 3 4)) NoSuchCell _ cells refl)))))
+    (unless (each example_rows.cells (is_cell 3 4)) NoSuchCell _ cells
+    (unless (each example_rows.accesses (is_cell 3 4)) NoSuchCell _ (no_access (is_cell 3 4))
+    (unless (each example_rows.accesses (access_holds (opening example_rows))) NotSecure _ (no_access (access_holds (opening example_rows))) refl)))))))
 
 abbrev pub start : State
 start = opening example_rows
@@ -109,6 +116,10 @@ accessed_at t = set.contains-empty triple_cmp t
 pub next_at : start.next ≡ 4
 unfolding opening
 next_at = refl
+
+pub profile_is : start.profile ≡ One
+unfolding opening
+profile_is = refl
 
 pub security_is : start.security ≡ record { levels = 4; categories = 0 }
 unfolding opening

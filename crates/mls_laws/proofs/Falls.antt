@@ -1,8 +1,7 @@
 -- How labels change along a journal.
-use Rattle.std.proofs.Common.{◌≡◌, ℕ, zero, suc, ◌<◌, Bool, true, false, not, ◌&&◌, ◌||◌, ◌⊎◌, inl, inr, List, [], ◌∷◌, nat_eq, Option, Some, None, is_some, refl, sym, ap, subst, ◌∙◌, arith}
-use Rattle.std.specs.Prelude.{slice_get, ◌==◌}
+use Rattle.std.proofs.Common.{◌≡◌, ℕ, zero, suc, Bool, true, false, not, ◌&&◌, ◌||◌, ◌⊎◌, inl, inr, List, [], ◌∷◌, Option, Some, None, is_some, refl, sym, ap, subst, ◌∙◌}
+use Rattle.std.specs.Prelude.{◌==◌}
 use Rattle.std.proofs.lemmas.Bool.{and_parts}
-use Rattle.std.proofs.lemmas.Bool.Decides.{nat_tests}
 use Rattle.std.specs.FinMap as map
 use Rattle.std.specs.FinSet as set
 use Rattle.mls_facts.proofs.Entries.{by_number, at_new, elsewhere, has-kept, at_kept}
@@ -15,11 +14,14 @@ use Rattle.mls_requests.specs.declared.reply.Reply.TheVariants.{Yes}
 use Rattle.mls_requests.specs.declared.entry.Entry.{Entry}
 use Rattle.mls_state.specs.State.{State, is_active, is_above}
 use Rattle.mls_state.specs.Changes.{stays}
+use Rattle.mls_state.specs.Properties.{IsSecure, HasTree}
+use Rattle.mls_rules.proofs.Laws.{after_secure}
 use Rattle.mls_rules.specs.Rules.{conditions, AllHold, granted, reply, change, after, writes_parent}
 use Rattle.mls_monitor.specs.Journal.{fold}
-use Rattle.mls_laws.specs.Journals.{is_grant}
+use Rattle.mls_laws.specs.Journals.{is_grant, StaysActive}
 use Rattle.mls_laws.proofs.Answered.{granted_from, by_reply, IsRun}
-use Rattle.mls_laws.proofs.Kept.{Fixed, after_fixed, after_kept, fold_kept}
+use Rattle.mls_laws.specs.Labels.{LabelAfter, CurrentAfter, IsByUntrusted}
+use Rattle.mls_laws.proofs.Kept.{Fixed, after_fixed, not_new}
 use Rattle.mls_laws.proofs.FlowLabels.{above_trans}
 
 -- an action changes the label of an object that stays only where it relabels that object
@@ -28,18 +30,17 @@ Relabelled v s a o =
     (map.get (change v s a).object_label o ≡ map.get v.object_label o)
     ⊎ ((l : Label) × (a ≡ ObjectLevel o l) × (granted v a ≡ Yes) × (map.get (change v s a).object_label o ≡ Some l))
 
-change_label : (v : State) (s : ℕ) (a : Action) (o : ℕ) → o < v.next → is_active (change v s a) o ≡ true → Relabelled v s a o
-change_label v s (Get x q) o below there = inl refl
-change_label v s (Release x q) o below there = inl refl
-change_label v s (Give x t q) o below there = inl refl
-change_label v s (Rescind x t q) o below there = inl refl
-change_label v s (Create p l i) o below there =
-    let other : nat_eq o v.next ≡ false = grind (arith, nat_tests) in
-    inl (elsewhere v.object_label v.next l o other)
-change_label v s (Delete q) o below there =
+change_label : (v : State) (s : ℕ) (a : Action) (o : ℕ) → HasTree v → AllHold (conditions v s a) → is_active v o ≡ true → is_active (change v s a) o ≡ true → Relabelled v s a o
+change_label v s (Get x q) o h holds active there = inl refl
+change_label v s (Release x q) o h holds active there = inl refl
+change_label v s (Give x t q) o h holds active there = inl refl
+change_label v s (Rescind x t q) o h holds active there = inl refl
+change_label v s (Create p l i) o h (authority, (compatible, (integrity, (room, u)))) active there =
+    inl (elsewhere v.object_label v.next l o (not_new v o h active room))
+change_label v s (Delete q) o h holds active there =
     inl (at_kept v.object_label (stays v q) o ((and_parts (is_active v o) (stays v q o) (sym (has-kept v.object_label (stays v q) o) ∙ there)).1))
-change_label v s (SubjectLevel l) o below there = inl refl
-change_label v s (ObjectLevel q l) o below there =
+change_label v s (SubjectLevel l) o h holds active there = inl refl
+change_label v s (ObjectLevel q l) o h holds active there =
     by_number q o (λ k. Relabelled v s (ObjectLevel q l) k)
     (inr (l, refl, refl, at_new v.object_label q l))
     (λ other. inl (elsewhere v.object_label q l o other))
@@ -69,9 +70,9 @@ StepTo v r o w =
     is_active w o ≡ true → (map.get w.object_label o ≡ map.get v.object_label o)
     ⊎ ((l : Label) × (r.action ≡ ObjectLevel o l) × (reply v r ≡ Yes) × (map.get w.object_label o ≡ Some l))
 
-step_label : (v : State) (r : Request) (o : ℕ) → o < v.next → StepTo v r o (after v r)
-step_label v r o below =
-    by_reply (StepTo v r o) v r (λ there. inl refl) (λ is there. from is (change_label v r.subject r.action o below there)) where
+step_label : (v : State) (r : Request) (o : ℕ) → HasTree v → is_active v o ≡ true → StepTo v r o (after v r)
+step_label v r o h active =
+    by_reply (StepTo v r o) v r (λ there. inl refl) (λ is there. from is (change_label v r.subject r.action o h ((granted_from v r is).1) active there)) where
       from : is_grant (reply v r) ≡ true → Relabelled v r.subject r.action o
           → (map.get (change v r.subject r.action).object_label o ≡ map.get v.object_label o)
           ⊎ ((l : Label) × (r.action ≡ ObjectLevel o l) × (reply v r ≡ Yes) × (map.get (change v r.subject r.action).object_label o ≡ Some l))
@@ -90,25 +91,10 @@ step_current v r t = by_reply (MoveTo v r t) v r (inl refl) (λ is. from is (cha
   from is (inr (l, own, action, grant, at)) = inr (l, own, action, (granted_from v r is).2 ∙ grant, at)
 
 -- what a journal does to the label of an object: nothing, or the label is that of a relabel that was granted
-abbrev pub LabelAfter : State → List Entry → ℕ → Type 0
-LabelAfter v entries o =
-    (map.get (fold v entries).object_label o ≡ map.get v.object_label o)
-    ⊎ ((n : ℕ) × (e : Entry) × (l : Label) × (slice_get entries n ≡ Some e) × (e.request.action ≡ ObjectLevel o l) × (e.reply ≡ Yes)
-    × (map.get (fold v entries).object_label o ≡ Some l))
-
--- an object that is there at the end, of a number that was given out, was there all along
-there_before : (v : State) (entries : List Entry) (o : ℕ) → o < v.next → is_active (fold v entries) o ≡ true → is_active v o ≡ true
-there_before v entries o below there = (fold_kept v entries o below).was there
-
-below_still : (v : State) (r : Request) (o : ℕ) → o < v.next → o < (after v r).next
-below_still v r o below = (after_kept v o v r (record { given = below; was = λ there. there; label = λ there. refl })).given
-
-pub label_after : (v : State) (entries : List Entry) (o : ℕ) → IsRun v entries → o < v.next → is_active (fold v entries) o ≡ true → LabelAfter v entries o
-label_after v [] o run below there = inl refl
-label_after v (e ∷ entries) o run below there =
-    let still : o < (after v e.request).next = below_still v e.request o below in
-    let between : is_active (after v e.request) o ≡ true = there_before (after v e.request) entries o still there in
-    from (label_after (after v e.request) entries o run.1 still there) (step_label v e.request o below between) where
+pub label_after : (v : State) (entries : List Entry) (o : ℕ) → IsRun v entries → IsSecure v → StaysActive v entries o → LabelAfter v entries o
+label_after v [] o run h stays = inl refl
+label_after v (e ∷ entries) o run h stays =
+    from (label_after (after v e.request) entries o run.1 (after_secure v e.request h) (λ n. stays (suc n))) (step_label v e.request o h.tree (stays zero) (stays (suc zero))) where
       from : LabelAfter (after v e.request) entries o
           → (map.get (after v e.request).object_label o ≡ map.get v.object_label o)
           ⊎ ((l : Label) × (e.request.action ≡ ObjectLevel o l) × (reply v e.request ≡ Yes) × (map.get (after v e.request).object_label o ≡ Some l))
@@ -118,12 +104,6 @@ label_after v (e ∷ entries) o run below there =
       from (inl same) (inr (l, action, grant, is)) = inr (zero, e, l, refl, action, run.0 ∙ grant, same ∙ is)
 
 -- what a journal does to a subject's current label
-abbrev pub CurrentAfter : State → List Entry → ℕ → Type 0
-CurrentAfter v entries s =
-    (map.get (fold v entries).current s ≡ map.get v.current s)
-    ⊎ ((n : ℕ) × (e : Entry) × (l : Label) × (slice_get entries n ≡ Some e) × (e.request.subject ≡ s) × (e.request.action ≡ SubjectLevel l) × (e.reply ≡ Yes)
-    × (map.get (fold v entries).current s ≡ Some l))
-
 pub current_after : (v : State) (entries : List Entry) (s : ℕ) → IsRun v entries → CurrentAfter v entries s
 current_after v [] s run = inl refl
 current_after v (e ∷ entries) s run = from (current_after (after v e.request) entries s run.1) (step_current v e.request s) where
@@ -150,9 +130,9 @@ relabel_up v s a o l action holds untrusted =
     (is_above (Some l) (map.get v.object_label o)) untrusted all.0
 
 -- a request of a subject that isn't trusted lets no object's label fall
-step_up : (v : State) (r : Request) (o : ℕ) → set.contains v.trusted r.subject ≡ false → o < v.next → is_active v o ≡ true
+step_up : (v : State) (r : Request) (o : ℕ) → set.contains v.trusted r.subject ≡ false → HasTree v → is_active v o ≡ true
     → is_active (after v r) o ≡ true → is_above (map.get (after v r).object_label o) (map.get v.object_label o) ≡ true
-step_up v r o untrusted below active there = from (step_label v r o below there) where
+step_up v r o untrusted h active there = from (step_label v r o h active there) where
   from : (map.get (after v r).object_label o ≡ map.get v.object_label o)
       ⊎ ((l : Label) × (r.action ≡ ObjectLevel o l) × (reply v r ≡ Yes) × (map.get (after v r).object_label o ≡ Some l))
       → is_above (map.get (after v r).object_label o) (map.get v.object_label o) ≡ true
@@ -161,14 +141,11 @@ step_up v r o untrusted below active there = from (step_label v r o below there)
       ap (λ e. is_above e (map.get v.object_label o)) is
       ∙ relabel_up v r.subject r.action o l action ((granted_from v r (ap is_grant grant)).1) untrusted
 
-pub never_falls : (v : State) (entries : List Entry) (o : ℕ) → ((n : ℕ) (e : Entry) → slice_get entries n ≡ Some e → set.contains v.trusted e.request.subject ≡ false)
-    → o < v.next → is_active (fold v entries) o ≡ true → is_above (map.get (fold v entries).object_label o) (map.get v.object_label o) ≡ true
-never_falls v [] o untrusted below there = above_itself (map.get v.object_label o) there
-never_falls v (e ∷ entries) o untrusted below there =
-    let still : o < (after v e.request).next = below_still v e.request o below in
-    let between : is_active (after v e.request) o ≡ true = there_before (after v e.request) entries o still there in
-    let before : is_active v o ≡ true = there_before v (e ∷ entries) o below there in
+pub never_falls : (v : State) (entries : List Entry) (o : ℕ) → IsSecure v → IsByUntrusted v entries → StaysActive v entries o
+    → is_above (map.get (fold v entries).object_label o) (map.get v.object_label o) ≡ true
+never_falls v [] o h untrusted stays = above_itself (map.get v.object_label o) (stays zero)
+never_falls v (e ∷ entries) o h untrusted stays =
     let trusted : (after v e.request).trusted ≡ v.trusted = ap (λ (f : Fixed). f.2) (after_fixed v e.request) in
     above_trans (map.get (fold v (e ∷ entries)).object_label o) (map.get (after v e.request).object_label o) (map.get v.object_label o)
-    (never_falls (after v e.request) entries o (λ n f at. ap (λ t. set.contains t f.request.subject) trusted ∙ untrusted (suc n) f at) still there)
-    (step_up v e.request o (untrusted zero e refl) below before between)
+    (never_falls (after v e.request) entries o (after_secure v e.request h) (λ n f at. ap (λ t. set.contains t f.request.subject) trusted ∙ untrusted (suc n) f at) (λ n. stays (suc n)))
+    (step_up v e.request o (untrusted zero e refl) h.tree (stays zero) (stays (suc zero)))

@@ -1,5 +1,6 @@
 mod AllReads
 mod Answered
+mod Created
 mod Deleted
 mod ExampleStart
 mod Falls

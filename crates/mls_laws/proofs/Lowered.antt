@@ -16,7 +16,7 @@ use Rattle.mls_tables.specs.Triples.{Triple}
 use Rattle.mls_tables.specs.declared.mode.Mode.{Mode}
 use Rattle.mls_tables.specs.declared.mode.Mode.TheVariants.{Execute, Read, Append, Write}
 use Rattle.mls_tables.proofs.Laws.{contains-insert-triple, is_triple-itself}
-use Rattle.mls_tree.specs.Tree.{IsTree}
+use Rattle.mls_tree.specs.Tree.{IsTree, HasNext}
 use Rattle.mls_requests.specs.declared.action.Action.{Action}
 use Rattle.mls_requests.specs.declared.action.Action.TheVariants.{Get, Release, Give, Rescind, Create, Delete, SubjectLevel, ObjectLevel}
 use Rattle.mls_requests.specs.declared.request.Request.{Request}
@@ -82,7 +82,8 @@ module _ (v : State) (t : Triple) where
 
   tree_still : HasTree v → is_known v t ≡ true → HasTree (lower v t)
   tree_still h known = record {
-    objects = subst (λ a. IsTree v.parent a v.next) (sym (λ i o. has-lowered v.object_label o i)) h.objects;
+    objects = subst (IsTree v.parent) (sym (λ i o. has-lowered v.object_label o i)) h.objects;
+    next = subst (λ a. HasNext v.profile a v.next) (sym (λ i o. has-lowered v.object_label o i)) h.next;
     accesses_known = λ u there. known_still u (Each-insert v.accesses t (is_known v) h.accesses_known known u there);
     matrix_known = λ u there. known_still u (Each-insert v.matrix t (is_known v) h.matrix_known known u there);
   }

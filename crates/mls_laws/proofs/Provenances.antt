@@ -81,7 +81,7 @@ not_below : (v : State) (q s o : ℕ) (x : Mode) → HasTree v → Reaches v.par
 not_below v q s o x h reaches there =
     let both = and_parts (set.contains v.accesses (s, o, x)) (stays v q o) (sym (contains-retain-triple v.accesses (λ t. stays v q t.1) (s, o, x)) ∙ there) in
     let active : is_active v o ≡ true = (and_parts (is_subject v s) (is_active v o) (h.accesses_known (s, o, x) both.0)).1 in
-    not_kept (is_inferior v.parent o q) both.1 ((is_inferior-Reaches v.parent (is_active v) v.next h.objects o q).1 (active, reaches))
+    not_kept (is_inferior v.parent o q) both.1 ((is_inferior-Reaches v.parent (is_active v) h.objects o q).1 (active, reaches))
 
 not_removed : (b : TripleSet) (t : Triple) → set.contains (set.remove b t) t ≡ true → ⊥
 not_removed b t there =
@@ -141,7 +141,7 @@ lost_by v subject (Create p l i) s o x h there gone = cc
 lost_by v subject (Delete q) s o x h there gone =
     let below : is_inferior v.parent o q ≡ true =
     taken_away (set.contains v.accesses (s, o, x)) (is_inferior v.parent o q) there (sym (contains-retain-triple v.accesses (λ t. stays v q t.1) (s, o, x)) ∙ gone) in
-    (inr (inr (q, refl, ((is_inferior-Reaches v.parent (is_active v) v.next h.objects o q).0 below).1)), refl)
+    (inr (inr (q, refl, ((is_inferior-Reaches v.parent (is_active v) h.objects o q).0 below).1)), refl)
 lost_by v subject (SubjectLevel l) s o x h there gone = cc
 lost_by v subject (ObjectLevel q l) s o x h there gone = cc
 

@@ -24,7 +24,9 @@ use Rattle.mls_laws.specs.Journals.{run, is_grant}
 use Rattle.mls_laws.specs.Examples.{plain, ann_reads_plans, ann_releases_plans, bob_writes_plans}
 use Rattle.mls_laws.proofs.Answered.{grants, after_grant}
 use Rattle.mls_laws.proofs.Plain.{plain_above, plain_within}
-use Rattle.mls_laws.proofs.ExampleStart.{start, maximum_at, current_at, own_integrity_at, label_at, integrity_at, parent_at, trusted_at, permitted_at, accessed_at, next_at, security_is, integrity_is, subject_at, known, start_secure}
+use Rattle.mls_laws.proofs.ExampleStart.{start, maximum_at, current_at, own_integrity_at, label_at, integrity_at, parent_at, trusted_at, permitted_at, accessed_at, next_at, security_is, integrity_is, subject_at, known, start_secure, profile_is}
+use Rattle.mls_laws.proofs.Kept.{next_one}
+use Rattle.mls_tree.specs.declared.profile.Profile.TheVariants.{One}
 
 -- the conditions hold up to a place, and the one there fails
 abbrev FailsAt : List (Reason × Bool) → ℕ → Type 0
@@ -129,6 +131,7 @@ record Ready (v : State) : Type 0 where
   written : set.contains v.accesses (0, 1, Write) ≡ true
   security : v.security ≡ record { levels = 4; categories = 0 }
   integrity : v.integrity ≡ record { levels = 2; categories = 0 }
+  profile : v.profile ≡ One
   some : 1 < v.next
 
 writing_ready : Ready writing
@@ -139,6 +142,7 @@ writing_ready = record {
   written = in_it start.accesses (0, 1, Write);
   security = security_is;
   integrity = integrity_is;
+  profile = profile_is;
   some = let next : start.next ≡ 4 = next_at in omega (arith, next);
 }
 
@@ -254,6 +258,9 @@ compatibility = (
 )
 
 -- ann makes objects below plans until no number is left
+made_next : (v : State) → Ready v → (change v 0 (Create 1 (plain 2) (plain 0))).next ≡ v.next + 1
+made_next v h = next_one v.profile (v.next + 1) _ h.profile
+
 ready_still : (v : State) → Ready v → Ready (change v 0 (Create 1 (plain 2) (plain 0)))
 ready_still v h =
     let some : 1 < v.next = h.some in
@@ -265,7 +272,8 @@ ready_still v h =
       written = h.written;
       security = h.security;
       integrity = h.integrity;
-      some = omega arith;
+      profile = h.profile;
+      some = let next : (change v 0 (Create 1 (plain 2) (plain 0))).next ≡ v.next + 1 = made_next v h in omega (arith, some, next);
     }
 
 made : (v : State) → Ready v → v.next < MAX_OBJECTS → after v (makes 2) ≡ change v 0 (Create 1 (plain 2) (plain 0))
@@ -279,7 +287,8 @@ full_after zero v h all =
     ([], makes 2, denied v (makes 2) 3 (makes_defined v 2 h refl) (authorized v h, (fits v h, (fits_integrity v h, none))))
 full_after (suc n) v h all =
     let room : v.next < MAX_OBJECTS = omega arith in
-    let left : v.next + 1 + n ≡ MAX_OBJECTS = omega arith in
+    let next : (change v 0 (Create 1 (plain 2) (plain 0))).next ≡ v.next + 1 = made_next v h in
+    let left : (change v 0 (Create 1 (plain 2) (plain 0))).next + n ≡ MAX_OBJECTS = omega (arith, all, next) in
     let later = full_after n (change v 0 (Create 1 (plain 2) (plain 0))) (ready_still v h) left in
     (makes 2 ∷ later.0, later.1, ap (λ w. reply (run w later.0) later.1) (made v h room) ∙ later.2)
 

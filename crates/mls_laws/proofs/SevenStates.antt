@@ -12,7 +12,8 @@ use Rattle.mls_facts.proofs.Entries.{by_number, at_new, elsewhere, has-inserted}
 use Rattle.mls_tables.specs.declared.mode.Mode.TheVariants.{Read}
 use Rattle.mls_tables.specs.Triples.{Triple, TripleSet, triple_cmp}
 use Rattle.mls_tables.proofs.Laws.{contains-insert-triple, is_triple-itself}
-use Rattle.mls_tree.specs.Tree.{IsTree, Reaches}
+use Rattle.mls_tree.specs.Tree.{IsTree, HasNext, Reaches}
+use Rattle.mls_tree.specs.declared.profile.Profile.TheVariants.{One}
 use Rattle.mls_tree.specs.Tree.Reaches.{here, up}
 use Rattle.mls_state.specs.State.{State, is_subject, is_active, is_above}
 use Rattle.mls_state.specs.Properties.{Each, IsSecure, HasTree, HasWholeTables, simple_holds, star_holds, discretionary_holds, compatible_holds, integrity_holds, is_known}
@@ -48,6 +49,7 @@ small r m c l i trusted accesses matrix = record {
   object_label = map.insert (map.insert map.empty 0 (plain r)) 1 (plain l);
   object_integrity = map.insert (map.insert map.empty 0 (plain 1)) 1 (plain i);
   parent = map.insert map.empty 1 0;
+  profile = One;
   next = 2;
   security = record { levels = 2; categories = 0 };
   integrity = record { levels = 2; categories = 0 };
@@ -145,7 +147,7 @@ module _ (r m c l i : ℕ) (trusted : FinSet nat_cmp) (accesses matrix : TripleS
   below (suc zero) active = omega arith
   below (suc (suc o)) active = let neither : (nat_eq (suc (suc o)) 1 || (nat_eq (suc (suc o)) 0 || false)) ≡ false = grind (arith, nat_tests) in cc
 
-  is_tree : IsTree v.parent (is_active v) 2
+  is_tree : IsTree v.parent (is_active v)
   is_tree = record {
     root_active = active_at 0;
     root_has_no_parent = elsewhere map.empty 1 0 0 refl ∙ map.get-empty nat_cmp 0;
@@ -153,12 +155,14 @@ module _ (r m c l i : ℕ) (trusted : FinSet nat_cmp) (accesses matrix : TripleS
     children_active = λ o p step.
         let ends = parent_of o p step in
         (ap (is_active v) ends.0 ∙ active_at 1, ap (is_active v) ends.1 ∙ active_at 0);
-    below_next = λ o active. below o (sym (active_at o) ∙ active);
-    few = omega arith;
+    below = λ o active. let low : o < 2 = below o (sym (active_at o) ∙ active) in omega arith;
   }
 
+  has_next : HasNext One (is_active v) 2
+  has_next = record { few = omega arith; right = λ o active. below o (sym (active_at o) ∙ active) }
+
   has_tree : Each accesses (is_known v) → Each matrix (is_known v) → HasTree v
-  has_tree first second = record { objects = is_tree; accesses_known = first; matrix_known = second }
+  has_tree first second = record { objects = is_tree; next = has_next; accesses_known = first; matrix_known = second }
 
   whole : ((s : ℕ) → set.contains trusted s ≡ true → (nat_eq s 0 || false) ≡ true) → HasWholeTables v
   whole subjects = record {

@@ -8,6 +8,7 @@ use Rattle.mls_requests.specs.declared.action.Action.TheVariants.{Get, Release}
 use Rattle.mls_requests.specs.declared.request.Request.{Request}
 use Rattle.mls_requests.specs.declared.reply.Reply.TheVariants.{Yes}
 use Rattle.mls_requests.specs.declared.entry.Entry.{Entry}
+use Rattle.mls_tree.specs.declared.profile.Profile.TheVariants.{One}
 use Rattle.mls_state.specs.declared.subject.Subject.{Subject}
 use Rattle.mls_builder.specs.declared.object_row.ObjectRow.{ObjectRow}
 use Rattle.mls_builder.specs.Rows.{Rows}
@@ -16,7 +17,8 @@ use Rattle.mls_builder.specs.Rows.{Rows}
 abbrev pub plain : ℕ → Label
 plain level = record { level = level; categories = set.empty }
 
--- Subject 0, ann, works at level 2. Subject 1, bob, may work at level 1 and works at 0. Subject 2, sec, is trusted and works at level 3. (own)
+-- Subject 0, ann, works at level 2. Subject 1, bob, may work at level 1 and works at 0. Subject 2, sec, is trusted and
+-- works at level 3. (own)
 abbrev pub example_subjects : List Subject
 example_subjects =
     (record { maximum = plain 2; current = plain 2; integrity = plain 1; trusted = false })
@@ -24,7 +26,8 @@ example_subjects =
     ∷ (record { maximum = plain 3; current = plain 3; integrity = plain 1; trusted = true })
     ∷ []
 
--- Object 1, plans, is of level 2; object 2, memo, of level 1; object 3, draft, of level 0 and of low integrity. All are below the root. (own)
+-- Object 1, plans, is of level 2; object 2, memo, of level 1; object 3, draft, of level 0 and of low integrity. All are
+-- below the root. (own)
 abbrev pub example_objects : List ObjectRow
 example_objects =
     (record { parent = 0; labels = record { security = plain 2; integrity = plain 1 } })
@@ -32,11 +35,12 @@ example_objects =
     ∷ (record { parent = 0; labels = record { security = plain 0; integrity = plain 0 } })
     ∷ []
 
--- What the matrix permits: ann reads the root, reads and writes plans, and executes draft; bob reads plans and memo; sec writes the root and reads memo.
--- (own)
+-- What the matrix permits: ann reads the root, reads and writes plans, and executes draft; bob reads plans and memo;
+-- sec writes the root and reads memo. (own)
 abbrev pub example_cells : List Triple
 example_cells =
-    (0, 0, Read) ∷ (0, 1, Read) ∷ (0, 1, Write) ∷ (0, 3, Execute) ∷ (1, 1, Read) ∷ (1, 2, Read) ∷ (2, 0, Write) ∷ (2, 2, Read) ∷ []
+    (0, 0, Read) ∷ (0, 1, Read) ∷ (0, 1, Write) ∷ (0, 3, Execute) ∷ (1, 1, Read) ∷ (1, 2, Read) ∷ (2, 0, Write)
+    ∷ (2, 2, Read) ∷ []
 
 -- The rows of the start. (own)
 abbrev pub example_rows : Rows
@@ -47,6 +51,8 @@ example_rows = record {
   subjects = example_subjects;
   objects = example_objects;
   cells = set.from_list example_cells;
+  accesses = set.empty;
+  profile = One;
 }
 
 -- Request: ann asks to read plans. (own)

@@ -5,8 +5,8 @@ use Rattle.mls_tables.specs.Mode.{observes, alters, uses}
 use Rattle.mls_tables.specs.declared.mode.Mode.{Mode}
 use Rattle.mls_state.specs.State.{State}
 
--- One object flows to another where a subject that isn't trusted holds both, the first in a mode that observes and the second in one that alters. (own,
--- after MTR-2997's reason for the *-property)
+-- One object flows to another where a subject that isn't trusted holds both, the first in a mode that observes and the
+-- second in one that alters. (own, after MTR-2997's reason for the *-property)
 pub record Flows (v : State) (a b : ℕ) : Type 0 where
   pub subject : ℕ
   pub seen_in : Mode
@@ -17,8 +17,8 @@ pub record Flows (v : State) (a b : ℕ) : Type 0 where
   pub holds_second : IsTrue (set.contains v.accesses (subject, b, altered_in))
   pub alters : IsTrue (alters altered_in)
 
--- One object feeds another where a subject, trusted or not, holds both, the first in a mode that uses and the second in one that alters. (own, after
--- MTR-3153's reason for strict integrity)
+-- One object feeds another where a subject, trusted or not, holds both, the first in a mode that uses and the second in
+-- one that alters. (own, after MTR-3153's reason for strict integrity)
 pub record Feeds (v : State) (a b : ℕ) : Type 0 where
   pub subject : ℕ
   pub used_in : Mode

@@ -5,3 +5,5 @@ pub mod Provenance
 pub mod Reads
 pub mod SevenProperties
 pub mod SystemZ
+pub mod NewObjects
+pub mod Labels

@@ -1,4 +1,5 @@
--- System Z: a machine that lowers every label to the bottom and then grants each access that it is asked for. (McLean 1987)
+-- System Z: a machine that lowers every label to the bottom and then grants each access that it is asked for. (McLean
+-- 1987)
 use Rattle.std.specs.Prelude.{ℕ, ◌&&◌, List, [], ◌∷◌, if◌then◌else◌, slice_get, take, Some, map, ◌≡◌}
 use Rattle.std.specs.Ordering.{nat_cmp}
 use Rattle.std.specs.FinSet as set
@@ -7,7 +8,8 @@ use Rattle.std.specs.FinMap.{FinMap}
 use Rattle.mls_labels.specs.Label.{Label}
 use Rattle.mls_tables.specs.Triples.{Triple}
 use Rattle.mls_requests.specs.declared.action.Action.{Action}
-use Rattle.mls_requests.specs.declared.action.Action.TheVariants.{Get, Release, Give, Rescind, Create, Delete, SubjectLevel, ObjectLevel}
+use Rattle.mls_requests.specs.declared.action.Action.TheVariants.{Get, Release, Give, Rescind, Create, Delete}
+use Rattle.mls_requests.specs.declared.action.Action.TheVariants.{SubjectLevel, ObjectLevel}
 use Rattle.mls_requests.specs.declared.request.Request.{Request}
 use Rattle.mls_requests.specs.declared.reply.Reply.{Reply}
 use Rattle.mls_requests.specs.declared.reply.Reply.TheVariants.{Yes, Undefined}
@@ -38,8 +40,8 @@ with_labels_lowered v = record v {
 abbrev pub with_access : State → Triple → State
 with_access v t = record v { accesses = set.insert v.accesses t; matrix = set.insert v.matrix t }
 
--- What System Z answers: yes to each access that is asked for, where subject and object are there; to all else it answers as the rules do. (McLean
--- 1987)
+-- What System Z answers: yes to each access that is asked for, where subject and object are there; to all else it
+-- answers as the rules do. (McLean 1987)
 abbrev pub z_answer : State → ℕ → Action → Reply
 z_answer v s (Get x o) = if is_subject v s && is_active v o then Yes else Undefined
 z_answer v s (Release x o) = reply v (record { subject = s; action = Release x o })
@@ -50,8 +52,8 @@ z_answer v s (Delete o) = reply v (record { subject = s; action = Delete o })
 z_answer v s (SubjectLevel l) = reply v (record { subject = s; action = SubjectLevel l })
 z_answer v s (ObjectLevel o l) = reply v (record { subject = s; action = ObjectLevel o l })
 
--- What System Z makes of a state: where an access is asked for, every label is lowered and the access is held; all else changes it as the rules do.
--- (McLean 1987)
+-- What System Z makes of a state: where an access is asked for, every label is lowered and the access is held; all else
+-- changes it as the rules do. (McLean 1987)
 abbrev pub z_change : State → ℕ → Action → State
 z_change v s (Get x o) = if is_subject v s && is_active v o then with_access (with_labels_lowered v) (s, o, x) else v
 z_change v s (Release x o) = after v (record { subject = s; action = Release x o })
@@ -75,6 +77,8 @@ abbrev pub z_run : State → List Request → State
 z_run v [] = v
 z_run v (r ∷ requests) = z_run (z_after v r) requests
 
--- A journal shows System Z's replies: each entry has the reply that System Z gives in the state that it comes to by the requests before. (own)
+-- A journal shows System Z's replies: each entry has the reply that System Z gives in the state that it comes to by the
+-- requests before. (own)
 abbrev pub ShowsSystemZ : State → List Entry → Type 0
-ShowsSystemZ v entries = (n : ℕ) (e : Entry) → slice_get entries n ≡ Some e → e.reply ≡ z_reply (z_run v (map (λ (f : Entry). f.request) (take n entries))) e.request
+ShowsSystemZ v entries = (n : ℕ) (e : Entry) → slice_get entries n ≡ Some e
+    → e.reply ≡ z_reply (z_run v (map (λ (f : Entry). f.request) (take n entries))) e.request

@@ -15,10 +15,12 @@ pub fn denied_requests_change_nothing()
     ensures undefined { (v : State) (r : Request) → reply v r ≡ Undefined → after v r ≡ v }
 {}
 
-/// Without its denied and undefined entries a legal journal leads to the same state, and each entry that is left has the reply
-/// that the rules give it there.
+/// Without its denied and undefined entries a legal journal leads to the same state, and each entry that is left has
+/// the reply that the rules give it there.
 pub fn denied_requests_can_be_left_out()
-    ensures replies { (v : State) (entries : List Entry) (n : ℕ) (e : Entry) → IsLegal v entries → slice_get (granted_only entries) n ≡ Some e →
+    ensures replies { (v : State) (entries : List Entry) (n : ℕ) (e : Entry) → IsLegal v entries
+        → slice_get (granted_only entries) n ≡ Some e →
         e.reply ≡ reply (fold v (take n (granted_only entries))) e.request }
-    ensures state { (v : State) (entries : List Entry) → IsLegal v entries → fold v (granted_only entries) ≡ fold v entries }
+    ensures state { (v : State) (entries : List Entry) → IsLegal v entries
+        → fold v (granted_only entries) ≡ fold v entries }
 {}

@@ -1,9 +1,11 @@
-//! What the definitions mean: laws over one state or over a whole journal, which claim no flow over time.
-//! A subject may observe, release, lower its level and write down what it remembers. The functions do nothing: each is a law, which its
-//! contract states. An empty body can't be wrong, so there are no must-fail edits; the laws of `examples` show that the others speak of something.
+//! What the definitions mean: laws over one state or over a whole journal, which claim no flow over time. A subject may
+//! observe, release, lower its level and write down what it remembers. The functions do nothing: each is a law, which
+//! its contract states. An empty body can't be wrong, so there are no must-fail edits; the laws of `examples` show that
+//! the others speak of something.
 #![tactic(auto)]
 
 mod accesses;
+mod creation;
 mod deletion;
 mod denials;
 mod examples;
@@ -18,6 +20,7 @@ pub use accesses::{
     accesses_end_by_release_rescission_or_deletion, every_access_has_its_reason,
     rescinding_is_final,
 };
+pub use creation::a_new_object_holds_nothing_of_an_old_one;
 pub use deletion::a_deletion_takes_what_reaches_the_object;
 pub use denials::{denied_requests_can_be_left_out, denied_requests_change_nothing};
 pub use examples::{

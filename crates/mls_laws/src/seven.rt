@@ -11,5 +11,6 @@ pub fn secure_is_all_seven()
 
 /// None of the seven follows from the others: for each there is a state that breaks it alone, with tables that agree.
 pub fn each_property_can_be_broken_alone()
-    ensures { (p : Property) → (v : State) × HasWholeTables v × (Has p v → ⊥) × ((q : Property) → (q ≡ p → ⊥) → Has q v) }
+    ensures { (p : Property) → (v : State) × HasWholeTables v × (Has p v → ⊥)
+        × ((q : Property) → (q ≡ p → ⊥) → Has q v) }
 {}

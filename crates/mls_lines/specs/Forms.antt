@@ -48,8 +48,8 @@ tokens_in (Level subj lab) = subj ∷ action_word word.Level ∷ lab ∷ []
 -- `SUBJ relabel OBJ LABEL`
 tokens_in (Relabel subj obj lab) = subj ∷ action_word word.Relabel ∷ obj ∷ lab ∷ []
 
--- A part of a line: the name of the variable that is bound, or a token that stands for a subject, for an object, for a security label
--- or for an integrity label. (own)
+-- A part of a line: the name of the variable that is bound, or a token that stands for a subject, for an object, for a
+-- security label or for an integrity label. (own)
 pub data Part : Type 0 where
   Variable : List ℕ → Part
   Subject : List ℕ → Part

@@ -1,4 +1,5 @@
--- What a line of a script says and for which fault it is refused: the grammar in its own shape, apart from how lines are read.
+-- What a line of a script says and for which fault it is refused: the grammar in its own shape, apart from how lines
+-- are read.
 use Rattle.std.specs.Prelude.{◌≡◌, ◌≤◌, ◌⊎◌, ℕ, IsTrue, List, ◌∷◌, length, None, Some, All, Contains}
 use Rattle.std.specs.List.{list_all}
 use Rattle.std.specs.Fmt.{decimal}
@@ -13,7 +14,8 @@ use Rattle.mls_lines.specs.declared.fault.LineFault.{LineFault}
 use Rattle.mls_lines.specs.declared.fault.LineFault.TheVariants.{BadForm, UnknownName, BadLabel}
 use Rattle.mls_lines.specs.declared.line.TheConstants.{MAX_LINE}
 use Rattle.mls_lines.specs.declared.number.TheConstants.{MAX_NUMBER}
-use Rattle.mls_lines.specs.Forms.{Form, Empty, Note, Check, Get, Release, Give, Rescind, Create, Bind, Delete, Level, Relabel, tokens_in, Part, Variable, Subject, Object, Security, Integrity, parts_in}
+use Rattle.mls_lines.specs.Forms.{Form, Empty, Note, Check, Get, Release, Give, Rescind, Create, Bind, Delete, Level}
+use Rattle.mls_lines.specs.Forms.{Relabel, tokens_in, Part, Variable, Subject, Object, Security, Integrity, parts_in}
 use Rattle.mls_lines.specs.Labels.{is_label_byte}
 use Rattle.mls_lines.specs.LineView.{LineView, Blank, Asks, submits}
 use Rattle.mls_lines.specs.Names.{Names, bound_to}
@@ -75,7 +77,8 @@ IsSpelled names (Object token) = Unit {0}
 IsSpelled names (Security token) = (l : Label) × IsLabel names.security token l
 IsSpelled names (Integrity token) = (l : Label) × IsLabel names.integrity token l
 
--- A line has a form: it has at most 20,000 bytes and spells the form's tokens, each part of which has its own form. (own)
+-- A line has a form: it has at most 20,000 bytes and spells the form's tokens, each part of which has its own form.
+-- (own)
 pub record HasForm (line : List ℕ) (form : Form) : Type 0 where
   pub short : length line ≤ MAX_LINE
   pub spells : Spells line (tokens_in form)
@@ -97,24 +100,29 @@ Means names vars (Release subj x obj) view =
     (s o : ℕ) × IsSubject names subj s × IsObject names vars obj o × (view ≡ Asks None (submits s (action.Release x o)))
 -- `SUBJ give MODE SUBJ OBJ`: a permission for the second subject
 Means names vars (Give subj x to obj) view =
-    (s t o : ℕ) × IsSubject names subj s × IsSubject names to t × IsObject names vars obj o × (view ≡ Asks None (submits s (action.Give x t o)))
+    (s t o : ℕ) × IsSubject names subj s × IsSubject names to t × IsObject names vars obj o
+    × (view ≡ Asks None (submits s (action.Give x t o)))
 -- `SUBJ rescind MODE SUBJ OBJ`: that it be permitted no longer
 Means names vars (Rescind subj x of obj) view =
-    (s t o : ℕ) × IsSubject names subj s × IsSubject names of t × IsObject names vars obj o × (view ≡ Asks None (submits s (action.Rescind x t o)))
+    (s t o : ℕ) × IsSubject names subj s × IsSubject names of t × IsObject names vars obj o
+    × (view ≡ Asks None (submits s (action.Rescind x t o)))
 -- `SUBJ create OBJ LABEL LABEL`: an object of this security and this integrity label below a parent
 Means names vars (Create subj obj sec int) view =
-    (s o : ℕ) × (l i : Label) × IsSubject names subj s × IsObject names vars obj o × IsLabel names.security sec l × IsLabel names.integrity int i
+    (s o : ℕ) × (l i : Label) × IsSubject names subj s × IsObject names vars obj o × IsLabel names.security sec l
+    × IsLabel names.integrity int i
     × (view ≡ Asks None (submits s (action.Create o l i)))
 -- `$NAME = SUBJ create OBJ LABEL LABEL`: the same, and the variable is bound to the object
 Means names vars (Bind name subj obj sec int) view =
-    (s o : ℕ) × (l i : Label) × IsSubject names subj s × IsObject names vars obj o × IsLabel names.security sec l × IsLabel names.integrity int i
+    (s o : ℕ) × (l i : Label) × IsSubject names subj s × IsObject names vars obj o × IsLabel names.security sec l
+    × IsLabel names.integrity int i
     × (view ≡ Asks (Some name) (submits s (action.Create o l i)))
 -- `SUBJ delete OBJ`: that an object be deleted
 Means names vars (Delete subj obj) view =
     (s o : ℕ) × IsSubject names subj s × IsObject names vars obj o × (view ≡ Asks None (submits s (action.Delete o)))
 -- `SUBJ level LABEL`: another current label for the subject
 Means names vars (Level subj lab) view =
-    (s : ℕ) × (l : Label) × IsSubject names subj s × IsLabel names.security lab l × (view ≡ Asks None (submits s (action.SubjectLevel l)))
+    (s : ℕ) × (l : Label) × IsSubject names subj s × IsLabel names.security lab l
+    × (view ≡ Asks None (submits s (action.SubjectLevel l)))
 -- `SUBJ relabel OBJ LABEL`: another security label for an object
 Means names vars (Relabel subj obj lab) view =
     (s o : ℕ) × (l : Label) × IsSubject names subj s × IsObject names vars obj o × IsLabel names.security lab l

@@ -8,10 +8,11 @@ use Rattle.mls_labels.specs.Names.{has_twice}
 use Rattle.mls_labels.specs.Scheme.{Scheme, scheme_code}
 use Rattle.mls_tables.specs.declared.limits.TheConstants.{MAX_SUBJECTS, MAX_OBJECTS}
 use Rattle.mls_lines.specs.declared.names_fault.NamesFault.{NamesFault}
-use Rattle.mls_lines.specs.declared.names_fault.NamesFault.TheVariants.{TooManySubjects, TooManyObjects, RepeatedSubject, RepeatedObject}
+use Rattle.mls_lines.specs.declared.names_fault.NamesFault.TheVariants.{TooManySubjects, TooManyObjects}
+use Rattle.mls_lines.specs.declared.names_fault.NamesFault.TheVariants.{RepeatedSubject, RepeatedObject}
 
--- The names of a start's subjects and of its objects, each name a list of bytes, whose place is its number; and the schemes of its
--- security and its integrity labels. (own)
+-- The names of a start's subjects and of its objects, each name a list of bytes, whose place is its number; and the
+-- schemes of its security and its integrity labels. (own)
 pub record Names : Type 0 where
   pub subjects : List (List ℕ)
   pub objects : List (List ℕ)
@@ -42,7 +43,8 @@ names_fault subjects objects =
 abbrev pub names_code : Coded Names
 names_code =
     code_by ((List (List ℕ) × List (List ℕ)) × (Scheme × Scheme))
-    (coded× (coded× (coded_list (coded_list coded_ℕ)) (coded_list (coded_list coded_ℕ))) (coded× scheme_code scheme_code))
+    (coded× (coded× (coded_list (coded_list coded_ℕ)) (coded_list (coded_list coded_ℕ)))
+    (coded× scheme_code scheme_code))
     (λ n. ((n.subjects, n.objects), (n.security, n.integrity)))
     (λ p. record { subjects = p.0.0; objects = p.0.1; security = p.1.0; integrity = p.1.1 }) (λ _. refl)
 

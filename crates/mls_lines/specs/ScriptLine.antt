@@ -1,5 +1,6 @@
 -- What a line of a script asks, by cases on its tokens.
-use Rattle.std.specs.Prelude.{ℕ, List, [], ◌∷◌, if◌then◌else◌, Option, Some, None, Result, Ok, Err, ◌==◌, ◌&&◌, nat_lt, length, codes}
+use Rattle.std.specs.Prelude.{ℕ, List, [], ◌∷◌, if◌then◌else◌, Option, Some, None, Result, Ok, Err, ◌==◌, ◌&&◌, nat_lt}
+use Rattle.std.specs.Prelude.{length, codes}
 use Rattle.std.specs.Str.{bytes_eq}
 use Rattle.mls_labels.specs.Label.{Label}
 use Rattle.mls_labels.specs.Names.{is_name}
@@ -53,7 +54,8 @@ object_named names token = if is_name token then known (place_of names.objects t
 abbrev pub variable_of : List (List ℕ × ℕ) → List ℕ → Result ℕ LineFault
 variable_of vars name = if is_name name then known (bound_to name vars) else Err BadForm
 
--- The object that a token names: a NAME, `#DEC` for the object of that number, known or not, or `$NAME` for what is bound. (own)
+-- The object that a token names: a NAME, `#DEC` for the object of that number, known or not, or `$NAME` for what is
+-- bound. (own)
 abbrev pub object_of : Names → List (List ℕ × ℕ) → List ℕ → Result ℕ LineFault
 object_of names vars [] = Err BadForm
 object_of names vars (b ∷ token) =
@@ -78,12 +80,14 @@ mode_and_object names vars None = Err BadForm
 mode_and_object names vars (Some p) = with_mode (read_mode p.0) (object_of names vars p.1)
 
 -- The operands of `give` and `rescind`: `MODE SUBJ OBJ`. (own)
-abbrev pub cell_operands : Names → List (List ℕ × ℕ) → Option (List ℕ × List ℕ × List ℕ) → Result (Mode × (ℕ × ℕ)) LineFault
+abbrev pub cell_operands : Names → List (List ℕ × ℕ) → Option (List ℕ × List ℕ × List ℕ)
+    → Result (Mode × (ℕ × ℕ)) LineFault
 cell_operands names vars None = Err BadForm
 cell_operands names vars (Some p) = with_mode (read_mode p.0) (both (subject_of names p.1) (object_of names vars p.2))
 
 -- The operands of `create`: `OBJ LABEL LABEL`, the parent, the security label and the integrity label. (own)
-abbrev pub create_operands : Names → List (List ℕ × ℕ) → Option (List ℕ × List ℕ × List ℕ) → Result (ℕ × (Label × Label)) LineFault
+abbrev pub create_operands : Names → List (List ℕ × ℕ) → Option (List ℕ × List ℕ × List ℕ)
+    → Result (ℕ × (Label × Label)) LineFault
 create_operands names vars None = Err BadForm
 create_operands names vars (Some p) =
     both (object_of names vars p.0) (both (label_named names.security p.1) (label_named names.integrity p.2))
@@ -106,13 +110,18 @@ made_of f (Err fault) = Err fault
 -- What a word and its operands ask for. (own)
 abbrev pub action_of : Names → List (List ℕ × ℕ) → List (List ℕ) → ActionWord → Result Action LineFault
 action_of names vars operands (word.Get x) = made_of (λ o. action.Get x o) (object_operand names vars (one_of operands))
-action_of names vars operands word.Release = made_of (λ p. action.Release p.0 p.1) (mode_and_object names vars (two_of operands))
-action_of names vars operands word.Give = made_of (λ p. action.Give p.0 p.1.0 p.1.1) (cell_operands names vars (three_of operands))
-action_of names vars operands word.Rescind = made_of (λ p. action.Rescind p.0 p.1.0 p.1.1) (cell_operands names vars (three_of operands))
-action_of names vars operands word.Create = made_of (λ p. action.Create p.0 p.1.0 p.1.1) (create_operands names vars (three_of operands))
+action_of names vars operands word.Release =
+    made_of (λ p. action.Release p.0 p.1) (mode_and_object names vars (two_of operands))
+action_of names vars operands word.Give =
+    made_of (λ p. action.Give p.0 p.1.0 p.1.1) (cell_operands names vars (three_of operands))
+action_of names vars operands word.Rescind =
+    made_of (λ p. action.Rescind p.0 p.1.0 p.1.1) (cell_operands names vars (three_of operands))
+action_of names vars operands word.Create =
+    made_of (λ p. action.Create p.0 p.1.0 p.1.1) (create_operands names vars (three_of operands))
 action_of names vars operands word.Delete = made_of (λ o. action.Delete o) (object_operand names vars (one_of operands))
 action_of names vars operands word.Level = made_of (λ l. action.SubjectLevel l) (level_operand names (one_of operands))
-action_of names vars operands word.Relabel = made_of (λ p. action.ObjectLevel p.0 p.1) (relabel_operands names vars (two_of operands))
+action_of names vars operands word.Relabel =
+    made_of (λ p. action.ObjectLevel p.0 p.1) (relabel_operands names vars (two_of operands))
 
 -- The request of a subject for an action, where both were read. (own)
 abbrev pub submitted : Result ℕ LineFault → Result Action LineFault → Result Ask LineFault
@@ -148,12 +157,15 @@ created_by (e ∷ subject ∷ w ∷ operands) =
     if bytes_eq e (codes "=") && bytes_eq w (action_word word.Create) then Some (subject, operands) else None
 
 -- What a line asks that binds a variable, where its name is one and what stands after it is of that form. (own)
-abbrev pub binding_line : Names → List (List ℕ × ℕ) → Option (List ℕ) → Option (List ℕ × List (List ℕ)) → Result LineView LineFault
+abbrev pub binding_line : Names → List (List ℕ × ℕ) → Option (List ℕ) → Option (List ℕ × List (List ℕ))
+    → Result LineView LineFault
 binding_line names vars None parts = Err BadForm
 binding_line names vars (Some name) None = Err BadForm
-binding_line names vars (Some name) (Some p) = asked (Some name) (submitted (subject_of names p.0) (action_of names vars p.1 word.Create))
+binding_line names vars (Some name) (Some p) =
+    asked (Some name) (submitted (subject_of names p.0) (action_of names vars p.1 word.Create))
 
--- What a first token says with those after it: `;` begins a note, `$` a variable to bind, and all else is a subject. (own)
+-- What a first token says with those after it: `;` begins a note, `$` a variable to bind, and all else is a subject.
+-- (own)
 abbrev pub said_first : Names → List (List ℕ × ℕ) → List ℕ → List (List ℕ) → Result LineView LineFault
 said_first names vars [] rest = command_line names vars [] rest
 said_first names vars (b ∷ token) rest =

@@ -1,5 +1,6 @@
 -- The tokens of a line, and which tokens are names.
-use Rattle.std.specs.Prelude.{ℕ, ◌≡◌, ◌≢◌, ◌<◌, ◌⊎◌, List, [], ◌∷◌, ◌++◌, ◌==◌, length, nat_lt, filter, Option, Some, None, if◌then◌else◌, All}
+use Rattle.std.specs.Prelude.{ℕ, ◌≡◌, ◌≢◌, ◌<◌, ◌⊎◌, List, [], ◌∷◌, ◌++◌, ◌==◌, length, nat_lt, filter, Option, Some}
+use Rattle.std.specs.Prelude.{None, if◌then◌else◌, All}
 use Rattle.std.specs.List.{slice_split}
 use Rattle.mls_labels.specs.Names.{is_name}
 

@@ -45,7 +45,8 @@ fn read_binding<'a, A: Allocator, B: Allocator>(
     name: &'a [u8],
     rest: &'a [u8],
 ) -> Result<Line<'a>, LineFault>
-    ensures { line_view result ≡ binding_line names.now vars.now.bound (name_of name.now) (created_by (tokens_of rest.now)) }
+    ensures { line_view result
+        ≡ binding_line names.now vars.now.bound (name_of name.now) (created_by (tokens_of rest.now)) }
 {
     let name = read_name(name).ok_or(LineFault::BadForm)?;
     let (subject, operands) = split_binding(rest).ok_or(LineFault::BadForm)?;

@@ -11,8 +11,8 @@ use mls_tables::{MAX_OBJECTS, MAX_SUBJECTS, ObjectId, SubjectId};
 use std::alloc::{Allocator, Global};
 use std::marker::Model;
 
-/// The names of a start's subjects and of its objects, whose places are their numbers, and the schemes of its security and its
-/// integrity labels. A subject and an object may have one name.
+/// The names of a start's subjects and of its objects, whose places are their numbers, and the schemes of its security
+/// and its integrity labels. A subject and an object may have one name.
 #[derive(Drop)]
 pub struct Names<A: Allocator = Global> {
     subjects: NameSet<A>,
@@ -57,7 +57,8 @@ fn name_set<A: Allocator + Copy>(
 ) -> Result<NameSet<A>, NamesFault>
     ensures ok { IfOk result (λ set. set ≡ texts names.now) }
     ensures once { OnOk result (has_twice (texts names.now) ≡ false) }
-    ensures fault { IfErr result (λ fault. fault ≢ NamesFault.Memory → (fault ≡ repeated) × (has_twice (texts names.now) ≡ true)) }
+    ensures fault { IfErr result
+        (λ fault. fault ≢ NamesFault.Memory → (fault ≡ repeated) × (has_twice (texts names.now) ≡ true)) }
 {
     match NameSet::from_names(alloc, names) {
         Ok(names) => Ok(names),
@@ -75,8 +76,10 @@ fn name_sets<A: Allocator + Copy>(
     ensures ok { IfOk result (λ p. (p.0 ≡ texts subjects.now) × (p.1 ≡ texts objects.now)) }
     ensures few { OnOk result ((length subjects.now ≤ MAX_SUBJECTS) × (length objects.now ≤ MAX_OBJECTS)) }
     ensures faultless { OnOk result (names_fault (texts subjects.now) (texts objects.now) ≡ None) }
-    ensures fault { IfErr result (λ fault. fault ≢ NamesFault.Memory → names_fault (texts subjects.now) (texts objects.now) ≡ Some fault) }
-    ensures memory { IfErr result (λ fault. fault ≡ NamesFault.Memory → fault_of_counts (texts subjects.now) (texts objects.now) ≡ None) }
+    ensures fault { IfErr result
+        (λ fault. fault ≢ NamesFault.Memory → names_fault (texts subjects.now) (texts objects.now) ≡ Some fault) }
+    ensures memory { IfErr result
+        (λ fault. fault ≡ NamesFault.Memory → fault_of_counts (texts subjects.now) (texts objects.now) ≡ None) }
 {
     if let Some(fault) = count_fault(subjects, objects) {
         return Err(fault);
@@ -90,8 +93,8 @@ impl<A: Allocator + Copy> Names<A> {
     /// The names of at most `MAX_SUBJECTS` subjects and `MAX_OBJECTS` objects in their order.
     ///
     /// # Errors
-    /// The first fault of the names in the order of [`NamesFault`]; `Memory` where an allocation failed, which may come before a
-    /// repeated name, but not before too many of them.
+    /// The first fault of the names in the order of [`NamesFault`]; `Memory` where an allocation failed, which may come
+    /// before a repeated name, but not before too many of them.
     pub fn new(
         alloc: A,
         subjects: &[&str],
@@ -99,10 +102,18 @@ impl<A: Allocator + Copy> Names<A> {
         security: Scheme<A>,
         integrity: Scheme<A>,
     ) -> Result<Names<A>, NamesFault>
-        ensures ok { IfOk result (λ n. n ≡ record { subjects = texts subjects.now; objects = texts objects.now; security = security; integrity = integrity }) }
+        ensures ok { IfOk result
+            (λ n. n ≡ record {
+              subjects = texts subjects.now;
+              objects = texts objects.now;
+              security = security;
+              integrity = integrity;
+            }) }
         ensures faultless { OnOk result (names_fault (texts subjects.now) (texts objects.now) ≡ None) }
-        ensures fault { IfErr result (λ fault. fault ≢ NamesFault.Memory → names_fault (texts subjects.now) (texts objects.now) ≡ Some fault) }
-        ensures memory { IfErr result (λ fault. fault ≡ NamesFault.Memory → fault_of_counts (texts subjects.now) (texts objects.now) ≡ None) }
+        ensures fault { IfErr result
+            (λ fault. fault ≢ NamesFault.Memory → names_fault (texts subjects.now) (texts objects.now) ≡ Some fault) }
+        ensures memory { IfErr result
+            (λ fault. fault ≡ NamesFault.Memory → fault_of_counts (texts subjects.now) (texts objects.now) ≡ None) }
     {
         let (subjects, objects) = name_sets(alloc, subjects, objects)?;
         Ok(Names::of_sets(subjects, objects, security, integrity))
@@ -119,7 +130,8 @@ impl<A: Allocator> Names<A> {
     ) -> Names<A>
         requires subjects { length subjects ≤ MAX_SUBJECTS }
         requires objects { length objects ≤ MAX_OBJECTS }
-        ensures { result ≡ record { subjects = subjects; objects = objects; security = security; integrity = integrity } }
+        ensures { result
+            ≡ record { subjects = subjects; objects = objects; security = security; integrity = integrity } }
     {
         Names {
             subjects,

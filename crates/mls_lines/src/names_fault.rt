@@ -2,8 +2,8 @@
 
 use thiserror::Error;
 
-/// Why [`Names::new`](crate::Names::new) refuses names. The first of these that applies comes, but out of memory may come before a
-/// repeated name.
+/// Why [`Names::new`](crate::Names::new) refuses names. The first of these that applies comes, but out of memory may
+/// come before a repeated name.
 #[derive(Clone, Copy, Debug, PartialEq, Eq, Error)]
 pub enum NamesFault {
     /// There are more than 256 subjects.

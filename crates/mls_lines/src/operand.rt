@@ -2,7 +2,9 @@
 ghost use Rattle.std.specs.Prelude.{◌≡◌};
 ghost use Rattle.mls_lines.specs.Numbers.{number_of};
 ghost use Rattle.mls_lines.specs.Tokens.{tokens_of, one_of, two_of, three_of};
-ghost use Rattle.mls_lines.specs.ScriptLine.{numbered, subject_named, subject_of, object_named, object_of, variable_of, object_operand, mode_and_object, cell_operands, create_operands, level_operand, relabel_operands};
+ghost use Rattle.mls_lines.specs.ScriptLine.{numbered, subject_named, subject_of, object_named, object_of, variable_of};
+ghost use Rattle.mls_lines.specs.ScriptLine.{object_operand, mode_and_object, cell_operands, create_operands};
+ghost use Rattle.mls_lines.specs.ScriptLine.{level_operand, relabel_operands};
 
 use crate::fault::{LineFault, both};
 use crate::label::read_scheme_label;

@@ -1,5 +1,6 @@
 //! The tokens of a line, as slices of it.
-ghost use Rattle.std.specs.Prelude.{◌≡◌, ◌≢◌, ◌<◌, ◌≤◌, ℕ, List, length, slice_index, IsAscii, [], ◌∷◌, MatchOption, option_map};
+ghost use Rattle.std.specs.Prelude.{◌≡◌, ◌≢◌, ◌<◌, ◌≤◌, ℕ, List, length, slice_index, IsAscii, [], ◌∷◌, MatchOption};
+ghost use Rattle.std.specs.Prelude.{option_map};
 ghost use Rattle.mls_lines.specs.Tokens.{tokens_of, one_of, two_of, three_of, name_of, Spells};
 
 use mls_labels::is_name;

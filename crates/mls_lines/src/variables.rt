@@ -9,8 +9,8 @@ use std::alloc::{AllocError, Allocator, Global};
 use std::hash::{BuildHasherDefault, FoldHasher};
 use std::marker::Model;
 
-/// The variables of a script, each bound to an object. Contracts see the pairs of a name and a number, and how many names more fit
-/// without an allocation. A name is written without the `$`.
+/// The variables of a script, each bound to an object. Contracts see the pairs of a name and a number, and how many
+/// names more fit without an allocation. A name is written without the `$`.
 #[derive(Drop)]
 pub struct Vars<A: Allocator = Global> {
     pairs: IndexMap<String<A>, ObjectId, BuildHasherDefault<FoldHasher>, A>,

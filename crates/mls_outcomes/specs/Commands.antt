@@ -1,4 +1,5 @@
--- What the refusal of a start and that of a replay are as the refusal of a command, and the status that the program then ends with.
+-- What the refusal of a start and that of a replay are as the refusal of a command, and the status that the program
+-- then ends with.
 use Rattle.std.specs.Prelude.{ℕ}
 use Rattle.mls_monitor.specs.declared.replay_fault.ReplayFault.{ReplayFault}
 use Rattle.mls_monitor.specs.declared.replay_fault.ReplayFault.TheVariants as replayed

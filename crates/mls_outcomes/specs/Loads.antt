@@ -26,7 +26,8 @@ IsRunFault (Replay fault) = ⊥
 IsRunFault Thread = Unit {0}
 IsRunFault Memory = Unit {0}
 
--- Why a run in threads over a start file isn't done: the file is refused, a thread couldn't be started, or memory ran out. (own)
+-- Why a run in threads over a start file isn't done: the file is refused, a thread couldn't be started, or memory ran
+-- out. (own)
 abbrev pub RefusesRun : List ℕ → CommandFault → Type 0
 RefusesRun bytes (Load cause) = RefusesStart bytes cause
 RefusesRun bytes (Entry line cause) = ⊥

@@ -69,8 +69,8 @@ impl From<ReplayFault> for CommandFault {
     }
 }
 
-/// The status that the program ends with where a command was refused: 3 for a journal that differs from what the start replays,
-/// 1 for all else.
+/// The status that the program ends with where a command was refused: 3 for a journal that differs from what the start
+/// replays, 1 for all else.
 pub fn status(fault: CommandFault) -> u8
     ensures { result ≡ status_of fault }
 {

@@ -1,2 +1,2 @@
--- What is known of lists of sessions.
-pub use Rattle.mls_sessions.proofs.Laws.{ascending_last}
+-- What is known of lists of sessions and of feeds.
+pub use Rattle.mls_sessions.proofs.Laws.{ascending_read, ascending_put, at_snoc}

@@ -96,7 +96,7 @@ pub fn ask_line(rt: &HostRuntime, fault: &CommandFault) -> io::Result<bool> {
 }
 
 /// Prints what a run printed, and its journal.
-fn show_run(rt: &impl Print, run: &RunText) -> io::Result<()> {
+pub fn show_run(rt: &impl Print, run: &RunText) -> io::Result<()> {
     print!(rt; "{}", run.output)?;
     match &run.journal {
         Some(text) => print!(rt; "{text}"),

@@ -1,15 +1,22 @@
-//! A program that makes the calls that take the global allocator, each once more where it was out of memory. `.ci/check-refusals` has
-//! always the same of its allocations refused; the first word says how many it makes before the calls, so that each of theirs has its turn,
-//! and the second which call it makes.
+//! A program that makes the calls that take the global allocator, each once more where it was out of memory.
+//! `.ci/check-refusals` has always the same of its allocations refused; the first word says how many it makes before
+//! the calls, so that each of theirs has its turn, and the second which call it makes.
 #![tactic(auto)]
 
 mod calls;
-mod office;
+mod keeper;
+mod monitors;
+mod offices;
+mod script;
+mod sessions;
+mod verdict;
 
 use calls::{ask_check, ask_line, ask_read, ask_replay, ask_run, ask_standard, ask_threads};
 use mls_cli::{CommandFault, LoadFault};
 use mls_monitor::StartFault;
-use office::ask_office;
+use offices::ask_office;
+use script::ask_script;
+use sessions::ask_sessions;
 use std::alloc::Global;
 use std::io;
 use std::rt::Env;
@@ -18,22 +25,28 @@ use std::thread::Threads;
 
 /// A start file with something of each kind.
 const EACH: &[u8] =
-    b"{\"security\": {\"levels\": [\"U\"], \"categories\": [\"A\"]}, \"integrity\": {\"levels\": [\"lo\"], \"categories\": []},\
-    \"subjects\": [{\"name\": \"ann\", \"maximum\": \"U:A\", \"current\": \"U\", \"integrity\": \"lo\", \"trusted\": false}],\
+    b"{\"security\": {\"levels\": [\"U\"], \"categories\": [\"A\"]}, \"integrity\": {\"levels\": [\"lo\"], \
+    \"categories\": []},\
+    \"subjects\": [{\"name\": \"ann\", \"maximum\": \"U:A\", \"current\": \"U\", \"integrity\": \"lo\", \
+    \"trusted\": false}],\
     \"objects\": [{\"name\": \"root\", \"parent\": null, \"security\": \"U\", \"integrity\": \"lo\"},\
     {\"name\": \"plans\", \"parent\": \"root\", \"security\": \"U\", \"integrity\": \"lo\"}],\
     \"matrix\": [{\"subject\": \"ann\", \"object\": \"plans\", \"modes\": [\"read\"]}]}";
 
 /// A start file with as little as there can be.
 const LEAST: &[u8] =
-    b"{\"security\": {\"levels\": [\"U\"], \"categories\": []}, \"integrity\": {\"levels\": [\"lo\"], \"categories\": []},\
-    \"subjects\": [{\"name\": \"ann\", \"maximum\": \"U\", \"current\": \"U\", \"integrity\": \"lo\", \"trusted\": false}],\
+    b"{\"security\": {\"levels\": [\"U\"], \"categories\": []}, \"integrity\": {\"levels\": [\"lo\"], \
+    \"categories\": []},\
+    \"subjects\": [{\"name\": \"ann\", \"maximum\": \"U\", \"current\": \"U\", \"integrity\": \"lo\", \
+    \"trusted\": false}],\
     \"objects\": [{\"name\": \"root\", \"parent\": null, \"security\": \"U\", \"integrity\": \"lo\"}], \"matrix\": []}";
 
 /// A start file of a subject that may write the root.
 const WRITES: &[u8] =
-    b"{\"security\": {\"levels\": [\"U\"], \"categories\": []}, \"integrity\": {\"levels\": [\"lo\"], \"categories\": []},\
-    \"subjects\": [{\"name\": \"ann\", \"maximum\": \"U\", \"current\": \"U\", \"integrity\": \"lo\", \"trusted\": false}],\
+    b"{\"security\": {\"levels\": [\"U\"], \"categories\": []}, \"integrity\": {\"levels\": [\"lo\"], \
+    \"categories\": []},\
+    \"subjects\": [{\"name\": \"ann\", \"maximum\": \"U\", \"current\": \"U\", \"integrity\": \"lo\", \
+    \"trusted\": false}],\
     \"objects\": [{\"name\": \"root\", \"parent\": null, \"security\": \"U\", \"integrity\": \"lo\"}],\
     \"matrix\": [{\"subject\": \"ann\", \"object\": \"root\", \"modes\": [\"write\"]}]}";
 
@@ -115,6 +128,27 @@ fn ask_runs(rt: &HostRuntime, call: u32) -> io::Result<()> {
     Ok(())
 }
 
+/// Opens offices, and runs feeds.
+fn ask_shared<R: Threads + Wait + Sync>(
+    threads: &R,
+    rt: &HostRuntime,
+    call: u32,
+) -> io::Result<()> {
+    if is_wanted(call, 8) {
+        ask_office(threads, rt, WRITES, 1)?;
+    }
+    if is_wanted(call, 9) {
+        ask_office(threads, rt, WRITES, 3)?;
+    }
+    if is_wanted(call, 10) {
+        ask_sessions(threads, rt, WRITES)?;
+    }
+    if is_wanted(call, 11) {
+        ask_script(rt, WRITES)?;
+    }
+    Ok(())
+}
+
 /// Whether a call is to be made: the one that the words name, or each where they name none.
 fn is_wanted(named: u32, call: u32) -> bool {
     named == 0 || named == call
@@ -131,8 +165,5 @@ fn main(rt: HostRuntime) -> io::Result<()> {
     if is_wanted(call, 7) {
         run_in_a_thread(&rt, &rt)?;
     }
-    if is_wanted(call, 8) {
-        ask_office(&rt, &rt, WRITES)?;
-    }
-    Ok(())
+    ask_shared(&rt, &rt, call)
 }

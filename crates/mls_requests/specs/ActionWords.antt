@@ -5,7 +5,8 @@ use Rattle.mls_tables.specs.declared.mode.Mode.TheVariants.{Execute, Read, Appen
 use Rattle.mls_requests.specs.declared.action.Action.{Action}
 use Rattle.mls_requests.specs.declared.action.Action.TheVariants as action
 use Rattle.mls_requests.specs.declared.action_word.ActionWord.{ActionWord}
-use Rattle.mls_requests.specs.declared.action_word.ActionWord.TheVariants.{Get, Release, Give, Rescind, Create, Delete, Level, Relabel}
+use Rattle.mls_requests.specs.declared.action_word.ActionWord.TheVariants.{Get, Release, Give, Rescind, Create, Delete}
+use Rattle.mls_requests.specs.declared.action_word.ActionWord.TheVariants.{Level, Relabel}
 
 -- Which action it is, without what it is about. (own)
 abbrev pub word_of_action : Action → ActionWord

@@ -2,7 +2,8 @@
 use Rattle.std.specs.Prelude.{ℕ, List, codes, if◌then◌else◌, Option, Some, None}
 use Rattle.std.specs.Str.{bytes_eq}
 use Rattle.mls_requests.specs.declared.reason.Reason.{Reason}
-use Rattle.mls_requests.specs.declared.reason.Reason.TheVariants.{Discretionary, Simple, Star, Integrity, Authority, Compatibility, Ceiling, Root, Full}
+use Rattle.mls_requests.specs.declared.reason.Reason.TheVariants.{Discretionary, Simple, Star, Integrity, Authority}
+use Rattle.mls_requests.specs.declared.reason.Reason.TheVariants.{Compatibility, Ceiling, Root, Full}
 
 -- The word of a reason. (own)
 abbrev pub reason_word : Reason → List ℕ

@@ -1,4 +1,5 @@
-//! The room that says what can be asked of the monitor and what it replies: requests, checks, replies, entries, and the words for them.
+//! The room that says what can be asked of the monitor and what it replies: requests, checks, replies, entries, and the
+//! words for them.
 #![tactic(auto)]
 
 mod action;

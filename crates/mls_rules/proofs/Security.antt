@@ -1,5 +1,6 @@
 -- Each request leaves a secure state secure.
-use Rattle.std.proofs.Common.{◌≡◌, ℕ, true, ◌&&◌}
+use Rattle.std.proofs.lemmas.Bool.Decides.{nat_tests}
+use Rattle.std.proofs.Common.{◌≡◌, ℕ, true, ◌&&◌, arith}
 use Rattle.mls_tables.specs.declared.mode.Mode.{Mode}
 use Rattle.mls_requests.specs.declared.action.Action.{Action}
 use Rattle.mls_requests.specs.declared.action.Action.TheVariants.{Get, Release, Give, Rescind, Create, Delete, SubjectLevel, ObjectLevel}
@@ -47,8 +48,8 @@ change_secure v s (Get x o) h tree known holds = get_secure v s x o h tree holds
 change_secure v s (Release x o) h tree known holds = release_secure v s x o h tree
 change_secure v s (Give x t o) h tree known holds = give_secure v s x t o h tree
 change_secure v s (Rescind x t o) h tree known holds = rescind_secure v s x t o h tree
-change_secure v s (Create p l i) h tree known (authority, (compatible, (integrity, u))) =
-    create_secure v s p l i h tree (names_parent v s p l i known) compatible integrity
+change_secure v s (Create p l i) h tree known (authority, (compatible, (integrity, (room, u)))) =
+    create_secure v s p l i h tree (names_parent v s p l i known) compatible integrity (grind (arith, nat_tests, room))
 change_secure v s (Delete o) h tree known holds = delete_secure v s o h tree
 change_secure v s (SubjectLevel l) h tree known (under, (star, u)) = subject_level_secure v s l h tree under star
 change_secure v s (ObjectLevel o l) h tree known (authority, (fits, (simple, (star, u)))) = object_level_secure v o l h tree fits simple star

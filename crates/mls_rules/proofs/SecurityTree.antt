@@ -1,18 +1,18 @@
 -- To create and to delete leaves a secure state secure.
-use Rattle.std.proofs.Common.{◌≡◌, ℕ, Bool, true, false, not, ◌&&◌, nat_eq, ◌<◌, Some, refl, sym, ap, subst, ◌∙◌, arith}
-use Rattle.std.proofs.lemmas.Bool.Decides.{nat_tests}
+use Rattle.std.proofs.Common.{◌≡◌, ℕ, Bool, true, false, not, ◌&&◌, nat_eq, ◌<◌, Some, refl, sym, ap, subst, ◌∙◌}
 use Rattle.std.specs.FinSet as set
 use Rattle.std.specs.FinMap as map
 use Rattle.mls_labels.specs.Label.{Label}
 use Rattle.mls_tables.specs.Triples.{Triple}
 use Rattle.mls_tree.specs.Tree.{is_inferior}
-use Rattle.mls_tree.proofs.Laws.{inferior_below}
+use Rattle.mls_tree.proofs.Laws.{inferior_below, next_free}
+use Rattle.mls_tables.specs.declared.limits.TheConstants.{MAX_OBJECTS}
 use Rattle.mls_requests.specs.declared.action.Action.TheVariants.{Create, Delete}
 use Rattle.mls_state.specs.State.{State, is_subject, is_active, is_above}
 use Rattle.mls_state.specs.Properties.{IsSecure, HasTree, compatible_holds}
 use Rattle.mls_rules.specs.Rules.{change}
 use Rattle.mls_state.specs.Changes.{stays}
-use Rattle.std.proofs.lemmas.Bool.{and_parts, and_from}
+use Rattle.std.proofs.lemmas.Bool.{and_parts, and_from, ne_eqb}
 use Rattle.mls_state.proofs.Laws.{kept_there, kept_passes, within-retain}
 use Rattle.mls_facts.proofs.Entries.{at_new, elsewhere, by_number, at_kept, was_there}
 use Rattle.mls_rules.proofs.LabelsSame.{simple_still, star_still, integrity_still, compatible_still}
@@ -23,8 +23,8 @@ some_same a b e = cc
 -- to create adds an object that fits its parent, and no triple
 pub create_secure : (v : State) (s p : ℕ) (l i : Label) → IsSecure v → HasTree (change v s (Create p l i)) → is_active v p ≡ true
     → is_above (Some l) (map.get v.object_label p) ≡ true → is_above (map.get v.object_integrity p) (Some i) ≡ true
-    → IsSecure (change v s (Create p l i))
-create_secure v s p l i' h tree parent compatible integrity = record {
+    → v.next < MAX_OBJECTS → IsSecure (change v s (Create p l i))
+create_secure v s p l i' h tree parent compatible integrity room = record {
   simple = λ t there. simple_still v w t refl (same_label t.1 (object t there)) (h.simple t there);
   star = λ t there. star_still v w t refl refl (same_label t.1 (object t there)) (h.star t there);
   discretionary = h.discretionary;
@@ -39,7 +39,7 @@ create_secure v s p l i' h tree parent compatible integrity = record {
   w = change v s (Create p l i')
 
   not_new : (o : ℕ) → is_active v o ≡ true → nat_eq o v.next ≡ false
-  not_new o active = let below : o < v.next = h.tree.objects.below_next o active in grind (arith, nat_tests)
+  not_new o active = ne_eqb o v.next (λ same. let no : true ≡ false = sym active ∙ ap (is_active v) same ∙ next_free v.profile (is_active v) v.next h.tree.next room in cc)
 
   same_label : (o : ℕ) → is_active v o ≡ true → map.get w.object_label o ≡ map.get v.object_label o
   same_label o active = elsewhere v.object_label v.next l o (not_new o active)
@@ -68,7 +68,7 @@ outside false c within out = refl
 -- the parent of what stays does too
 parent_stays : (v : State) (o : ℕ) → HasTree v → (c p : ℕ) → map.get v.parent c ≡ Some p → stays v o c ≡ true → stays v o p ≡ true
 parent_stays v o tree c p step kept =
-    outside (is_inferior v.parent p o) (is_inferior v.parent c o) (inferior_below v.parent (is_active v) v.next tree.objects c p o step) kept
+    outside (is_inferior v.parent p o) (is_inferior v.parent c o) (inferior_below v.parent (is_active v) tree.objects c p o step) kept
 
 -- to delete keeps some triples, and the labels of the objects that they name
 pub delete_secure : (v : State) (s o : ℕ) → IsSecure v → HasTree (change v s (Delete o)) → IsSecure (change v s (Delete o))

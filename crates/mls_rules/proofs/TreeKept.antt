@@ -30,28 +30,32 @@ pub change_tree : (v : State) (s : ℕ) (a : Action) → HasTree v → (is_subje
     → AllHold (conditions v s a) → HasTree (change v s a)
 change_tree v s (Get x o) h known holds = record {
   objects = h.objects;
+  next = h.next;
   accesses_known = Each-insert v.accesses (s, o, x) (is_known v) h.accesses_known known;
   matrix_known = h.matrix_known;
 }
 change_tree v s (Release x o) h known holds = record {
   objects = h.objects;
+  next = h.next;
   accesses_known = Each-remove v.accesses (s, o, x) (is_known v) h.accesses_known;
   matrix_known = h.matrix_known;
 }
 change_tree v s (Give x t o) h known holds = record {
   objects = h.objects;
+  next = h.next;
   accesses_known = h.accesses_known;
   matrix_known = Each-insert v.matrix (t, o, x) (is_known v) h.matrix_known ((and_parts (is_subject v s) (is_known v (t, o, x)) known).1);
 }
 change_tree v s (Rescind x t o) h known holds = record {
   objects = h.objects;
+  next = h.next;
   accesses_known = Each-remove v.accesses (t, o, x) (is_known v) h.accesses_known;
   matrix_known = Each-remove v.matrix (t, o, x) (is_known v) h.matrix_known;
 }
 change_tree v s (Create p l i) h known (authority, (compatible, (integrity, (room, u)))) =
-    grown_tree v (record { security = l; integrity = i }) p h (names_parent v s p l i known) (grind (arith, nat_tests, room))
+    grown_tree v p l i h (names_parent v s p l i known) (grind (arith, nat_tests, room))
 change_tree v s (Delete o) h known (not_root, u) = delete_tree v o h (not_zero o not_root)
-change_tree v s (SubjectLevel l) h known holds = record { objects = h.objects; accesses_known = h.accesses_known; matrix_known = h.matrix_known }
+change_tree v s (SubjectLevel l) h known holds = record { objects = h.objects; next = h.next; accesses_known = h.accesses_known; matrix_known = h.matrix_known }
 change_tree v s (ObjectLevel o l) h known holds = relabel_tree v o l h (names_object v s o l known)
 
 -- Each request leaves the objects a tree, and the triples known, also from a state that isn't secure.

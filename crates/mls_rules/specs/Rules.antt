@@ -1,20 +1,23 @@
 -- The rules: the reply to a request, and the state after it.
-use Rattle.std.specs.Prelude.{◌≡◌, ℕ, ◌+◌, Bool, true, false, not, ◌&&◌, ◌||◌, ◌==◌, nat_lt, Option, Some, None, List, [], ◌∷◌, if◌then◌else◌}
+use Rattle.std.specs.Prelude.{◌≡◌, ℕ, Bool, true, false, not, ◌&&◌, ◌||◌, ◌==◌, nat_lt, Option, Some, None, List, []}
+use Rattle.std.specs.Prelude.{◌∷◌, if◌then◌else◌}
 use Rattle.std.specs.FinSet as set
 use Rattle.std.specs.FinMap as map
 use Rattle.mls_tables.specs.declared.mode.Mode.TheVariants.{Append, Write}
 use Rattle.mls_tables.specs.declared.limits.TheConstants.{MAX_OBJECTS}
 use Rattle.mls_labels.specs.Label.{Label, has_label}
 use Rattle.mls_requests.specs.declared.action.Action.{Action}
-use Rattle.mls_requests.specs.declared.action.Action.TheVariants.{Get, Release, Give, Rescind, Create, Delete, SubjectLevel, ObjectLevel}
+use Rattle.mls_requests.specs.declared.action.Action.TheVariants.{Get, Release, Give, Rescind, Create, Delete}
+use Rattle.mls_requests.specs.declared.action.Action.TheVariants.{SubjectLevel, ObjectLevel}
 use Rattle.mls_requests.specs.declared.request.Request.{Request}
 use Rattle.mls_requests.specs.declared.reason.Reason.{Reason}
-use Rattle.mls_requests.specs.declared.reason.Reason.TheVariants.{Discretionary, Simple, Star, Integrity, Authority, Compatibility, Ceiling, Root, Full}
+use Rattle.mls_requests.specs.declared.reason.Reason.TheVariants.{Discretionary, Simple, Star, Integrity, Authority}
+use Rattle.mls_requests.specs.declared.reason.Reason.TheVariants.{Compatibility, Ceiling, Root, Full}
 use Rattle.mls_requests.specs.declared.reply.Reply.{Reply}
 use Rattle.mls_requests.specs.declared.reply.Reply.TheVariants.{Yes, Created, No, Undefined}
 use Rattle.mls_state.specs.State.{State, is_subject, is_active, is_above}
 use Rattle.mls_state.specs.Properties.{simple_holds, star_holds, discretionary_holds, integrity_holds}
-use Rattle.mls_state.specs.Changes.{with_current, with_object_label, with_objects, stays}
+use Rattle.mls_state.specs.Changes.{with_current, with_object_label, with_object, without_group}
 use Rattle.mls_rules.specs.Levels.{each_of_subject, each_of_object, label_fits}
 
 -- Whether the subject writes the parent, where there is one. (own)
@@ -22,13 +25,14 @@ abbrev pub writes_parent : State → ℕ → Option ℕ → Bool
 writes_parent v s None = false
 writes_parent v s (Some p) = set.contains v.accesses (s, p, Write)
 
--- Whether the subject controls who may access an object: it writes the object's parent; at the root it is trusted. (own, after MTR-2997's control by
--- write access to the parent)
+-- Whether the subject controls who may access an object: it writes the object's parent; at the root it is trusted.
+-- (own, after MTR-2997's control by write access to the parent)
 abbrev pub controls : State → ℕ → ℕ → Bool
 controls v s o = if o == 0 then set.contains v.trusted s else writes_parent v s (map.get v.parent o)
 
--- Whether a subject may give an object a label: it is trusted; or the object isn't the root, the subject writes its parent, and both the subject's
--- current label and the new one dominate the object's. (own, after MTR-2997's rules to change levels)
+-- Whether a subject may give an object a label: it is trusted; or the object isn't the root, the subject writes its
+-- parent, and both the subject's current label and the new one dominate the object's. (own, after MTR-2997's rules to
+-- change levels)
 abbrev pub may_relabel : State → ℕ → ℕ → Label → Bool
 may_relabel v s o l =
     set.contains v.trusted s
@@ -51,9 +55,9 @@ names_known v (ObjectLevel o l) = is_active v o && has_label v.security l
 abbrev pub is_defined : State → Request → Bool
 is_defined v r = is_subject v r.subject && names_known v r.action
 
--- Conditions of an action, in the order in which they are tried, each with the reason of the denial where it fails. (get and release: MTR-2997, rules
--- to get and to release access, with MTR-3153's strict integrity; the others own, after MTR-2997's rules of these names; the order and the reasons
--- own)
+-- Conditions of an action, in the order in which they are tried, each with the reason of the denial where it fails.
+-- (get and release: MTR-2997, rules to get and to release access, with MTR-3153's strict integrity; the others own,
+-- after MTR-2997's rules of these names; the order and the reasons own)
 abbrev pub conditions : State → ℕ → Action → List (Reason × Bool)
 conditions v s (Get x o) =
     (Discretionary, discretionary_holds v (s, o, x))
@@ -72,7 +76,8 @@ conditions v s (Create p l i) =
     ∷ []
 conditions v s (Delete o) = (Root, not (o == 0)) ∷ (Authority, writes_parent v s (map.get v.parent o)) ∷ []
 conditions v s (SubjectLevel l) =
-    (Ceiling, is_above (map.get v.maximum s) (Some l)) ∷ (Star, each_of_subject v s (star_holds (with_current v s l))) ∷ []
+    (Ceiling, is_above (map.get v.maximum s) (Some l))
+    ∷ (Star, each_of_subject v s (star_holds (with_current v s l))) ∷ []
 conditions v s (ObjectLevel o l) =
     (Authority, may_relabel v s o l)
     ∷ (Compatibility, label_fits v o l)
@@ -90,7 +95,8 @@ abbrev pub first_failing : List (Reason × Bool) → Option Reason
 first_failing [] = None
 first_failing ((reason, holds) ∷ rest) = if holds then first_failing rest else Some reason
 
--- The reply to an action that is granted; a creation tells the new object's number. (MTR-2997, decision yes; the number own)
+-- The reply to an action that is granted; a creation tells the new object's number. (MTR-2997, decision yes; the number
+-- own)
 abbrev pub granted : State → Action → Reply
 granted v (Get x o) = Yes
 granted v (Release x o) = Yes
@@ -110,24 +116,21 @@ reply_unless (Some reason) grant = No reason
 abbrev pub verdict : State → ℕ → Action → Reply
 verdict v s action = reply_unless (first_failing (conditions v s action)) (granted v action)
 
--- The reply: undefined outside the domain, else a denial with the first condition that fails, else the grant. (MTR-2997, decisions yes, no and ?)
+-- The reply: undefined outside the domain, else a denial with the first condition that fails, else the grant.
+-- (MTR-2997, decisions yes, no and ?)
 abbrev pub reply : State → Request → Reply
 reply v r = if is_defined v r then verdict v r.subject r.action else Undefined
 
--- Change: what a granted action makes of the state. All that isn't named stays the same. (get and release: MTR-2997, rules to get and to release
--- access; the others own, after its rules of these names)
+-- Change: what a granted action makes of the state. All that isn't named stays the same. (get and release: MTR-2997,
+-- rules to get and to release access; the others own, after its rules of these names)
 abbrev pub change : State → ℕ → Action → State
 change v s (Get x o) = record v { accesses = set.insert v.accesses (s, o, x) }
 change v s (Release x o) = record v { accesses = set.remove v.accesses (s, o, x) }
 change v s (Give x t o) = record v { matrix = set.insert v.matrix (t, o, x) }
-change v s (Rescind x t o) = record v { matrix = set.remove v.matrix (t, o, x); accesses = set.remove v.accesses (t, o, x) }
-change v s (Create p l i) = record v {
-  object_label = map.insert v.object_label v.next l;
-  object_integrity = map.insert v.object_integrity v.next i;
-  parent = map.insert v.parent v.next p;
-  next = v.next + 1;
-}
-change v s (Delete o) = with_objects v (stays v o)
+change v s (Rescind x t o) =
+    record v { matrix = set.remove v.matrix (t, o, x); accesses = set.remove v.accesses (t, o, x) }
+change v s (Create p l i) = with_object v p l i
+change v s (Delete o) = without_group v o
 change v s (SubjectLevel l) = with_current v s l
 change v s (ObjectLevel o l) = with_object_label v o l
 

@@ -2,7 +2,8 @@
 ghost use Rattle.std.specs.Prelude.{◌≡◌, IsTrue, IfOk, IsOk, OnOk, OnErr};
 ghost use Rattle.mls_state.specs.State.{is_subject};
 ghost use Rattle.mls_state.specs.Properties.{IsSecure};
-ghost use Rattle.mls_rules.specs.Rules.{names_known, conditions, AllHold, reply, after, change, takes_no_room, needs_no_room};
+ghost use Rattle.mls_rules.specs.Rules.{names_known, conditions, AllHold, reply, after, change, takes_no_room};
+ghost use Rattle.mls_rules.specs.Rules.{needs_no_room};
 
 use crate::deciding::decide;
 use mls_requests::{Action, Reply, Request};
@@ -21,8 +22,8 @@ fn change_in_place<A: Allocator>(state: &mut State<A>, s: SubjectId, action: Act
         Action::Release(x, o) => {
             state.remove_access(s, o, x);
         }
-        Action::Give(x, t, o) => state.permit(t, o, x),
-        Action::Rescind(x, t, o) => state.forbid(t, o, x),
+        Action::Give(x, t, o) => state.give(t, o, x),
+        Action::Rescind(x, t, o) => state.rescind(t, o, x),
         Action::SubjectLevel(l) => state.set_current(s, l),
         Action::ObjectLevel(o, l) => state.set_object_label(o, l),
         Action::Get(_, _) | Action::Create(_, _, _) | Action::Delete(_) => {}
@@ -78,8 +79,9 @@ fn change_where_granted<A: Allocator>(
     Ok(())
 }
 
-/// Changes the state by a request to which `decide` has replied so, in this state. From a secure state it leaves a secure
-/// state. It decides nothing anew: who compares the reply with another one first makes no change where they differ.
+/// Changes the state by a request to which `decide` has replied so, in this state. From a secure state it leaves a
+/// secure state. It decides nothing anew: who compares the reply with another one first makes no change where they
+/// differ.
 ///
 /// # Errors
 /// `AllocError` where an allocation failed; the state is then as before. Where nothing is granted it doesn't allocate,

@@ -37,8 +37,7 @@ fn cell_meets<A: Allocator, D: Demand>(
 fn subject_meets<A: Allocator, D: Demand>(state: &State<A>, s: SubjectId, demand: D) -> bool
     ensures { result ≡ each_of_subject state.now s (D.asked demand state.now) }
 {
-    // that accesses name known subjects
-    let _ = state.next();
+    state.agrees();
     if !state.is_subject(s) {
         return true;
     }
@@ -54,8 +53,7 @@ fn subject_meets<A: Allocator, D: Demand>(state: &State<A>, s: SubjectId, demand
 fn object_meets<A: Allocator, D: Demand>(state: &State<A>, o: ObjectId, demand: D) -> bool
     ensures { result ≡ each_of_object state.now o (D.asked demand state.now) }
 {
-    // that accesses name active objects
-    let _ = state.next();
+    state.agrees();
     if !state.is_active(o) {
         return true;
     }

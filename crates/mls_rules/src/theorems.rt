@@ -7,8 +7,8 @@ ghost use Rattle.mls_state.specs.State.{State};
 ghost use Rattle.mls_state.specs.Properties.{HasTree};
 ghost use Rattle.mls_rules.specs.Levels.{each_of_subject, each_of_object, each_child};
 
-/// The tests by which the rules look at all accesses of a subject, at all accesses to an object and at all children of an
-/// object hold exactly where each of these passes.
+/// The tests by which the rules look at all accesses of a subject, at all accesses to an object and at all children of
+/// an object hold exactly where each of these passes.
 pub fn tests_are_of_all()
     ensures subject { (v : State) (s : ℕ) (passes : Triple → Bool) → (IsTrue (each_of_subject v s passes) ↔
         ((t : Triple) → IsTrue (set.contains v.accesses t) → t.0 ≡ s → IsTrue (passes t))) }

@@ -25,7 +25,8 @@ AreFeedsOf names [] [] = Unit {0}
 AreFeedsOf names (script ∷ scripts) (feed ∷ feeds) = IsFeedOf names script feed × AreFeedsOf names scripts feeds
 AreFeedsOf names scripts feeds = ⊥
 
--- What feeds have to say that were run in threads, the first of these as session k: each its heading and its answers. (own)
+-- What feeds have to say that were run in threads, the first of these as session k: each its heading and its answers.
+-- (own)
 unfoldable pub fed_texts : ℕ → List ScriptFeed → List ℕ
 fed_texts k [] = []
 fed_texts k (f ∷ feeds) = heading k ++ f.text ++ fed_texts (k + 1) feeds
@@ -35,10 +36,13 @@ abbrev pub NoneFailed : List ScriptFeed → Type 0
 NoneFailed [] = Unit {0}
 NoneFailed (f ∷ feeds) = (f.failed ≡ false) × NoneFailed feeds
 
--- What a run of feeds in threads leaves over a start: a journal which is legal from it, with entries of the feeds' sessions alone; each feed was asked to
--- its end and told as the journal has it; what is printed is what they have to say, in their order, and how many entries the journal has; and the
--- journal's text is there just where it was asked for. (own)
+-- What a run of feeds in threads leaves over a start: a journal which is legal from it, with entries of the feeds'
+-- sessions alone; each feed was asked to its end and told as the journal has it; what is printed is what they have to
+-- say, in their order, and how many entries the journal has; and the journal's text is there just where it was asked
+-- for. (own)
 abbrev pub LeavesFeeds : State → List ScriptFeed → Bool → List ℕ → Option (List ℕ) → Type 0
 LeavesFeeds start feeds asked output journal =
-    (entries : List Entry) × (left : List ScriptFeed) × IsLegal start entries × AllBelow (length feeds) entries × AllFed Gives GivesAhead Takes start [] entries 0 feeds left
-    × NoneFailed left × (output ≡ fed_texts 0 left ++ ending (length entries)) × (journal ≡ (if asked then Some (journal_text entries) else None))
+    (entries : List Entry) × (left : List ScriptFeed) × IsLegal start entries × AllBelow (length feeds) entries
+    × AllFed Gives GivesAhead Takes start [] entries 0 feeds left
+    × NoneFailed left × (output ≡ fed_texts 0 left ++ ending (length entries))
+    × (journal ≡ (if asked then Some (journal_text entries) else None))

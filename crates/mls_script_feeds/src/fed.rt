@@ -1,5 +1,6 @@
 //! The feeds of a run in threads, and what they print.
-ghost use Rattle.std.specs.Prelude.{◌≡◌, ◌≤◌, ◌++◌, length, map, vec_len, string_bytes, is_some, false, IfOk, IfSome, OnOk};
+ghost use Rattle.std.specs.Prelude.{◌≡◌, ◌≤◌, ◌++◌, length, map, vec_len, string_bytes, is_some, false, IfOk, IfSome};
+ghost use Rattle.std.specs.Prelude.{OnOk};
 ghost use Rattle.mls_feeds.specs.declared.feed.Stage.TheVariants as stage;
 ghost use Rattle.mls_monitor.specs.Journal.{IsLegal};
 ghost use Rattle.mls_feeds.specs.Feeds.{AllAt};
@@ -65,7 +66,8 @@ fn print_feeds(
     output: &mut Vec<u8>,
 ) -> Result<(), AllocError>
     requires { length feeds.now ≤ MAX_SCRIPTS }
-    ensures { OnOk result (output.new.items ≡ output.old.items ++ fed_texts 0 feeds.now ++ ending (length monitor.now.entries)) }
+    ensures { OnOk result
+        (output.new.items ≡ output.old.items ++ fed_texts 0 feeds.now ++ ending (length monitor.now.entries)) }
 {
     push_texts(feeds, output)?;
     push_ending(alloc, monitor, output)
@@ -98,8 +100,10 @@ pub fn done_text(
     journal: bool,
 ) -> Result<RunText, AllocError>
     requires { length feeds.now ≤ MAX_SCRIPTS }
-    ensures journal { IfOk result (λ run. IfSome run.journal (λ text. string_bytes text ≡ journal_text monitor.now.entries)) }
-    ensures output { IfOk result (λ run. string_bytes run.output ≡ fed_texts 0 feeds.now ++ ending (length monitor.now.entries)) }
+    ensures journal { IfOk result
+        (λ run. IfSome run.journal (λ text. string_bytes text ≡ journal_text monitor.now.entries)) }
+    ensures output { IfOk result
+        (λ run. string_bytes run.output ≡ fed_texts 0 feeds.now ++ ending (length monitor.now.entries)) }
     ensures asked { IfOk result (λ run. is_some run.journal ≡ journal) }
     ensures whole { OnOk result (NoneFailed feeds.now) }
     ensures legal { IsLegal monitor.now.start monitor.now.entries }

@@ -73,7 +73,8 @@ module _ (names : Names) (session : ℕ) where
 
   pub serves_read : (given left next held holds : Option (List ℕ)) (before after : Standing) (kept : List ℕ) (room : ℕ)
       → SoFar given left held holds before after kept room → Keeps left next → Ends names session given next held holds before after (Err Read)
-  serves_read given left next held holds before after kept room s k = (s.taken, Consumes-kept given left next s.taken s.consumed k, s.answered)
+  serves_read given left next held holds before after kept room s k =
+      record { taken = s.taken; consumed = Consumes-kept given left next s.taken s.consumed k; few = omega (arith, s.counted); answered = s.answered }
 
   -- a fault, by what was read and the lines that were to be answered
   fails_due : (given next held holds : Option (List ℕ)) (before after : Standing) (fault : ServeFault) (taken : List ℕ) (lines : List (List ℕ)) → Consumes given next taken → Due next taken lines
@@ -202,7 +203,7 @@ module _ (names : Names) (session : ℕ) where
   -- whatever the result, the start stays
   pub ends_start : (given left held holds : Option (List ℕ)) (before after : Standing) (result : Result ℕ ServeFault) → Ends names session given left held holds before after result → after.start ≡ before.start
   ends_start given left held holds before after (Ok n) (script, is, (fits, s, added)) = ap (λ (t : Standing). t.start) s.stands ∙ lines_start before (lines_of script)
-  ends_start given left held holds before after (Err Read) (taken, consumed, s) = ap (λ (t : Standing). t.start) s.stands ∙ lines_start before (closed_lines taken)
+  ends_start given left held holds before after (Err Read) s = ap (λ (t : Standing). t.start) s.answered.stands ∙ lines_start before (closed_lines s.taken)
   ends_start given left held holds before after (Err Write) s = fails_start held holds before after s.lines Write s.holds
   ends_start given left held holds before after (Err Memory) s = fails_start held holds before after s.lines Memory s.holds
   ends_start given left held holds before after (Err TooLong) (script, is, (over, s)) = ap (λ (t : Standing). t.start) s.stands ∙ lines_start before (closed_lines (take 1048576 script))

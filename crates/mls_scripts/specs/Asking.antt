@@ -15,5 +15,6 @@ asking q = (option_map (λ name. name.now) q.bind, q.ask)
 -- Where a script halts in which this stands next, and these lines after it. (own)
 abbrev pub halt_at : Names → List (List ℕ × ℕ) → Next → List (List ℕ) → Halt
 halt_at names vars End lines = record { text = []; asks = None; rest = lines }
-halt_at names vars (Fault fault) lines = halt_by None (answer_bytes (answer.Fault fault)) lines (next_of names vars lines)
+halt_at names vars (Fault fault) lines =
+    halt_by None (answer_bytes (answer.Fault fault)) lines (next_of names vars lines)
 halt_at names vars (Asks q) lines = record { text = []; asks = Some (asking q); rest = lines }

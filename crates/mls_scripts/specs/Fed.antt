@@ -22,14 +22,16 @@ pub record GivesAhead (old : ScriptFeed) (given : Ask) (new : ScriptFeed) : Type
   pub names : new.names ≡ old.names
   pub vars : new.vars ≡ old.vars
 
--- What a feed makes of an answer: the script hears it, unless an allocation failed, which the feed then says ever after. (own)
+-- What a feed makes of an answer: the script hears it, unless an allocation failed, which the feed then says ever
+-- after. (own)
 pub record Takes (old : ScriptFeed) (answer : Told) (new : ScriptFeed) : Type 0 where
   pub step : new.failed ≡ false → Hears old answer new
   pub kept : old.failed ≡ true → new.failed ≡ true
   pub names : new.names ≡ old.names
 
--- A script's lines, where these variables are bound, ask this and are told that, one after the other, and ask nothing more; this text is what
--- they print: the answers to what they ask, and to the lines between that ask nothing, in their order. (own)
+-- A script's lines, where these variables are bound, ask this and are told that, one after the other, and ask nothing
+-- more; this text is what they print: the answers to what they ask, and to the lines between that ask nothing, in their
+-- order. (own)
 abbrev pub Prints : Names → List (List ℕ × ℕ) → List (List ℕ) → List Exchange → List ℕ → Type 0
 Prints names vars lines [] text = ((next_of names vars lines).asks ≡ None) × (text ≡ (next_of names vars lines).text)
 Prints names vars lines (x ∷ xs) text =

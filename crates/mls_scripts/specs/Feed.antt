@@ -12,8 +12,9 @@ use Rattle.mls_scripts.specs.Lines.{lines_of}
 use Rattle.mls_scripts.specs.Script.{answer_bytes}
 use Rattle.mls_scripts.specs.Halves.{Asking, next_of, heard, vars_told}
 
--- A script that is fed: its names, the bytes that it hasn't come to, the variables bound so far, the answers so far, what it asked and waits for, the
--- variable that the line of the last of these binds, where it stands as a feed, and whether memory ran out. (own)
+-- A script that is fed: its names, the bytes that it hasn't come to, the variables bound so far, the answers so far,
+-- what it asked and waits for, the variable that the line of the last of these binds, where it stands as a feed, and
+-- whether memory ran out. (own)
 pub record ScriptFeed : Type 0 where
   pub names : Names
   pub rest : List ℕ
@@ -36,7 +37,8 @@ pub record GoesOn (old : ScriptFeed) (given : Option Ask) (new : ScriptFeed) : T
   pub text : new.text ≡ old.text ++ (next_of old.names old.vars (lines_of old.rest)).text
   pub rest : lines_of new.rest ≡ (next_of old.names old.vars (lines_of old.rest)).rest
 
--- The first half of the step after that, ahead of an answer: what was asked binds no variable, and no line on the way has an answer. (own)
+-- The first half of the step after that, ahead of an answer: what was asked binds no variable, and no line on the way
+-- has an answer. (own)
 pub record GoesAhead (old : ScriptFeed) (given : Ask) (new : ScriptFeed) : Type 0 where
   pub unbound : old.binds ≡ None
   pub asks : (next_of old.names old.vars (lines_of old.rest)).asks ≡ Some (new.binds, given)
@@ -72,14 +74,35 @@ pub record Hears (old : ScriptFeed) (answer : Told) (new : ScriptFeed) : Type 0 
 
 -- The feed asks nothing more, and waits for nothing. (own)
 abbrev pub ended : ScriptFeed → ScriptFeed
-ended f = record { names = f.names; rest = f.rest; vars = f.vars; text = f.text; asked = []; binds = f.binds; stage = Done; failed = f.failed }
+ended f =
+    record {
+      names = f.names;
+      rest = f.rest;
+      vars = f.vars;
+      text = f.text;
+      asked = [];
+      binds = f.binds;
+      stage = Done;
+      failed = f.failed;
+    }
 
 -- A feed is stored as the pairs of its parts. (own)
 abbrev pub feed_code : Coded ScriptFeed
 feed_code =
     code_by ((Names × (List ℕ × (List (List ℕ × ℕ) × List ℕ))) × ((List Ask × Option (List ℕ)) × (Stage × Bool)))
-    (coded× (coded× names_code (coded× (coded_list coded_ℕ) (coded× (coded_list (coded× (coded_list coded_ℕ) coded_ℕ)) (coded_list coded_ℕ))))
-    (coded× (coded× (coded_list ask.the_row.coded) (coded_option (coded_list coded_ℕ))) (coded× stage.the_row.coded coded_bool)))
+    (coded× (coded× names_code
+    (coded× (coded_list coded_ℕ) (coded× (coded_list (coded× (coded_list coded_ℕ) coded_ℕ)) (coded_list coded_ℕ))))
+    (coded× (coded× (coded_list ask.the_row.coded) (coded_option (coded_list coded_ℕ)))
+    (coded× stage.the_row.coded coded_bool)))
     (λ f. ((f.names, (f.rest, (f.vars, f.text))), ((f.asked, f.binds), (f.stage, f.failed))))
-    (λ p. record { names = p.0.0; rest = p.0.1.0; vars = p.0.1.1.0; text = p.0.1.1.1; asked = p.1.0.0; binds = p.1.0.1; stage = p.1.1.0; failed = p.1.1.1 })
+    (λ p. record {
+      names = p.0.0;
+      rest = p.0.1.0;
+      vars = p.0.1.1.0;
+      text = p.0.1.1.1;
+      asked = p.1.0.0;
+      binds = p.1.0.1;
+      stage = p.1.1.0;
+      failed = p.1.1.1;
+    })
     (λ _. refl)

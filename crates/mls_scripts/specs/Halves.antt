@@ -1,4 +1,5 @@
--- A script's step in two halves: what it asks next, and what it makes of the answer. The monitor's own step stands between them.
+-- A script's step in two halves: what it asks next, and what it makes of the answer. The monitor's own step stands
+-- between them.
 use Rattle.std.specs.Prelude.{◌≡◌, ℕ, List, [], ◌∷◌, ◌++◌, Option, Some, None, Result, Ok, Err}
 use Rattle.std.specs.FinSet as set
 use Rattle.mls_requests.specs.declared.ask.Ask.{Ask}
@@ -11,7 +12,8 @@ use Rattle.mls_feeds.specs.declared.feed.Answer.{Answer as Told}
 use Rattle.mls_feeds.specs.declared.feed.Answer.TheVariants as told
 use Rattle.mls_scripts.specs.declared.answer.Answer.{Answer}
 use Rattle.mls_scripts.specs.declared.answer.Answer.TheVariants.{Nothing, Fault, Held, Replied}
-use Rattle.mls_scripts.specs.Script.{Standing, state_at, entry_for, answer_bytes, vars_after, left_by, answers, after_lines}
+use Rattle.mls_scripts.specs.Script.{Standing, state_at, entry_for, answer_bytes, vars_after, left_by, answers}
+use Rattle.mls_scripts.specs.Script.{after_lines}
 
 -- What a line asks, and the variable that it binds, where it has one. (own)
 abbrev pub Asking : Type 0
@@ -29,8 +31,8 @@ aside (Err fault) = answer_bytes (Fault fault)
 aside (Ok Blank) = answer_bytes Nothing
 aside (Ok (Asks bind a)) = []
 
--- Where a script halts: the answers to the lines on the way, which ask nothing; what is asked, where the script doesn't end; and the lines
--- after that. (own)
+-- Where a script halts: the answers to the lines on the way, which ask nothing; what is asked, where the script doesn't
+-- end; and the lines after that. (own)
 pub record Halt : Type 0 where
   pub text : List ℕ
   pub asks : Option Asking
@@ -44,7 +46,8 @@ halt_by (Some q) text lines later = record { text = text; asks = Some q; rest = 
 -- The first half: where a script with these variables halts from these lines on. (own)
 unfoldable pub next_of : Names → List (List ℕ × ℕ) → List (List ℕ) → Halt
 next_of names vars [] = record { text = []; asks = None; rest = [] }
-next_of names vars (line ∷ lines) = halt_by (ask_in (line_of names vars line)) (aside (line_of names vars line)) lines (next_of names vars lines)
+next_of names vars (line ∷ lines) =
+    halt_by (ask_in (line_of names vars line)) (aside (line_of names vars line)) lines (next_of names vars lines)
 
 -- What an answer is to an ask: one of another kind than the ask is none. (own)
 abbrev pub heard_by : Ask → Told → Answer
@@ -74,10 +77,12 @@ told_by session s (Check t o x) = told.Held (set.contains (state_at s).accesses 
 abbrev pub after_ask : ℕ → Standing → Asking → Standing
 after_ask session s q = left_by session s (Ok (Asks q.0 q.1))
 
--- A script that halts so, and asks this, is answered by its halves: the answers on the way, that to the ask, and those to the lines after
--- it, where the variables are those that the answer leaves. (own)
-pub record ByHalves (names : Names) (session : ℕ) (s : Standing) (lines : List (List ℕ)) (h : Halt) (q : Asking) : Type 0 where
+-- A script that halts so, and asks this, is answered by its halves: the answers on the way, that to the ask, and those
+-- to the lines after it, where the variables are those that the answer leaves. (own)
+pub record ByHalves (names : Names) (session : ℕ) (s : Standing) (lines : List (List ℕ)) (h : Halt)
+    (q : Asking) : Type 0 where
   pub text : answers names session s lines
-      ≡ h.text ++ answer_bytes (heard_by q.1 (told_by session s q.1)) ++ answers names session (after_ask session s q) h.rest
+      ≡ h.text ++ answer_bytes (heard_by q.1 (told_by session s q.1))
+      ++ answers names session (after_ask session s q) h.rest
   pub stands : after_lines names session s lines ≡ after_lines names session (after_ask session s q) h.rest
   pub vars : (after_ask session s q).vars ≡ vars_told s.vars q.0 (heard_by q.1 (told_by session s q.1))

@@ -1,5 +1,6 @@
 -- What the lines of a script are answered, and what they leave.
-use Rattle.std.specs.Prelude.{ℕ, List, [], ◌∷◌, ◌++◌, length, codes, Bool, true, false, Option, Some, None, Result, Ok, Err}
+use Rattle.std.specs.Prelude.{ℕ, List, [], ◌∷◌, ◌++◌, length, codes, Bool, true, false, Option, Some, None, Result, Ok}
+use Rattle.std.specs.Prelude.{Err}
 use Rattle.std.specs.FinSet as set
 use Rattle.mls_state.specs.State.{State}
 use Rattle.mls_rules.specs.Rules.{reply}
@@ -47,7 +48,8 @@ state_at s = fold s.start s.entries
 
 -- The entry that a request adds. (own)
 abbrev pub entry_for : ℕ → Standing → Request → Entry
-entry_for session s r = record { number = length s.entries; session = session; reply = reply (state_at s) r; request = r }
+entry_for session s r =
+    record { number = length s.entries; session = session; reply = reply (state_at s) r; request = r }
 
 -- What is answered to what a line says. (own)
 abbrev pub said_to : Standing → Result LineView LineFault → Answer
@@ -56,7 +58,8 @@ said_to s (Ok Blank) = Nothing
 said_to s (Ok (Asks bind (Check t o x))) = Held (set.contains (state_at s).accesses (t, o, x))
 said_to s (Ok (Asks bind (Submit r))) = Replied (reply (state_at s) r)
 
--- The variables after a request was replied to: where its line binds one and an object was made, that one is bound to it. (own)
+-- The variables after a request was replied to: where its line binds one and an object was made, that one is bound to
+-- it. (own)
 abbrev pub vars_after : List (List ℕ × ℕ) → Option (List ℕ) → Reply → List (List ℕ × ℕ)
 vars_after vars None r = vars
 vars_after vars (Some name) Yes = vars
@@ -64,12 +67,19 @@ vars_after vars (Some name) (Created o) = with_binding vars name o
 vars_after vars (Some name) (No reason) = vars
 vars_after vars (Some name) Undefined = vars
 
--- What a line leaves: a request its entry, and its variable bound where it has one and made an object; all else nothing. (own)
+-- What a line leaves: a request its entry, and its variable bound where it has one and made an object; all else
+-- nothing. (own)
 abbrev pub left_by : ℕ → Standing → Result LineView LineFault → Standing
 left_by session s (Err fault) = s
 left_by session s (Ok Blank) = s
 left_by session s (Ok (Asks bind (Check t o x))) = s
-left_by session s (Ok (Asks bind (Submit r))) = record { vars = vars_after s.vars bind (reply (state_at s) r); start = s.start; entries = s.entries ++ entry_for session s r ∷ [] }
+left_by session s (Ok (Asks bind (Submit r))) =
+    record {
+      vars = vars_after s.vars bind (reply (state_at s) r);
+      start = s.start;
+      entries = s.entries
+          ++ entry_for session s r ∷ [];
+    }
 
 -- The bytes of the answer to a line. (own)
 unfoldable pub answer_to : Names → Standing → List ℕ → List ℕ
@@ -87,4 +97,5 @@ after_lines names session s (line ∷ lines) = after_lines names session (after_
 -- The answers to lines, in their order. (own)
 unfoldable pub answers : Names → ℕ → Standing → List (List ℕ) → List ℕ
 answers names session s [] = []
-answers names session s (line ∷ lines) = answer_to names s line ++ answers names session (after_line names session s line) lines
+answers names session s (line ∷ lines) = answer_to names s line
+    ++ answers names session (after_line names session s line) lines

@@ -64,8 +64,8 @@ impl<N: Allocator> Script<'_, N> {
         }
     }
 
-    /// Asks a request, and binds the variable of its line, where it has one, to the object that it made. The room for the variable is
-    /// made first, so that an object that was made is always bound.
+    /// Asks a request, and binds the variable of its line, where it has one, to the object that it made. The room for
+    /// the variable is made first, so that an object that was made is always bound.
     ///
     /// # Errors
     /// `AllocError` where an allocation failed: the variables and the monitor stay as they were.
@@ -77,7 +77,8 @@ impl<N: Allocator> Script<'_, N> {
         request: Request,
     ) -> Result<Reply, AllocError>
         ensures reply { IfOk result (λ r. r ≡ reply (state_of monitor.old) request) }
-        ensures bound { IfOk result (λ r. vars.new.bound ≡ vars_after vars.old.bound (option_map (λ name. name.now) bind.entry) r) }
+        ensures bound { IfOk result
+            (λ r. vars.new.bound ≡ vars_after vars.old.bound (option_map (λ name. name.now) bind.entry) r) }
         ensures start { monitor.new.start ≡ monitor.old.start }
         ensures entries { OnOk result (monitor.new.entries
             ≡ monitor.old.entries ++ entry_for self.now.session (standing_of vars.old.bound monitor.old) request ∷ []) }

@@ -16,8 +16,8 @@ use std::alloc::{AllocError, Global};
 use std::collections::VecDeque;
 use std::marker::Model;
 
-/// A script that is fed to a session: over the names of its start it gives what its lines ask, and keeps the answers, those to lines that
-/// ask nothing among them. Each variable that a line binds is bound by what the script was told.
+/// A script that is fed to a session: over the names of its start it gives what its lines ask, and keeps the answers,
+/// those to lines that ask nothing among them. Each variable that a line binds is bound by what the script was told.
 #[derive(Drop)]
 pub struct ScriptFeed<'a> {
     names: &'a Names,
@@ -26,7 +26,8 @@ pub struct ScriptFeed<'a> {
     text: Vec<u8>,
     /// What was asked and isn't answered yet.
     asked: VecDeque<Ask>,
-    /// The room for the variable that the line of the last of these binds, where it has one. Those of the others bind none.
+    /// The room for the variable that the line of the last of these binds, where it has one. Those of the others bind
+    /// none.
     room: Option<String>,
     stage: Stage,
     has_failed: bool,
@@ -90,14 +91,21 @@ impl<'a> ScriptFeed<'a> {
 
     /// Goes on to the next ask, and makes the room for the variable that its line binds.
     fn go_on(&mut self) -> Result<Option<Ask>, AllocError>
-        ensures text { OnOk result (self.new.text ≡ self.old.text ++ (next_of self.old.names self.old.vars (lines_of self.old.rest)).text) }
-        ensures asks { IfOk result (λ given. asking_of given self.new.binds ≡ (next_of self.old.names self.old.vars (lines_of self.old.rest)).asks) }
-        ensures rest { OnOk result (lines_of self.new.rest ≡ (next_of self.old.names self.old.vars (lines_of self.old.rest)).rest) }
+        ensures text { OnOk result
+            (self.new.text ≡ self.old.text ++ (next_of self.old.names self.old.vars (lines_of self.old.rest)).text) }
+        ensures asks { IfOk result
+            (λ given. asking_of given self.new.binds
+            ≡ (next_of self.old.names self.old.vars (lines_of self.old.rest)).asks) }
+        ensures rest { OnOk result
+            (lines_of self.new.rest ≡ (next_of self.old.names self.old.vars (lines_of self.old.rest)).rest) }
         ensures asked { IfOk result (λ given. self.new.asked ≡ option_to_list given) }
-        ensures some { IfOk result (λ given. IfSome given (λ _. (length self.new.rest < length self.old.rest) × (self.new.stage ≡ stage.Waiting))) }
+        ensures some { IfOk result
+            (λ given. IfSome given
+            (λ _. (length self.new.rest < length self.old.rest) × (self.new.stage ≡ stage.Waiting))) }
         ensures none { IfOk result (λ given. IfNone given (self.new.stage ≡ stage.Done)) }
         ensures left { length self.new.rest ≤ length self.old.rest }
-        ensures same { (self.new.names ≡ self.old.names) × (self.new.vars ≡ self.old.vars) × (self.new.failed ≡ self.old.failed) }
+        ensures same { (self.new.names ≡ self.old.names) × (self.new.vars ≡ self.old.vars)
+            × (self.new.failed ≡ self.old.failed) }
     {
         self.room = None;
         self.asked.clear();

@@ -30,8 +30,8 @@ pub(crate) fn push_answer(text: &mut Vec<u8>, answer: Answer) -> Result<(), Allo
     }
 }
 
-/// Makes the room that binding a line's variable needs, where it has one. That is done before the line is asked, so that an object that
-/// was made is always bound.
+/// Makes the room that binding a line's variable needs, where it has one. That is done before the line is asked, so
+/// that an object that was made is always bound.
 ///
 /// # Errors
 /// `AllocError` where an allocation failed. All variables stay as they were on both results.
@@ -52,7 +52,8 @@ pub(crate) fn make_room<V: Allocator + Copy>(
     }
 }
 
-/// Binds the variable of a line, where it has one, to the object that its request made, where it made one. It doesn't allocate.
+/// Binds the variable of a line, where it has one, to the object that its request made, where it made one. It doesn't
+/// allocate.
 pub(crate) fn bind_reply<V: Allocator>(vars: &mut Vars<V>, room: Option<String<V>>, reply: Reply)
     requires { IfSome room (λ _. 0 < vars.old.room) }
     ensures { vars.new.bound ≡ vars_after vars.old.bound (option_map string_bytes room) reply }
@@ -62,7 +63,8 @@ pub(crate) fn bind_reply<V: Allocator>(vars: &mut Vars<V>, room: Option<String<V
     }
 }
 
-/// Binds the variable of a line, where it has one, to the object that its answer tells of, where it tells of one. It doesn't allocate.
+/// Binds the variable of a line, where it has one, to the object that its answer tells of, where it tells of one. It
+/// doesn't allocate.
 pub(crate) fn bind_heard<V: Allocator>(vars: &mut Vars<V>, room: Option<String<V>>, answer: &Answer)
     requires { IfSome room (λ _. 0 < vars.old.room) }
     ensures { vars.new.bound ≡ vars_told vars.old.bound (option_map string_bytes room) answer.now }

@@ -1,4 +1,5 @@
-//! What a script does with a monitor: its lines are cut out, answered, and the answers written; and what it asks when it is fed.
+//! What a script does with a monitor: its lines are cut out, answered, and the answers written; and what it asks when
+//! it is fed.
 #![tactic(auto)]
 
 mod answer;

@@ -32,7 +32,8 @@ pub struct Seen<'a> {
 /// Looks for the next line that isn't blank. It doesn't allocate.
 #[tactic(auto, using(crate::proofs::HalfSteps::past_blank))]
 pub(crate) fn look<'a>(names: &Names, vars: &Vars, bytes: &'a [u8]) -> Seen<'a>
-    ensures next { next_of names.now vars.now.bound (lines_of bytes.now) ≡ halt_at names.now vars.now.bound result.next (lines_of result.rest.now) }
+    ensures next { next_of names.now vars.now.bound (lines_of bytes.now)
+        ≡ halt_at names.now vars.now.bound result.next (lines_of result.rest.now) }
     ensures left { length result.rest.now ≤ length bytes.now }
     ensures less { result.next ≢ Next.End → length result.rest.now < length bytes.now }
 {
@@ -77,9 +78,12 @@ pub(crate) fn go_over<'a>(
     bytes: &'a [u8],
     text: &mut Vec<u8>,
 ) -> Result<Halt<'a>, AllocError>
-    ensures text { OnOk result (text.new.items ≡ text.old.items ++ (next_of names.now vars.now.bound (lines_of bytes.now)).text) }
-    ensures asks { IfOk result (λ h. option_map asking h.asks ≡ (next_of names.now vars.now.bound (lines_of bytes.now)).asks) }
-    ensures rest { IfOk result (λ h. lines_of h.rest.now ≡ (next_of names.now vars.now.bound (lines_of bytes.now)).rest) }
+    ensures text { OnOk result
+        (text.new.items ≡ text.old.items ++ (next_of names.now vars.now.bound (lines_of bytes.now)).text) }
+    ensures asks { IfOk result
+        (λ h. option_map asking h.asks ≡ (next_of names.now vars.now.bound (lines_of bytes.now)).asks) }
+    ensures rest { IfOk result
+        (λ h. lines_of h.rest.now ≡ (next_of names.now vars.now.bound (lines_of bytes.now)).rest) }
     ensures left { IfOk result (λ h. length h.rest.now ≤ length bytes.now) }
     ensures less { IfOk result (λ h. IfSome h.asks (λ _. length h.rest.now < length bytes.now)) }
 {

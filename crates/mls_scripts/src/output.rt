@@ -55,7 +55,8 @@ fn write_line<W: Write>(writer: &mut W, text: &str) -> Result<(), ServeFault>
     write_out(writer, &line)
 }
 
-/// Writes two words as a line, with a space between them. The line is made up first, so that the writer is handed it at once.
+/// Writes two words as a line, with a space between them. The line is made up first, so that the writer is handed it at
+/// once.
 ///
 /// # Errors
 /// `Write` where the writer failed.
@@ -107,7 +108,8 @@ pub(crate) fn write_answer<W: Write>(writer: &mut W, answer: Answer) -> Result<(
     }
 }
 
-/// Flushes a writer where an answer was written, after lines were answered with this outcome. A fault that came before the flush stays.
+/// Flushes a writer where an answer was written, after lines were answered with this outcome. A fault that came before
+/// the flush stays.
 ///
 /// # Errors
 /// The outcome's, or `Write` where there is none and the flush fails.
@@ -117,7 +119,8 @@ pub(crate) fn settle<W: Write>(
     outcome: Result<(), ServeFault>,
 ) -> Result<(), ServeFault>
     ensures same { Keeps (W.contents writer.old) (W.contents writer.new) }
-    ensures outcome { MatchResult outcome (λ _. (result ≡ outcome) ⊎ (result ≡ Err ServeFault.Write)) (λ _. result ≡ outcome) }
+    ensures outcome { MatchResult outcome (λ _. (result ≡ outcome) ⊎ (result ≡ Err ServeFault.Write))
+        (λ _. result ≡ outcome) }
     ensures quiet { wrote ≡ false → result ≡ outcome }
 {
     let failed = wrote && outcome != Err(ServeFault::Write) && writer.flush().is_err();

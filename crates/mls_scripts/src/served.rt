@@ -23,7 +23,8 @@ fn last_line(kept: &[u8]) -> Option<&[u8]>
     Some(kept)
 }
 
-/// A script that is being served: its lines are answered as they become complete, and what is needed of an unfinished one is kept.
+/// A script that is being served: its lines are answered as they become complete, and what is needed of an unfinished
+/// one is kept.
 #[derive(Drop)]
 pub struct Served<'s, N: Allocator, V: Allocator> {
     pub answering: Answering<'s, N, V>,
@@ -65,7 +66,8 @@ impl<N: Allocator, V: Allocator + Copy> Served<'_, N, V> {
         requires { self.old.line.items ≡ [] }
         ensures answered { AnswersOrStops self.old.answering.script.names.now self.old.answering.script.session
             (W.contents writer.old) (W.contents writer.new)
-            (standing_of self.old.answering.vars.bound monitor.old) (standing_of self.new.answering.vars.bound monitor.new)
+            (standing_of self.old.answering.vars.bound monitor.old)
+            (standing_of self.new.answering.vars.bound monitor.new)
             (closed_lines piece.now) result }
         ensures line { OnOk result (self.new.line.items ≡ kept_of (open_part piece.now)) }
         ensures names { self.new.answering.script.names.now ≡ self.old.answering.script.names.now }
@@ -85,7 +87,8 @@ impl<N: Allocator, V: Allocator + Copy> Served<'_, N, V> {
         requires { vec_len self.old.line ≤ MAX_LINE + 1 }
         ensures fed { Feeds self.old.answering.script.names.now self.old.answering.script.session
             (W.contents writer.old) (W.contents writer.new)
-            (standing_of self.old.answering.vars.bound monitor.old) (standing_of self.new.answering.vars.bound monitor.new)
+            (standing_of self.old.answering.vars.bound monitor.old)
+            (standing_of self.new.answering.vars.bound monitor.new)
             self.old.line.items self.new.line.items piece.now result }
         ensures names { self.new.answering.script.names.now ≡ self.old.answering.script.names.now }
         ensures session { self.new.answering.script.session ≡ self.old.answering.script.session }
@@ -100,7 +103,8 @@ impl<N: Allocator, V: Allocator + Copy> Served<'_, N, V> {
         self.reply_and_keep(monitor, rest, writer)
     }
 
-    /// Takes one more piece: answers the lines that are complete with it, and flushes the writer where an answer was written.
+    /// Takes one more piece: answers the lines that are complete with it, and flushes the writer where an answer was
+    /// written.
     ///
     /// # Errors
     /// - `Write` where the writer failed within an answer, or at the flush once all lines were answered.
@@ -114,7 +118,8 @@ impl<N: Allocator, V: Allocator + Copy> Served<'_, N, V> {
         requires { vec_len self.old.line ≤ MAX_LINE + 1 }
         ensures taken { Takes self.old.answering.script.names.now self.old.answering.script.session
             (W.contents writer.old) (W.contents writer.new)
-            (standing_of self.old.answering.vars.bound monitor.old) (standing_of self.new.answering.vars.bound monitor.new)
+            (standing_of self.old.answering.vars.bound monitor.old)
+            (standing_of self.new.answering.vars.bound monitor.new)
             self.old.line.items self.new.line.items piece.now result }
         ensures names { self.new.answering.script.names.now ≡ self.old.answering.script.names.now }
         ensures session { self.new.answering.script.session ≡ self.old.answering.script.session }
@@ -125,7 +130,8 @@ impl<N: Allocator, V: Allocator + Copy> Served<'_, N, V> {
         settle(writer, wrote, outcome)
     }
 
-    /// Takes the end: answers the line that no newline ends, where it has a byte, and flushes the writer where an answer was written.
+    /// Takes the end: answers the line that no newline ends, where it has a byte, and flushes the writer where an
+    /// answer was written.
     ///
     /// # Errors
     /// As for `take_piece`.
@@ -137,7 +143,8 @@ impl<N: Allocator, V: Allocator + Copy> Served<'_, N, V> {
         ensures taken { (line : List ℕ) → has_newline line ≡ false → self.old.line.items ≡ kept_of line →
             AnswersOrFails self.old.answering.script.names.now self.old.answering.script.session
             (W.contents writer.old) (W.contents writer.new)
-            (standing_of self.old.answering.vars.bound monitor.old) (standing_of self.new.answering.vars.bound monitor.new)
+            (standing_of self.old.answering.vars.bound monitor.old)
+            (standing_of self.new.answering.vars.bound monitor.new)
             (lines_of line) result }
         ensures names { self.new.answering.script.names.now ≡ self.old.answering.script.names.now }
         ensures session { self.new.answering.script.session ≡ self.old.answering.script.session }

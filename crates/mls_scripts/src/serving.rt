@@ -78,7 +78,8 @@ fn serve_pieces<R: Read, W: Write, A: Allocator, N: Allocator, V: Allocator + Co
     ensures { Ends served.old.answering.script.names.now served.old.answering.script.session
         (R.remaining reader.old) (R.remaining reader.new)
         (W.contents writer.old) (W.contents writer.new)
-        (standing_of served.old.answering.vars.bound monitor.old) (standing_of served.new.answering.vars.bound monitor.new) result }
+        (standing_of served.old.answering.vars.bound monitor.old)
+        (standing_of served.new.answering.vars.bound monitor.new) result }
 {
     let before = monitor.entries().len();
     let mut room = SCRIPT_LIMIT;
@@ -103,11 +104,12 @@ fn serve_pieces<R: Read, W: Write, A: Allocator, N: Allocator, V: Allocator + Co
 ///
 /// # Errors
 /// The monitor is always as after the requests that were asked, each with its entry, and keeps its start.
-/// - `Read`: the lines that were complete are answered, and no other line was asked.
-/// - `Write`: an answer broke off, which was the last that was asked for; or the writer failed when it was flushed, and all
-///   lines that were complete in what was read are answered, at the end of input the last line too.
-/// - `Memory`: an allocation failed; the lines before are answered, and the line that met it added no entry. The writer is flushed
-///   all the same, and where that fails too, the result is still `Memory`.
+/// - `Read`: at most `SCRIPT_LIMIT` bytes were taken; the lines that are complete in them are answered, and no other
+///   line was asked.
+/// - `Write`: an answer broke off, which was the last that was asked for; or the writer failed when it was flushed, and
+///   all lines that were complete in what was read are answered, at the end of input the last line too.
+/// - `Memory`: an allocation failed; the lines before are answered, and the line that met it added no entry. The writer
+///   is flushed all the same, and where that fails too, the result is still `Memory`.
 /// - `TooLong`: the lines whose newlines are within the limit are answered.
 pub fn serve<R: Read, W: Write, A: Allocator, B: Allocator, N: Allocator>(
     alloc: A,

@@ -5,7 +5,8 @@ use Rattle.mls_requests.specs.declared.ask.Ask.{Ask}
 use Rattle.mls_requests.specs.declared.entry.Entry.{Entry}
 use Rattle.mls_sessions.specs.Journals.{Charter, Journal, journal}
 use Rattle.mls_feeds.specs.Entries.{AllOf}
-use Rattle.mls_feeds.specs.Feeds.{Exchange, asks_of, answers_of, IsTold, AreTold, Turn, in_turns, Heard, Halted, Gave, Talks, Fed}
+use Rattle.mls_feeds.specs.Feeds.{Exchange, asks_of, answers_of, IsTold, AreTold, Turn, in_turns, Heard, Halted, Gave}
+use Rattle.mls_feeds.specs.Feeds.{Talks, Fed}
 use Rattle.mls_sessions.specs.Rule.{begun}
 use Rattle.mls_sessions.specs.Sessions.{Office, Session, history, number_of}
 use Rattle.mls_sessions.specs.declared.gate_table.View.{View}
@@ -17,7 +18,8 @@ use Rattle.mls_sessions.specs.declared.given.Given.{Given}
 use Rattle.mls_sessions.specs.declared.given.Given.TheVariants.{Nothing, One, Several}
 use Rattle.mls_feeds.specs.declared.feed.Answer.{Answer as Told}
 
--- A monitor was asked this for session k and answered that: its journal got what it answers by, and no entry of another session. (own)
+-- A monitor was asked this for session k and answered that: its journal got what it answers by, and no entry of another
+-- session. (own)
 pub record Gets (k : ℕ) (old : Journal) (a : Ask) (t : Told) (new : Journal) : Type 0 where
   pub since : List Entry
   pub grew : new ≡ journal old.start (old.entries ++ since)
@@ -40,7 +42,8 @@ pub record AllGet (k : ℕ) (old : Journal) (asks : List Ask) (answers : List To
   pub mine : AllOf k since
   pub told : AreTold old.start k old.entries since exchanges
 
--- A session asked this, one after the other, and was told that: its history is the old one with what the journal got since. (own)
+-- A session asked this, one after the other, and was told that: its history is the old one with what the journal got
+-- since. (own)
 pub record Learns (c : Charter) (old : View) (asks : List Ask) (answers : List Told) (new : View) : Type 0 where
   pub exchanges : List Exchange
   pub since : List Entry
@@ -56,14 +59,16 @@ asks_given (One a) asks = a ∷ []
 asks_given Several asks = asks
 
 -- A session asked this for a feed that hears answers in this way, and told it the answers. (own)
-pub record Tells {F : Type 0} (hears : F → Told → F → Type 0) (o : Office) (s : Session) (f : F) (asks : List Ask) (t : Session) (g : F) : Type 0 where
+pub record Tells {F : Type 0} (hears : F → Told → F → Type 0) (o : Office) (s : Session) (f : F) (asks : List Ask)
+    (t : Session) (g : F) : Type 0 where
   pub answers : List Told
   pub learns : Learns o.charter s.view asks answers t.view
   pub heard : Heard hears f answers g
 
--- A session asked this for a feed until an allocation failed, before all was answered: it told the feed the answers to the first of it, and that it
--- is stopped. (own)
-pub record Halts {F : Type 0} (hears : F → Told → F → Type 0) (stops : F → F → Type 0) (o : Office) (s : Session) (f : F) (asks : List Ask) (t : Session) (g : F) : Type 0 where
+-- A session asked this for a feed until an allocation failed, before all was answered: it told the feed the answers to
+-- the first of it, and that it is stopped. (own)
+pub record Halts {F : Type 0} (hears : F → Told → F → Type 0) (stops : F → F → Type 0) (o : Office) (s : Session)
+    (f : F) (asks : List Ask) (t : Session) (g : F) : Type 0 where
   pub answered : ℕ
   pub answers : List Told
   pub learns : Learns o.charter s.view (take answered asks) answers t.view
@@ -71,7 +76,8 @@ pub record Halts {F : Type 0} (hears : F → Told → F → Type 0) (stops : F �
   pub halted : Halted hears stops f answers g
 
 -- Of feeds that give asks and hear answers in these ways.
-module _ {F : Type 0} (gives : F → Option Ask → F → Type 0) (gives_ahead : F → Ask → F → Type 0) (hears : F → Told → F → Type 0) where
+module _ {F : Type 0} (gives : F → Option Ask → F → Type 0) (gives_ahead : F → Ask → F → Type 0)
+    (hears : F → Told → F → Type 0) where
   -- A session asked for what the feed gave in one turn, and told it the answers. (own)
   pub record TakesTurn (o : Office) (s : Session) (f : F) (t : Session) (g : F) : Type 0 where
     pub asks : List Ask
@@ -85,7 +91,8 @@ pub record LeftAlone {F : Type 0} (f : F) (turns : List Turn) (last : List Excha
   pub no_turns : turns ≡ []
   pub no_last : last ≡ []
 
--- A session that asked, the feed that it was given, how far it asked, and the session and the feed that came back. (own)
+-- A session that asked, the feed that it was given, how far it asked, and the session and the feed that came back.
+-- (own)
 pub record Row (F : Type 0) : Type 0 where
   pub session : Session
   pub feed : F
@@ -93,7 +100,8 @@ pub record Row (F : Type 0) : Type 0 where
   pub session_back : Session
   pub feed_back : F
 
--- That a feed was asked so far is no worse than that another was: an allocation that failed is worse than a thread that couldn't be started. (own)
+-- That a feed was asked so far is no worse than that another was: an allocation that failed is worse than a thread that
+-- couldn't be started. (own)
 abbrev pub NoWorse : Asked → Asked → Type 0
 NoWorse a UntilRefused = Unit {0}
 NoWorse a NotAtAll = a ≢ UntilRefused
@@ -116,9 +124,10 @@ worst_of Memory = UntilRefused
 worst_of Thread = NotAtAll
 
 -- Of feeds that give asks, hear answers and stop in these ways.
-module _ {F : Type 0} (gives : F → Option Ask → F → Type 0) (gives_ahead : F → Ask → F → Type 0) (hears : F → Told → F → Type 0) (stops : F → F → Type 0) where
-  -- The feed was fed turn by turn, and then gave asks in one turn more of which the first alone were answered, not all: it was told these answers,
-  -- and that it is stopped. (own)
+module _ {F : Type 0} (gives : F → Option Ask → F → Type 0) (gives_ahead : F → Ask → F → Type 0)
+    (hears : F → Told → F → Type 0) (stops : F → F → Type 0) where
+  -- The feed was fed turn by turn, and then gave asks in one turn more of which the first alone were answered, not all:
+  -- it was told these answers, and that it is stopped. (own)
   pub record Stopped (f : F) (turns : List Turn) (last : List Exchange) (g : F) : Type 0 where
     pub before : F
     pub talks : Talks gives gives_ahead hears f turns before
@@ -137,8 +146,8 @@ module _ {F : Type 0} (gives : F → Option Ask → F → Type 0) (gives_ahead :
     pub gave : Gave gives gives_ahead f asks full
     pub halts : Halts hears stops o s full asks t g
 
-  -- How a feed comes back that was asked so far: to its end; until it was stopped, or left alone where there was no room for what it asks; or left
-  -- alone. (own)
+  -- How a feed comes back that was asked so far: to its end; until it was stopped, or left alone where there was no
+  -- room for what it asks; or left alone. (own)
   abbrev pub Ends : Asked → F → List Turn → List Exchange → F → Type 0
   Ends ToTheEnd f turns last g = Fed gives gives_ahead hears f turns g × (last ≡ [])
   Ends UntilRefused f turns last g = Stopped f turns last g ⊎ LeftAlone f turns last g
@@ -158,8 +167,10 @@ module _ {F : Type 0} (gives : F → Option Ask → F → Type 0) (gives_ahead :
   AllServe o [] = Unit {0}
   AllServe o (row ∷ rows) = Serves o row.session row.feed row.asked row.session_back row.feed_back × AllServe o rows
 
-  -- Each of these sessions asked what its feed gave, and they came back with their feeds, all in their order; none was asked less far than is said. (own)
-  pub record AllServed (o : Office) (ss : List Session) (fs : List F) (asked : Asked) (ts : List Session) (gs : List F) : Type 0 where
+  -- Each of these sessions asked what its feed gave, and they came back with their feeds, all in their order; none was
+  -- asked less far than is said. (own)
+  pub record AllServed (o : Office) (ss : List Session) (fs : List F) (asked : Asked) (ts : List Session)
+      (gs : List F) : Type 0 where
     pub rows : List (Row F)
     pub serve : AllServe o rows
     pub no_worse : AllNoWorse rows asked
@@ -168,11 +179,12 @@ module _ {F : Type 0} (gives : F → Option Ask → F → Type 0) (gives_ahead :
     pub sessions_back : ts ≡ map (λ (row : Row F). row.session_back) rows
     pub feeds_back : gs ≡ map (λ (row : Row F). row.feed_back) rows
 
-  -- Each feed, the first as that of session k, was asked to some point, which is no worse than this, and was told just the answers to those of its
-  -- asks that the journal answers; they stand in their order. (own)
+  -- Each feed, the first as that of session k, was asked to some point, which is no worse than this, and was told just
+  -- the answers to those of its asks that the journal answers; they stand in their order. (own)
   abbrev pub AllTold : Asked → State → List Entry → List Entry → ℕ → List F → List F → Type 0
   AllTold worst start before since k [] [] = Unit {0}
   AllTold worst start before since k (f ∷ fs) (g ∷ gs) =
-      ((asked : Asked) × (turns : List Turn) × (last : List Exchange) × NoWorse asked worst × Ends asked f turns last g × AreTold start k before since (in_turns turns ++ last))
+      ((asked : Asked) × (turns : List Turn) × (last : List Exchange) × NoWorse asked worst × Ends asked f turns last g
+      × AreTold start k before since (in_turns turns ++ last))
       × AllTold worst start before since (k + 1) fs gs
   AllTold worst start before since k fs gs = ⊥

@@ -1,5 +1,6 @@
 -- The gate's rule: what holds between any two atomic steps, whichever threads step.
-use Rattle.std.specs.Prelude.{◌≡◌, ◌≢◌, ◌⊎◌, ℕ, ◌+◌, ◌*◌, ◌<◌, ◌≤◌, List, [], ◌∷◌, ◌++◌, length, drop, slice_index, Option, Some, None}
+use Rattle.std.specs.Prelude.{◌≡◌, ◌≢◌, ◌⊎◌, ℕ, ◌+◌, ◌*◌, ◌<◌, ◌≤◌, List, [], ◌∷◌, ◌++◌, length, drop, slice_index}
+use Rattle.std.specs.Prelude.{Option, Some, None}
 use mathlib.Core.List.{IsPrefix}
 use mathlib.Core.Option.{some}
 use mathlib.Core.Option as maybe
@@ -50,10 +51,11 @@ abbrev pub IsNew : ℕ → List Member → Type 0
 IsNew k [] = Unit {0}
 IsNew k (m ∷ members) = (m.number ≢ k) × IsNew k members
 
--- What holds of one seat: `later` is what was added to the journal since the office was opened, and `owner` tells which seat a number belongs to.
+-- What holds of one seat: `later` is what was added to the journal since the office was opened, and `owner` tells which
+-- seat a number belongs to.
 module _ (key : Charter) (later : List Entry) (owner : ℕ → ℕ) (seat : ℕ) where
-  -- A session of this seat: its history is a prefix of the present journal (clause 3), and the own part of the present journal is that of
-  -- its history (clause 4). (own)
+  -- A session of this seat: its history is a prefix of the present journal (clause 3), and the own part of the present
+  -- journal is that of its history (clause 4). (own)
   pub record IsMember (m : Member) : Type 0 where
     pub known : m.number < key.count
     pub here : owner m.number ≡ seat
@@ -69,19 +71,22 @@ module _ (key : Charter) (later : List Entry) (owner : ℕ → ℕ) (seat : ℕ)
   abbrev pub IsUnused : ℕ → Type 0
   IsUnused g = (k : ℕ) → key.count ≤ k + g → k < key.count → (owner k ≡ seat) × (of_session k later ≡ [])
 
-  -- What a seat knows, while this seat holds the gate and the word is that. A holder's view tells which journal it took, which is the
-  -- present one, and the word names its session (clause 1). A spent view knows nothing (clause 5). (own)
+  -- What a seat knows, while this seat holds the gate and the word is that. A holder's view tells which journal it
+  -- took, which is the present one, and the word names its session (clause 1). A spent view knows nothing (clause 5).
+  -- (own)
   abbrev pub Knows : ℕ → ℕ → View → Type 0
   Knows holder word Spent = Unit {0}
   Knows holder word (Starting c) = ⊥
   Knows holder word (Filling c) = ⊥
   Knows holder word (Giving c g) = (c ≡ key) × (g ≤ key.count) × IsUnused g
   Knows holder word (Sessions c members) = (c ≡ key) × Fits members
-  Knows holder word (Holding c m taken) = (c ≡ key) × Names word m.number × (seat ≡ holder) × (taken ≡ later) × IsMember m
+  Knows holder word (Holding c m taken) = (c ≡ key) × Names word m.number × (seat ≡ holder) × (taken ≡ later)
+      × IsMember m
 
--- The rule once the monitor was put in. Clause 1: the word is 0 and the monitor with the present journal is at home; or one seat holds, and
--- the word names its session. Clause 2: the present journal is legal from the office's start, begins with the journal when the office was
--- opened, and its later entries have session numbers less than n. Clauses 3 to 5 are what each seat knows. (own)
+-- The rule once the monitor was put in. Clause 1: the word is 0 and the monitor with the present journal is at home; or
+-- one seat holds, and the word names its session. Clause 2: the present journal is legal from the office's start,
+-- begins with the journal when the office was opened, and its later entries have session numbers less than n. Clauses 3
+-- to 5 are what each seat knows. (own)
 pub record Running (key : Charter) (s : TableState (Option Journal) View) : Type 0 where
   pub later : List Entry
   pub owner : ℕ → ℕ
@@ -91,8 +96,10 @@ pub record Running (key : Charter) (s : TableState (Option Journal) View) : Type
   pub legal : Stands (begun key) (base key ++ later)
   pub theirs : AllBelow key.count later
   pub at_home : slice_index s.words 0 ≡ 0 → get_elem? s.homes 0 ≡ some (some (Some (present key later)))
-  pub away : slice_index s.words 0 ≢ 0 → (m : Member) × (get_elem? s.views holder ≡ some (Holding key m later)) × Names (slice_index s.words 0) m.number
-  pub each_seat : (j : ℕ) (v : View) → get_elem? s.views j ≡ some v → Knows key later owner j holder (slice_index s.words 0) v
+  pub away : slice_index s.words 0 ≢ 0 → (m : Member) × (get_elem? s.views holder ≡ some (Holding key m later))
+      × Names (slice_index s.words 0) m.number
+  pub each_seat : (j : ℕ) (v : View) → get_elem? s.views j ≡ some v
+      → Knows key later owner j holder (slice_index s.words 0) v
 
 -- Before the monitor was put in: the gate is free and the slot empty. (own)
 abbrev pub IsEmpty : Charter → TableState (Option Journal) View → Type 0

@@ -14,8 +14,8 @@ Returned o [] (t ∷ ts) = ⊥
 Returned o (s ∷ ss) [] = ⊥
 Returned o (s ∷ ss) (t ∷ ts) = IsOf o t × (number_of t.view ≡ number_of s.view) × Returned o ss ts
 
--- A monitor that was handed in with this start and journal: it has that start, and its journal begins with that one and goes on with entries
--- of the first n sessions. (own)
+-- A monitor that was handed in with this start and journal: it has that start, and its journal begins with that one and
+-- goes on with entries of the first n sessions. (own)
 pub record Grew (begun : State) (journal : List Entry) (n : ℕ) (new : Monitor) : Type 0 where
   pub start : new.start ≡ begun
   pub begins : IsPrefix journal new.entries

@@ -1,5 +1,6 @@
 -- What a clause says of an office and of its sessions.
-use Rattle.std.specs.Prelude.{◌≡◌, ◌⊎◌, ℕ, zero, suc, ◌+◌, ◌<◌, ◌≤◌, Bool, ◌&&◌, nat_le, List, [], ◌∷◌, ◌++◌, length, None, refl}
+use Rattle.std.specs.Prelude.{◌≡◌, ◌⊎◌, ℕ, zero, suc, ◌+◌, ◌<◌, ◌≤◌, Bool, ◌&&◌, nat_le, List, [], ◌∷◌, ◌++◌, length}
+use Rattle.std.specs.Prelude.{None, refl}
 use mathlib.Core.List.{IsPrefix}
 use Rattle.std.specs.Coded.{Coded, code_by, coded×}
 use Rattle.atomic_table.specs.Seated.{TableId, table_id_coded}
@@ -63,11 +64,13 @@ Holds key j me = (me ≡ holding key (member_of me.0) (taken_of me.0)) × (j ≡
 
 -- The session took out the monitor with this journal, which begins with its history and has just its own part. (own)
 abbrev pub TookOut : Charter → Member → Journal → Seat → Type 0
-TookOut key m j me = (later : List Entry) × (j ≡ present key later) × (me ≡ (Holding key m later, (0, None) ∷ [])) × IsPrefix m.later later × (of_session m.number m.later ≡ of_session m.number later)
+TookOut key m j me = (later : List Entry) × (j ≡ present key later) × (me ≡ (Holding key m later, (0, None) ∷ []))
+    × IsPrefix m.later later × (of_session m.number m.later ≡ of_session m.number later)
 
 -- The session was given by the office. (own)
 abbrev pub IsOf : Office → Session → Type 0
-IsOf o s = (s.table ≡ o.table) × (s.view ≡ Sessions o.charter (member_of s.view ∷ [])) × ((member_of s.view).number < o.charter.count)
+IsOf o s = (s.table ≡ o.table) × (s.view ≡ Sessions o.charter (member_of s.view ∷ []))
+    × ((member_of s.view).number < o.charter.count)
 
 -- A session's number. (own)
 abbrev pub number_of : View → ℕ
@@ -82,8 +85,9 @@ history v = []
 abbrev pub own : View → List Entry
 own v = of_session (member_of v).number (member_of v).later
 
--- A session made an entry: its history begins with the old one and ends with the entry, its own part has just that entry more, the entry has
--- its number and the request, and the history is legal, so that the reply is that of the rules. (own)
+-- A session made an entry: its history begins with the old one and ends with the entry, its own part has just that
+-- entry more, the entry has its number and the request, and the history is legal, so that the reply is that of the
+-- rules. (own)
 pub record Submits (c : Charter) (old : View) (request : Request) (e : Entry) (new : View) : Type 0 where
   pub between : List Entry
   pub ends : history new ≡ (history old ++ between) ++ e ∷ []
@@ -98,7 +102,8 @@ pub record Sees (c : Charter) (old new : View) : Type 0 where
   pub same : own new ≡ own old
   pub stands : Stands (begun c) (history new)
 
--- Two sessions met: both have the longer of the two histories, of which the other is a prefix, and their own parts and numbers stay. (own)
+-- Two sessions met: both have the longer of the two histories, of which the other is a prefix, and their own parts and
+-- numbers stay. (own)
 pub record Meets (x y x' y' : View) : Type 0 where
   pub same : history x' ≡ history y'
   pub one : (history x' ≡ history x) ⊎ (history x' ≡ history y)
@@ -113,7 +118,8 @@ pub record Meets (x y x' y' : View) : Type 0 where
 abbrev pub IsCounted : Counts → View → Type 0
 IsCounted c v = (c.made ≡ length (own v)) × (c.seen ≡ length (history v))
 
--- The first k sessions of an office as it is opened: numbered from 0, each with the monitor's journal as its history. (own)
+-- The first k sessions of an office as it is opened: numbered from 0, each with the monitor's journal as its history.
+-- (own)
 abbrev pub newcomers : Office → ℕ → List Session
 newcomers o zero = []
 newcomers o (suc k) = newcomers o k ++ session_at o.table (Sessions o.charter (member k [] ∷ [])) ∷ []
@@ -136,10 +142,12 @@ members_in v = []
 -- The journal begins with every session's history, and has for each session just its own part. (own)
 abbrev pub HasAll : Office → Journal → List Session → Type 0
 HasAll o j [] = Unit {0}
-HasAll o j (s ∷ sessions) = IsPrefix (history s.view) j.entries × (of_session (number_of s.view) (news o.charter j) ≡ own s.view) × HasAll o j sessions
+HasAll o j (s ∷ sessions) = IsPrefix (history s.view) j.entries
+    × (of_session (number_of s.view) (news o.charter j) ≡ own s.view) × HasAll o j sessions
 
--- What a closed office leaves: a legal journal from the office's start, which begins with the journal when it was opened and with every
--- session's history, has for each session just its own part, and whose entries from the base on are of sessions of the office. (own)
+-- What a closed office leaves: a legal journal from the office's start, which begins with the journal when it was
+-- opened and with every session's history, has for each session just its own part, and whose entries from the base on
+-- are of sessions of the office. (own)
 pub record Leaves (o : Office) (sessions : List Session) (j : Journal) : Type 0 where
   pub start : j.start ≡ begun o.charter
   pub begins : IsPrefix (base o.charter) j.entries
@@ -149,8 +157,12 @@ pub record Leaves (o : Office) (sessions : List Session) (j : Journal) : Type 0 
 
 -- An office as the pair of its parts, by which offices are compared. (own)
 abbrev pub office_code : Coded Office
-office_code = code_by (TableId × Charter) (coded× table_id_coded charter_code) (λ o. (o.table, o.charter)) (λ p. record { table = p.0; charter = p.1 }) (λ _. refl)
+office_code =
+    code_by (TableId × Charter) (coded× table_id_coded charter_code) (λ o. (o.table, o.charter))
+    (λ p. record { table = p.0; charter = p.1 }) (λ _. refl)
 
 -- A session as the pair of its parts, by which sessions are compared. (own)
 abbrev pub session_code : Coded Session
-session_code = code_by (TableId × View) (coded× table_id_coded view.the_row.coded) (λ s. (s.table, s.view)) (λ p. record { table = p.0; view = p.1 }) (λ _. refl)
+session_code =
+    code_by (TableId × View) (coded× table_id_coded view.the_row.coded) (λ s. (s.table, s.view))
+    (λ p. record { table = p.0; view = p.1 }) (λ _. refl)

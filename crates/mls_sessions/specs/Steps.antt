@@ -1,5 +1,5 @@
--- What each kind of atomic step tells the seat that makes it, and which views it may change. A seat is its view and what it holds of the
--- slot. Parking and waking change no view.
+-- What each kind of atomic step tells the seat that makes it, and which views it may change. A seat is its view and
+-- what it holds of the slot. Parking and waking change no view.
 use Rattle.std.specs.Prelude.{◌≡◌, ◌≢◌, ℕ, ◌-◌, if◌then◌else◌, nat_lt, List, [], ◌∷◌, ◌++◌, length, Option, Some, None}
 use mathlib.Core.List.{IsPrefix}
 use Rattle.atomic_table.specs.Table.{Me, Step}
@@ -27,13 +27,17 @@ filled st me found me' = (c : Charter) → me.0 ≡ Starting c → (me' ≡ (Fil
 abbrev pub settled : OnWord → Seat → ℕ → Seat → Type 0
 settled st me found me' = (c : Charter) → me.0 ≡ Filling c → me' ≡ (Giving c c.count, [])
 
--- The monitor is out with the session, which learns that its history is a prefix of the journal, and that it knows its own part. (own)
+-- The monitor is out with the session, which learns that its history is a prefix of the journal, and that it knows its
+-- own part. (own)
 abbrev pub Taken : Charter → Member → Seat → Type 0
-Taken c m me = (later : List Entry) × (me ≡ (Holding c m later, (0, Some (present c later)) ∷ [])) × IsPrefix m.later later × (of_session m.number m.later ≡ of_session m.number later)
+Taken c m me = (later : List Entry) × (me ≡ (Holding c m later, (0, Some (present c later)) ∷ []))
+    × IsPrefix m.later later × (of_session m.number m.later ≡ of_session m.number later)
 
--- Win or lose: the gate was free, and the session holds, with that journal; or it was held, by another session, and no view changes. (own)
+-- Win or lose: the gate was free, and the session holds, with that journal; or it was held, by another session, and no
+-- view changes. (own)
 abbrev pub won : OnWord → Seat → ℕ → Seat → Type 0
-won st me found me' = (c : Charter) (m : Member) → me.0 ≡ Sessions c (m ∷ []) → (found ≡ 0 → Taken c m me') × (found ≢ 0 → (me' ≡ me) × (c.count ≢ 1))
+won st me found me' = (c : Charter) (m : Member) → me.0 ≡ Sessions c (m ∷ []) → (found ≡ 0 → Taken c m me')
+    × (found ≢ 0 → (me' ≡ me) × (c.count ≢ 1))
 
 -- The mark is set, or another word was found: no view changes. It counts as a win that was lost. (own)
 abbrev pub marked : OnWord → Seat → ℕ → Seat → Type 0
@@ -44,7 +48,8 @@ abbrev pub kept_view : View → View
 kept_view (Holding c m taken) = Sessions c (m ∷ [])
 kept_view v = v
 
--- Put home and free, after a request that found no memory: the session holds no more, and its history is as before. (own)
+-- Put home and free, after a request that found no memory: the session holds no more, and its history is as before.
+-- (own)
 abbrev pub kept : OnWord → Seat → ℕ → Seat → Type 0
 kept st me found me' = me' ≡ (kept_view me.0, [])
 
@@ -63,7 +68,8 @@ abbrev pub updated_view : View → List (ℕ × Option Journal) → View
 updated_view (Holding c m taken) out = Sessions c (member m.number (news_in c out) ∷ [])
 updated_view v out = v
 
--- Put home and free, after an entry or a check: the session holds no more, and its history is the journal put home. (own)
+-- Put home and free, after an entry or a check: the session holds no more, and its history is the journal put home.
+-- (own)
 abbrev pub updated : OnWord → Seat → ℕ → Seat → Type 0
 updated st me found me' = me' ≡ (updated_view me.0 me.1, [])
 

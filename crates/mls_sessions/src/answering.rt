@@ -19,8 +19,12 @@ fn answer(
     answers: &mut Vec<Answer>,
 ) -> Result<(), AllocError>
     requires { vec_len answers.old < vec_capacity answers.old }
-    ensures ok { OnOk result (GetsMore number monitor.old ask answers.old.items answers.new.items monitor.new × (vec_len answers.new ≡ vec_len answers.old + 1)) }
-    ensures err { OnErr result ((monitor.new ≡ monitor.old) × (answers.new.items ≡ answers.old.items) × (vec_len answers.new ≡ vec_len answers.old)) }
+    ensures ok { OnOk result
+        (GetsMore number monitor.old ask answers.old.items answers.new.items monitor.new
+        × (vec_len answers.new ≡ vec_len answers.old + 1)) }
+    ensures err { OnErr result
+        ((monitor.new ≡ monitor.old) × (answers.new.items ≡ answers.old.items)
+        × (vec_len answers.new ≡ vec_len answers.old)) }
     ensures room { vec_capacity answers.old ≤ vec_capacity answers.new }
 {
     match ask {

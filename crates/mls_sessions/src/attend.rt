@@ -16,8 +16,8 @@ use std::sync::Wait;
 use std::sync::atomic::{AtomicBool, Ordering};
 use std::thread::Promise;
 
-/// Asks for all that the feed gives, until an allocation fails, and leaves the gate to the others. The lists are room for what is asked in one turn,
-/// and for the answers.
+/// Asks for all that the feed gives, until an allocation fails, and leaves the gate to the others. The lists are room
+/// for what is asked in one turn, and for the answers.
 #[tactic(auto, using(crate::proofs::Feeds::asking_none, crate::proofs::Feeds::asking_on))]
 fn attend<R: Wait, F: Feed>(
     rt: &R,
@@ -48,8 +48,8 @@ fn attend<R: Wait, F: Feed>(
     }
 }
 
-/// Asks for all that the feed gives, unless the flag says to leave it alone. Where there is no room for what is asked in one turn, the feed is
-/// asked nothing.
+/// Asks for all that the feed gives, unless the flag says to leave it alone. Where there is no room for what is asked
+/// in one turn, the feed is asked nothing.
 #[tactic(auto, using(crate::proofs::Feeds::serves_not, crate::proofs::Feeds::serves_no_room))]
 pub(crate) fn attend_unless<R: Wait, F: Feed>(
     rt: &R,
@@ -76,7 +76,8 @@ pub(crate) fn attend_unless<R: Wait, F: Feed>(
     attend(rt, office, session, feed, asks, answers)
 }
 
-/// A thread's promise: the session comes back with its office and its number, and the feed as it was served; if it was asked to its end, it is done.
+/// A thread's promise: the session comes back with its office and its number, and the feed as it was served; if it was
+/// asked to its end, it is done.
 #[derive(Drop)]
 pub struct Back<'a, F>(pub &'a Office, pub Snapshot<Session>, pub Snapshot<F>);
 
@@ -84,5 +85,7 @@ impl<'a, F: Feed> Promise<(Session, F, Asked)> for Back<'a, F> {
     ghost use Rattle.mls_sessions.specs.declared.asked.Asked.TheVariants.{ToTheEnd};
     ghost use Rattle.mls_feeds.specs.declared.feed.Stage.TheVariants.{Done};
 
-    ghost kept_by = { λ p r. IsOf p.0.now r.0 × (number_of r.0.view ≡ number_of p.1.value.view) × (r.2 ≡ ToTheEnd → F.stands_at r.1 ≡ Done) × Serves F.gives F.gives_ahead F.hears F.stops p.0.now p.1.value p.2.value r.2 r.0 r.1 };
+    ghost kept_by = { λ p r. IsOf p.0.now r.0 × (number_of r.0.view ≡ number_of p.1.value.view)
+        × (r.2 ≡ ToTheEnd → F.stands_at r.1 ≡ Done)
+        × Serves F.gives F.gives_ahead F.hears F.stops p.0.now p.1.value p.2.value r.2 r.0 r.1 };
 }

@@ -12,8 +12,10 @@ use crate::steps::Gather;
 /// Joins the seats of all sessions, the last first.
 pub(crate) fn gather(gate: &Gate, mut sessions: Vec<Session>) -> GateSeat
     requires some { 0 < vec_len sessions }
-    requires office { Ascending (office_at gate.now.table_id gate.now.key) 0 sessions.items × (gate.now.table_id.words ≡ 1) }
-    ensures { (result.table_id ≡ gate.now.table_id) × (result.me ≡ (Sessions gate.now.key (members_of sessions.items), [])) }
+    requires office { Ascending (office_at gate.now.table_id gate.now.key) 0 sessions.items
+        × (gate.now.table_id.words ≡ 1) }
+    ensures { (result.table_id ≡ gate.now.table_id)
+        × (result.me ≡ (Sessions gate.now.key (members_of sessions.items), [])) }
 {
     let Some(last) = sessions.pop() else {
         unreachable!()

@@ -45,7 +45,8 @@ fn ask_one<R: Wait, F: Feed>(
     }
 }
 
-/// Asks for all that the feed gave, one after the other in one turn at the gate, and tells it the answers. The second list is room for these.
+/// Asks for all that the feed gave, one after the other in one turn at the gate, and tells it the answers. The second
+/// list is room for these.
 ///
 /// # Errors
 /// `AllocError` where an allocation failed; the feed is told what was answered before, and that it is stopped.
@@ -59,7 +60,8 @@ fn ask_several<R: Wait, F: Feed>(
     answers: &mut Vec<Answer>,
 ) -> Result<(), AllocError>
     requires session { IsOf office.now session.old }
-    requires waits { (F.stands_at feed.old ≡ Stage.Waiting) × (F.waits_for feed.old ≡ length asks.now) × (0 < length asks.now) }
+    requires waits { (F.stands_at feed.old ≡ Stage.Waiting) × (F.waits_for feed.old ≡ length asks.now)
+        × (0 < length asks.now) }
     requires room { length asks.now ≤ vec_capacity answers.old }
     ensures session { IsOf office.now session.new × (number_of session.new.view ≡ number_of session.old.view) }
     ensures room { vec_capacity answers.old ≤ vec_capacity answers.new }
@@ -81,8 +83,8 @@ fn ask_several<R: Wait, F: Feed>(
     }
 }
 
-/// Asks for what the feed gives in one turn, tells it the answers, and returns whether it gave anything. The lists are room for what is asked, and for
-/// the answers.
+/// Asks for what the feed gives in one turn, tells it the answers, and returns whether it gave anything. The lists are
+/// room for what is asked, and for the answers.
 ///
 /// # Errors
 /// `AllocError` where an allocation failed; the feed is told what was answered before, and that it is stopped.
@@ -99,10 +101,16 @@ pub(crate) fn take_turn<R: Wait, F: Feed>(
     requires room { (AHEAD ≤ vec_capacity asks.old) × (AHEAD ≤ vec_capacity answers.old) }
     ensures session { IsOf office.now session.new × (number_of session.new.view ≡ number_of session.old.view) }
     ensures room { (AHEAD ≤ vec_capacity asks.new) × (AHEAD ≤ vec_capacity answers.new) }
-    ensures on { IfOk result (λ on. on ≡ true → (F.asks_left feed.new < F.asks_left feed.old) × (F.stands_at feed.new ≡ Stage.Ready)) }
-    ensures took { IfOk result (λ on. on ≡ true → TakesTurn F.gives F.gives_ahead F.hears office.now session.old feed.old session.new feed.new) }
-    ensures done { IfOk result (λ on. on ≡ false → (session.new ≡ session.old) × (F.stands_at feed.new ≡ Stage.Done) × F.gives feed.old None feed.new) }
-    ensures broke { OnErr result (BreaksOff F.gives F.gives_ahead F.hears F.stops office.now session.old feed.old session.new feed.new) }
+    ensures on { IfOk result
+        (λ on. on ≡ true → (F.asks_left feed.new < F.asks_left feed.old) × (F.stands_at feed.new ≡ Stage.Ready)) }
+    ensures took { IfOk result
+        (λ on. on ≡ true
+        → TakesTurn F.gives F.gives_ahead F.hears office.now session.old feed.old session.new feed.new) }
+    ensures done { IfOk result
+        (λ on. on ≡ false → (session.new ≡ session.old) × (F.stands_at feed.new ≡ Stage.Done)
+        × F.gives feed.old None feed.new) }
+    ensures broke { OnErr result
+        (BreaksOff F.gives F.gives_ahead F.hears F.stops office.now session.old feed.old session.new feed.new) }
 {
     match gather(feed, asks) {
         Given::Nothing => return Ok(false),

@@ -40,8 +40,8 @@ fn is_marked(word: u64) -> bool
     word % 2 == 1
 }
 
-/// Looks at the word so often and once more, as long as the gate is held and nobody may sleep. It returns what it saw last.
-/// It looks once at least, or a session would never see that the gate is free.
+/// Looks at the word so often and once more, as long as the gate is held and nobody may sleep. It returns what it saw
+/// last. It looks once at least, or a session would never see that the gate is free.
 pub(crate) fn look(gate: &Gate, looks: u64) -> u64
     requires { gate.now.table_id.words ≡ 1 }
 {
@@ -70,14 +70,15 @@ pub(crate) fn mark(gate: &Gate, seat: &mut GateSeat, seen: u64) -> Option<u64>
     if found == seen { Some(seen + 1) } else { None }
 }
 
-/// Takes the monitor out where the gate is free, and leaves this word in it, which names the session. Or else it returns
-/// the word that it found.
+/// Takes the monitor out where the gate is free, and leaves this word in it, which names the session. Or else it
+/// returns the word that it found.
 pub(crate) fn win(gate: &Gate, seat: &mut GateSeat, held: u64) -> Result<BoxedMonitor, u64>
     requires office { (seat.old.table_id ≡ gate.now.table_id) × (gate.now.table_id.words ≡ 1) }
     requires session { seat.old.me ≡ seated gate.now.key (member_of seat.old.me.0) }
     requires held { Names held (member_of seat.old.me.0).number }
     ensures seat { (seat.new.table_id ≡ seat.old.table_id) × (seat.new.id ≡ seat.old.id) }
-    ensures won { MatchResult result (λ j. TookOut gate.now.key (member_of seat.old.me.0) j seat.new.me) (λ _. (seat.new.me ≡ seat.old.me) × (gate.now.key.count ≢ 1)) }
+    ensures won { MatchResult result (λ j. TookOut gate.now.key (member_of seat.old.me.0) j seat.new.me)
+        (λ _. (seat.new.me ≡ seat.old.me) × (gate.now.key.count ≢ 1)) }
     ensures back { IfOk result (λ _. kept_view seat.new.me.0 ≡ seat.old.me.0) }
 {
     let found = gate.compare_exchange::<Win>(seat, WORD, FREE, held);
@@ -96,11 +97,16 @@ pub(crate) fn put_home<M: Play<Option<BoxedMonitor>, View>>(
     seat: &mut GateSeat,
     monitor: BoxedMonitor,
 )
-    requires office { (seat.old.table_id ≡ gate.now.table_id) × (gate.now.table_id.words ≡ 1) × (seat.old.me.1 ≡ (0, None) ∷ []) }
-    requires rule { Stands monitor.start monitor.entries → Allows (Gated gate.now.key) gate.now.table_id.slots seat.old.id (seat.old.me.0, (0, Some monitor) ∷ []) 0 (λ _. 0) (M.then (step gate.now.table_id.slots 0 0 0 maybe.none) (seat.old.me.0, (0, Some monitor) ∷ [])) }
+    requires office { (seat.old.table_id ≡ gate.now.table_id) × (gate.now.table_id.words ≡ 1)
+        × (seat.old.me.1 ≡ (0, None) ∷ []) }
+    requires rule { Stands monitor.start monitor.entries
+        → Allows (Gated gate.now.key) gate.now.table_id.slots seat.old.id (seat.old.me.0, (0, Some monitor) ∷ []) 0
+        (λ _. 0) (M.then (step gate.now.table_id.slots 0 0 0 maybe.none) (seat.old.me.0, (0, Some monitor) ∷ [])) }
     ensures seat { (seat.new.table_id ≡ seat.old.table_id) × (seat.new.id ≡ seat.old.id) }
     ensures legal { Stands monitor.start monitor.entries }
-    ensures told { (found : ℕ) × M.then (step gate.now.table_id.slots 0 0 0 maybe.none) (seat.old.me.0, (0, Some monitor) ∷ []) found seat.new.me }
+    ensures told { (found : ℕ)
+        × M.then (step gate.now.table_id.slots 0 0 0 maybe.none)
+        (seat.old.me.0, (0, Some monitor) ∷ []) found seat.new.me }
 {
     let _legal = monitor.entries();
     match gate.exchange(seat, SLOT, Some(monitor)) {

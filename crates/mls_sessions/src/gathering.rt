@@ -16,8 +16,11 @@ pub(crate) fn gather<F: Feed>(feed: &mut F, asks: &mut Vec<Ask>) -> Given
     ensures room { AHEAD ≤ vec_capacity asks.new }
     ensures many { result ≡ Given.Several → vec_len asks.new ≤ AHEAD }
     ensures less { result ≢ Given.Nothing → F.asks_left feed.new < F.asks_left feed.old }
-    ensures waits { result ≢ Given.Nothing → (F.stands_at feed.new ≡ Stage.Waiting) × (F.waits_for feed.new ≡ length (asks_given result asks.new.items)) × (0 < length (asks_given result asks.new.items)) }
-    ensures gave { result ≢ Given.Nothing → Gave F.gives F.gives_ahead feed.old (asks_given result asks.new.items) feed.new }
+    ensures waits { result ≢ Given.Nothing → (F.stands_at feed.new ≡ Stage.Waiting)
+        × (F.waits_for feed.new ≡ length (asks_given result asks.new.items))
+        × (0 < length (asks_given result asks.new.items)) }
+    ensures gave { result ≢ Given.Nothing
+        → Gave F.gives F.gives_ahead feed.old (asks_given result asks.new.items) feed.new }
     ensures done { result ≡ Given.Nothing → (F.stands_at feed.new ≡ Stage.Done) × F.gives feed.old None feed.new }
 {
     let Some(first) = feed.next() else {
@@ -41,7 +44,8 @@ pub(crate) fn gather<F: Feed>(feed: &mut F, asks: &mut Vec<Ask>) -> Given
 /// Tells the feed the answers to the first of what it gave.
 #[tactic(auto, using(crate::proofs::Feeds::heard_next))]
 pub(crate) fn tell<F: Feed>(feed: &mut F, answers: &[Answer])
-    requires { (F.stands_at feed.old ≡ Stage.Waiting) × (0 < F.waits_for feed.old) × (length answers.now ≤ F.waits_for feed.old) }
+    requires { (F.stands_at feed.old ≡ Stage.Waiting) × (0 < F.waits_for feed.old)
+        × (length answers.now ≤ F.waits_for feed.old) }
     ensures left { F.asks_left feed.new ≤ F.asks_left feed.old }
     ensures ready { length answers.now ≡ F.waits_for feed.old → F.stands_at feed.new ≡ Stage.Ready }
     ensures waits { length answers.now < F.waits_for feed.old → F.stands_at feed.new ≡ Stage.Waiting }

@@ -10,10 +10,14 @@ use crate::steps::{Gather, Look, Move, Part};
 
 /// Joins the seats of two sessions, looks, and parts them again, both with the longer of the two histories.
 pub(crate) fn meet_at(gate: &Gate, mine: &mut GateSeat, theirs: &mut GateSeat)
-    requires office { (mine.old.table_id ≡ gate.now.table_id) × (theirs.old.table_id ≡ gate.now.table_id) × (gate.now.table_id.words ≡ 1) }
-    requires sessions { (mine.old.me ≡ seated gate.now.key (member_of mine.old.me.0)) × (theirs.old.me ≡ seated gate.now.key (member_of theirs.old.me.0)) }
+    requires office { (mine.old.table_id ≡ gate.now.table_id) × (theirs.old.table_id ≡ gate.now.table_id)
+        × (gate.now.table_id.words ≡ 1) }
+    requires sessions { (mine.old.me ≡ seated gate.now.key (member_of mine.old.me.0))
+        × (theirs.old.me ≡ seated gate.now.key (member_of theirs.old.me.0)) }
     ensures office { (mine.new.table_id ≡ gate.now.table_id) × (theirs.new.table_id ≡ gate.now.table_id) }
-    ensures longer { let x = member_of mine.old.me.0 in let y = member_of theirs.old.me.0 in Agree x y × (mine.new.me ≡ seated gate.now.key (member x.number (longer x.later y.later))) × (theirs.new.me ≡ seated gate.now.key (member y.number (longer x.later y.later))) }
+    ensures longer { let x = member_of mine.old.me.0 in let y = member_of theirs.old.me.0 in Agree x y
+        × (mine.new.me ≡ seated gate.now.key (member x.number (longer x.later y.later)))
+        × (theirs.new.me ≡ seated gate.now.key (member y.number (longer x.later y.later))) }
 {
     let whole = gate.split_seat::<Move>(theirs);
     gate.join_seat::<Gather>(mine, whole);

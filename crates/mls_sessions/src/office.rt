@@ -17,8 +17,8 @@ use mls_monitor::Monitor;
 use std::alloc::Global;
 use std::marker::Model;
 
-/// An office has a monitor that its sessions share, each in whatever thread, through one lock: the gate. A session takes
-/// the monitor out, and puts it home where it frees the gate.
+/// An office has a monitor that its sessions share, each in whatever thread, through one lock: the gate. A session
+/// takes the monitor out, and puts it home where it frees the gate.
 ///
 /// An office and its sessions may be dropped. A dropped session never comes back, so the office can't be closed then.
 #[derive(Drop)]
@@ -40,16 +40,17 @@ impl Model for Office {
 
     ghost view = { λ o. office_at o.table.shared.table_id o.table.shared.key };
 
-    ghost invariant = { λ o. (o.table.shared.table_id.words ≡ 1) × (o.table.shared.table_id.slots ≡ 1) × (0 < o.count) × (o.count ≡ o.table.shared.key.count) × (o.base ≡ base_length o.table.shared.key) };
+    ghost invariant = { λ o. (o.table.shared.table_id.words ≡ 1) × (o.table.shared.table_id.slots ≡ 1) × (0 < o.count)
+        × (o.count ≡ o.table.shared.key.count) × (o.base ≡ base_length o.table.shared.key) };
 }
 
 impl Office {
-    /// Opens the monitor to `n` sessions, which are numbered from 0 to `n` - 1. Each has the monitor's journal as its history.
-    /// It doesn't wait.
+    /// Opens the monitor to `n` sessions, which are numbered from 0 to `n` - 1. Each has the monitor's journal as its
+    /// history. It doesn't wait.
     ///
     /// # Errors
-    /// `BadCount` where `n` isn't 1 to [`MAX_SESSIONS`], else `Memory` where an allocation failed; with the monitor as it was
-    /// handed in.
+    /// `BadCount` where `n` isn't 1 to [`MAX_SESSIONS`], else `Memory` where an allocation failed; with the monitor as
+    /// it was handed in.
     #[tactic(auto, using(crate::proofs::SeatsKeep::newcomers_ascend))]
     pub fn open(
         alloc: Global,
@@ -63,7 +64,8 @@ impl Office {
         ensures sessions { IfOk result (λ r. r.1.items ≡ newcomers r.0 n) }
         ensures all { IfOk result (λ r. vec_len r.1 ≡ n) }
         ensures of { IfOk result (λ r. Ascending r.0 0 r.1.items) }
-        ensures kind { IfErr result (λ fault. fault.kind ≡ (if is_count n then OfficeFaultKind.Memory else OfficeFaultKind.BadCount)) }
+        ensures kind { IfErr result
+            (λ fault. fault.kind ≡ (if is_count n then OfficeFaultKind.Memory else OfficeFaultKind.BadCount)) }
         ensures monitor { IfErr result (λ fault. fault.monitor ≡ monitor) }
     {
         if n == 0 || n > MAX_SESSIONS {
@@ -101,8 +103,8 @@ impl Office {
         self.base
     }
 
-    /// Gives the monitor back, with the journal of all sessions. The sessions are given ascending by number. It doesn't wait
-    /// and doesn't allocate.
+    /// Gives the monitor back, with the journal of all sessions. The sessions are given ascending by number. It doesn't
+    /// wait and doesn't allocate.
     ///
     /// # Errors
     /// `CloseFault` where fewer than all sessions are given, with the office and the sessions as they were handed in.

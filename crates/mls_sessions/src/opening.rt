@@ -17,7 +17,8 @@ use std::alloc::Global;
 /// Puts the monitor into the empty slot.
 pub(crate) fn settle(gate: &Gate, seat: &mut GateSeat, monitor: BoxedMonitor)
     requires office { (seat.old.table_id ≡ gate.now.table_id) × (gate.now.table_id.words ≡ 1) }
-    requires first { (seat.old.me ≡ (Starting gate.now.key, [])) × (monitor ≡ journal (begun gate.now.key) (base gate.now.key)) }
+    requires first { (seat.old.me ≡ (Starting gate.now.key, []))
+        × (monitor ≡ journal (begun gate.now.key) (base gate.now.key)) }
     ensures seat { (seat.new.table_id ≡ seat.old.table_id) × (seat.new.id ≡ seat.old.id) }
     ensures giving { seat.new.me ≡ (Giving gate.now.key gate.now.key.count, []) }
 {
@@ -36,8 +37,10 @@ pub(crate) fn open_table(
     count: u32,
 ) -> Result<(GateTable, GateSeat), OfficeFault>
     ensures table { IfOk result (λ r. (r.0.shared.table_id.words ≡ 1) × (r.0.shared.table_id.slots ≡ 1)) }
-    ensures charter { IfOk result (λ r. r.0.shared.key ≡ record { start = monitor.start; entries = monitor.entries; count = count }) }
-    ensures seat { IfOk result (λ r. (r.1.table_id ≡ r.0.shared.table_id) × (r.1.me ≡ (Giving r.0.shared.key count, []))) }
+    ensures charter { IfOk result
+        (λ r. r.0.shared.key ≡ record { start = monitor.start; entries = monitor.entries; count = count }) }
+    ensures seat { IfOk result
+        (λ r. (r.1.table_id ≡ r.0.shared.table_id) × (r.1.me ≡ (Giving r.0.shared.key count, []))) }
     ensures err { IfErr result (λ fault. (fault.kind ≡ OfficeFaultKind.Memory) × (fault.monitor ≡ monitor)) }
 {
     let charter = Charter::of(&monitor, u64::from(count));
@@ -69,7 +72,8 @@ pub(crate) fn give_all(
     base: u64,
 )
     requires office { (seat.old.table_id ≡ gate.now.table_id) × (gate.now.table_id.words ≡ 1) }
-    requires first { (seat.old.me ≡ (Giving gate.now.key count, [])) × (count ≡ gate.now.key.count) × (base ≡ base_length gate.now.key) }
+    requires first { (seat.old.me ≡ (Giving gate.now.key count, [])) × (count ≡ gate.now.key.count)
+        × (base ≡ base_length gate.now.key) }
     requires room { (sessions.old.items ≡ []) × (count ≤ vec_capacity sessions.old) }
     ensures all { vec_len sessions.new ≡ count }
     ensures sessions { sessions.new.items ≡ newcomers (office_at gate.now.table_id gate.now.key) count }

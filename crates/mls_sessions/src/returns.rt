@@ -36,7 +36,9 @@ pub(crate) fn put_last<F: Feed + Drop>(
 #[tactic(auto, using(crate::proofs::SeatsKeep::ascending_last))]
 pub(crate) fn pop_session(office: &Office, sessions: &mut Vec<Session>) -> Option<Session>
     requires { Ascending office.now 0 sessions.old.items }
-    ensures some { IfSome result (λ s. (sessions.old.items ≡ sessions.new.items ++ s ∷ []) × Ascending office.now 0 sessions.new.items × IsOf office.now s × (vec_len sessions.new + 1 ≡ vec_len sessions.old)) }
+    ensures some { IfSome result
+        (λ s. (sessions.old.items ≡ sessions.new.items ++ s ∷ []) × Ascending office.now 0 sessions.new.items
+        × IsOf office.now s × (vec_len sessions.new + 1 ≡ vec_len sessions.old)) }
     ensures none { IfNone result (vec_len sessions.old ≡ 0) }
 {
     let _ = office;
@@ -47,7 +49,9 @@ pub(crate) fn pop_session(office: &Office, sessions: &mut Vec<Session>) -> Optio
 #[tactic(auto, using(crate::proofs::Runs::at_last))]
 pub(crate) fn pop_feed<F: Feed>(feeds: &mut Vec<F>) -> Option<F>
     requires { AllAt F.stands_at Stage.Ready feeds.old.items }
-    ensures some { IfSome result (λ f. (feeds.old.items ≡ feeds.new.items ++ f ∷ []) × (F.stands_at f ≡ Stage.Ready) × AllAt F.stands_at Stage.Ready feeds.new.items × (vec_len feeds.new + 1 ≡ vec_len feeds.old)) }
+    ensures some { IfSome result
+        (λ f. (feeds.old.items ≡ feeds.new.items ++ f ∷ []) × (F.stands_at f ≡ Stage.Ready)
+        × AllAt F.stands_at Stage.Ready feeds.new.items × (vec_len feeds.new + 1 ≡ vec_len feeds.old)) }
     ensures none { IfNone result (vec_len feeds.old ≡ 0) }
 {
     feeds.pop()

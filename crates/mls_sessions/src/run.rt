@@ -1,5 +1,6 @@
 //! A run of feeds: one thread for each session, which asks for what its feed gives.
-ghost use Rattle.std.specs.Prelude.{◌≡◌, ◌≢◌, ◌+◌, ◌<◌, ◌≤◌, ◌∷◌, ◌++◌, [], false, length, drop, IfOk, IfErr, OnOk, IsTrue, vec_len, vec_capacity};
+ghost use Rattle.std.specs.Prelude.{◌≡◌, ◌≢◌, ◌+◌, ◌<◌, ◌≤◌, ◌∷◌, ◌++◌, [], false, length, drop, IfOk, IfErr, OnOk};
+ghost use Rattle.std.specs.Prelude.{IsTrue, vec_len, vec_capacity};
 ghost use denote.Param.Send.{IsSync};
 ghost use Rattle.mls_sessions.specs.Journals.{journal_of};
 ghost use Rattle.mls_sessions.specs.Sessions.{IsOf, Ascending, newcomers, is_count};
@@ -26,8 +27,8 @@ use std::sync::atomic::{AtomicBool, Ordering};
 use std::thread;
 use std::thread::Threads;
 
-/// A thread for each session, which come back in their order with their feeds. Where a thread can't be started its closure
-/// comes back, and is called here with the word to leave the feed alone.
+/// A thread for each session, which come back in their order with their feeds. Where a thread can't be started its
+/// closure comes back, and is called here with the word to leave the feed alone.
 #[tactic(auto, using(crate::proofs::Feeds::served_none))]
 fn attend_all<R: Threads + Wait + Sync, F: Feed + Send + Drop>(
     rt: &R,
@@ -46,7 +47,8 @@ fn attend_all<R: Threads + Wait + Sync, F: Feed + Send + Drop>(
     ensures counts { (vec_len result.0 ≡ vec_len sessions) × (vec_len result.1 ≡ vec_len sessions) }
     ensures room { (vec_capacity back ≤ vec_capacity result.0) × (vec_capacity fed ≤ vec_capacity result.1) }
     ensures done { result.2 ≡ Asked.ToTheEnd → AllAt F.stands_at Stage.Done result.1.items }
-    ensures served { AllServed F.gives F.gives_ahead F.hears F.stops office.now sessions.items feeds.items result.2 result.0.items result.1.items }
+    ensures served { AllServed F.gives F.gives_ahead F.hears F.stops office.now sessions.items feeds.items result.2
+        result.0.items result.1.items }
 {
     let Some(session) = pop_session(office, &mut sessions) else {
         return (back, fed, Asked::ToTheEnd);
@@ -60,12 +62,16 @@ fn attend_all<R: Threads + Wait + Sync, F: Feed + Send + Drop>(
         thread::scope_env(),
         rt,
         |scope| -> (Vec<Session>, Vec<F>, Asked)
-            requires { IsSync R.row × IsOf office.now session × Ascending office.now 0 sessions.items × (F.stands_at feed ≡ Stage.Ready) × AllAt F.stands_at Stage.Ready feeds.items × (vec_len feeds ≡ vec_len sessions) × (back.items ≡ []) × (fed.items ≡ []) × (vec_len sessions < vec_capacity back) × (vec_len sessions < vec_capacity fed) }
+            requires { IsSync R.row × IsOf office.now session × Ascending office.now 0 sessions.items
+                × (F.stands_at feed ≡ Stage.Ready) × AllAt F.stands_at Stage.Ready feeds.items
+                × (vec_len feeds ≡ vec_len sessions) × (back.items ≡ []) × (fed.items ≡ [])
+                × (vec_len sessions < vec_capacity back) × (vec_len sessions < vec_capacity fed) }
             ensures sessions { Returned office.entry.now (sessions.items ++ session ∷ []) result.0.items }
             ensures counts { (vec_len result.0 ≡ vec_len sessions + 1) × (vec_len result.1 ≡ vec_len sessions + 1) }
             ensures room { (vec_capacity back ≤ vec_capacity result.0) × (vec_capacity fed ≤ vec_capacity result.1) }
             ensures done { result.2 ≡ Asked.ToTheEnd → AllAt F.stands_at Stage.Done result.1.items }
-            ensures served { AllServed F.gives F.gives_ahead F.hears F.stops office.entry.now (sessions.items ++ session ∷ []) (feeds.items ++ feed ∷ []) result.2 result.0.items result.1.items }
+            ensures served { AllServed F.gives F.gives_ahead F.hears F.stops office.entry.now
+                (sessions.items ++ session ∷ []) (feeds.items ++ feed ∷ []) result.2 result.0.items result.1.items }
         {
             let back_as = Back(office, Snapshot::of(&session), Snapshot::of(&feed));
             match scope.spawn_with(back_as, move || {
@@ -114,13 +120,17 @@ pub(crate) fn run_open<R: Threads + Wait + Sync, F: Feed + Send + Drop>(
     requires sessions { Ascending opened.0 0 opened.1.items }
     requires newcomers { opened.1.items ≡ newcomers opened.0 opened.0.charter.count }
     requires ready { AllAt F.stands_at Stage.Ready feeds.items }
-    requires counts { (vec_len feeds ≡ vec_len opened.1) × (vec_len opened.1 ≡ opened.0.charter.count) × (back.items ≡ []) × (fed.items ≡ []) }
+    requires counts { (vec_len feeds ≡ vec_len opened.1) × (vec_len opened.1 ≡ opened.0.charter.count)
+        × (back.items ≡ []) × (fed.items ≡ []) }
     requires room { (vec_len feeds ≤ vec_capacity back) × (vec_len feeds ≤ vec_capacity fed) }
     ensures grew { Grew (begun opened.0.charter) (base opened.0.charter) opened.0.charter.count result.0 }
     ensures count { vec_len result.1 ≡ vec_len feeds }
     ensures done { result.2 ≡ Asked.ToTheEnd → AllAt F.stands_at Stage.Done result.1.items }
-    ensures fed { result.2 ≡ Asked.ToTheEnd → AllFed F.gives F.gives_ahead F.hears (begun opened.0.charter) (base opened.0.charter) (news opened.0.charter (journal_of result.0)) 0 feeds.items result.1.items }
-    ensures told { AllTold F.gives F.gives_ahead F.hears F.stops result.2 (begun opened.0.charter) (base opened.0.charter) (news opened.0.charter (journal_of result.0)) 0 feeds.items result.1.items }
+    ensures fed { result.2 ≡ Asked.ToTheEnd
+        → AllFed F.gives F.gives_ahead F.hears (begun opened.0.charter) (base opened.0.charter)
+        (news opened.0.charter (journal_of result.0)) 0 feeds.items result.1.items }
+    ensures told { AllTold F.gives F.gives_ahead F.hears F.stops result.2 (begun opened.0.charter)
+        (base opened.0.charter) (news opened.0.charter (journal_of result.0)) 0 feeds.items result.1.items }
 {
     let (office, sessions) = opened;
     let (back, fed, asked) = attend_all(rt, alloc, &office, sessions, feeds, back, fed);
@@ -157,9 +167,9 @@ fn ended<F: Feed>(left: (Monitor, Vec<F>, Asked)) -> Result<RunDone<F>, RunFault
 /// closes: feed k is asked as session k. It waits for the threads.
 ///
 /// # Errors
-/// `BadCount` where there isn't one feed, to [`MAX_SESSIONS`] feeds; the monitor and the feeds are then as they were handed in.
-/// Else `Memory` where an allocation failed, also in a session's request: that feed is told so, and the others run on. Else
-/// `Thread` where a thread couldn't be started: its feed is asked nothing, and the others run on.
+/// `BadCount` where there isn't one feed, to [`MAX_SESSIONS`] feeds; the monitor and the feeds are then as they were
+/// handed in. Else `Memory` where an allocation failed, also in a session's request: that feed is told so, and the
+/// others run on. Else `Thread` where a thread couldn't be started: its feed is asked nothing, and the others run on.
 #[tactic(auto, using(crate::proofs::Runs::grew_none, crate::proofs::Feeds::untold, crate::proofs::Feeds::untold_refused))]
 pub fn run_sessions<R: Threads + Wait + Sync, F: Feed + Send + Drop>(
     rt: &R,
@@ -173,11 +183,18 @@ pub fn run_sessions<R: Threads + Wait + Sync, F: Feed + Send + Drop>(
     ensures ok { IfOk result (λ run. Grew monitor.start monitor.entries (vec_len feeds) run.monitor) }
     ensures err { IfErr result (λ fault. Grew monitor.start monitor.entries (vec_len feeds) fault.monitor) }
     ensures feeds { IfOk result (λ run. vec_len run.feeds ≡ vec_len feeds) }
-    ensures fed { IfOk result (λ run. AllFed F.gives F.gives_ahead F.hears monitor.start monitor.entries (drop (length monitor.entries) run.monitor.entries) 0 feeds.items run.feeds.items) }
-    ensures told { IfErr result (λ fault. AllTold F.gives F.gives_ahead F.hears F.stops (worst_of fault.kind) monitor.start monitor.entries (drop (length monitor.entries) fault.monitor.entries) 0 feeds.items fault.feeds.items) }
+    ensures fed { IfOk result
+        (λ run. AllFed F.gives F.gives_ahead F.hears monitor.start monitor.entries
+        (drop (length monitor.entries) run.monitor.entries) 0 feeds.items run.feeds.items) }
+    ensures told { IfErr result
+        (λ fault. AllTold F.gives F.gives_ahead F.hears F.stops (worst_of fault.kind) monitor.start monitor.entries
+        (drop (length monitor.entries) fault.monitor.entries) 0 feeds.items fault.feeds.items) }
     ensures back { IfErr result (λ fault. vec_len fault.feeds ≡ vec_len feeds) }
     ensures kind { IfErr result (λ fault. fault.kind ≡ RunFaultKind.BadCount → is_count (vec_len feeds) ≡ false) }
-    ensures bad { is_count (vec_len feeds) ≡ false → IfErr result (λ fault. (fault.kind ≡ RunFaultKind.BadCount) × (fault.monitor ≡ monitor) × (fault.feeds.items ≡ feeds.items)) }
+    ensures bad { is_count (vec_len feeds) ≡ false
+        → IfErr result
+        (λ fault. (fault.kind ≡ RunFaultKind.BadCount) × (fault.monitor ≡ monitor)
+        × (fault.feeds.items ≡ feeds.items)) }
 {
     if feeds.is_empty() || feeds.len() > MAX_SESSIONS as usize {
         return Err(RunFault {

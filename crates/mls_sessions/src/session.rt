@@ -13,8 +13,8 @@ use crate::office::Office;
 use crate::pace::Pace;
 use std::marker::Model;
 
-/// A session of an office. It knows a prefix of the journal, its history, which has just those entries with its number that
-/// it made, each once and in order. It is used with the office that gave it, by one thread at a time.
+/// A session of an office. It knows a prefix of the journal, its history, which has just those entries with its number
+/// that it made, each once and in order. It is used with the office that gave it, by one thread at a time.
 #[derive(Drop)]
 pub struct Session {
     seat: GateSeat,

@@ -1,5 +1,6 @@
 //! The kinds of atomic step, each with what it tells the seat that makes it.
-ghost use Rattle.mls_sessions.specs.Steps.{filled, settled, won, marked, kept, updated, looked, left_of, right_of, both_of, first_of_two, second_of_two};
+ghost use Rattle.mls_sessions.specs.Steps.{filled, settled, won, marked, kept, updated, looked, left_of, right_of};
+ghost use Rattle.mls_sessions.specs.Steps.{both_of, first_of_two, second_of_two};
 ghost use Rattle.mls_sessions.specs.declared.gate_table.View.TheVariants.{Spent};
 
 use crate::boxed_monitor::BoxedMonitor;

@@ -8,13 +8,12 @@ use Rattle.mls_builder.specs.Rows.{Rows, opening}
 use Rattle.mls_builder.specs.declared.start_fault.StartFault.{StartFault}
 use Rattle.mls_builder.specs.declared.start_fault.StartFault.TheVariants.{NoSubjects, TooManySubjects, TooManyObjects}
 use Rattle.mls_builder.specs.declared.object_row.ObjectRow.{ObjectRow}
-use Rattle.mls_tables.specs.Triples.{Triple}
 use Rattle.mls_tables.specs.declared.limits.TheConstants.{MAX_SUBJECTS, MAX_OBJECTS}
 use Rattle.mls_starts.specs.Building.{count_fault}
 use Rattle.mls_starts.specs.Loading.{needing, refused_by, start_of}
 use Rattle.mls_starts.specs.Each.{each_of}
 use Rattle.mls_starts.specs.Labelling.{Labelled}
-use Rattle.mls_starts.specs.Placing.{placed_child, rows_made, rows_with}
+use Rattle.mls_starts.specs.Placing.{Placed, placed_child, rows_made, rows_with}
 use Rattle.mls_starts.specs.declared.load_fault.LoadFault.TheVariants.{Start, Unknown}
 use Rattle.mls_starts.proofs.Rows.{length_each}
 
@@ -25,7 +24,7 @@ front false true c x y z fault rest h = h
 front false false true x y z fault rest h = h
 front false false false x y z fault rest h = absurd (none-some fault h)
 
-by_rows : (names : Names) (labelled : Labelled) (triples : List Triple) (fault : StartFault) (o : Option (List ObjectRow)) → each_of placed_child labelled.children ≡ o → is_some o ≡ true → count_fault (length labelled.subjects) (length labelled.children) ≡ Some fault → needing (option_map (rows_made names labelled triples) o) Unknown start_of ≡ Err (Start fault)
+by_rows : (names : Names) (labelled : Labelled) (triples : Placed) (fault : StartFault) (o : Option (List ObjectRow)) → each_of placed_child labelled.children ≡ o → is_some o ≡ true → count_fault (length labelled.subjects) (length labelled.children) ≡ Some fault → needing (option_map (rows_made names labelled triples) o) Unknown start_of ≡ Err (Start fault)
 by_rows names labelled triples fault None known some counted = absurd (false≢true some)
 by_rows names labelled triples fault (Some objects) known some counted =
     let rows : Rows = rows_made names labelled triples objects in
@@ -33,5 +32,5 @@ by_rows names labelled triples fault (Some objects) known some counted =
     ap (λ f. refused_by (option_map (λ x. Start x) f) (Ok (opening rows))) (front (length labelled.subjects == 0) (nat_lt MAX_SUBJECTS (length labelled.subjects)) (nat_lt MAX_OBJECTS (1 + length objects)) NoSubjects TooManySubjects TooManyObjects fault _ counts)
 
 -- where each parent is known, and there are none or too many of something, that is the rows' first fault
-pub refused_by_count : (names : Names) (labelled : Labelled) (triples : List Triple) (fault : StartFault) → is_some (each_of placed_child labelled.children) ≡ true → count_fault (length labelled.subjects) (length labelled.children) ≡ Some fault → needing (rows_with names labelled triples) Unknown start_of ≡ Err (Start fault)
+pub refused_by_count : (names : Names) (labelled : Labelled) (triples : Placed) (fault : StartFault) → is_some (each_of placed_child labelled.children) ≡ true → count_fault (length labelled.subjects) (length labelled.children) ≡ Some fault → needing (rows_with names labelled triples) Unknown start_of ≡ Err (Start fault)
 refused_by_count names labelled triples fault known counted = by_rows names labelled triples fault (each_of placed_child labelled.children) refl known counted

@@ -58,6 +58,18 @@ cells_more ts i d first before after s o within subject object was now =
     ∙ ap {A = ℕ} {B = Rows} (λ n. record first { cells = set.insert (set.from_list {R = triple_cmp} (map triple_view (take i ts))) ((get_or ts i d).subject, n, (get_or ts i d).mode) }) object
     ∙ ap {B = Rows} (λ cells. record first { cells = cells }) (sym (set_more ts i d within))
 
+-- a builder with one access more
+pub accesses_more : (ts : List PlacedTriple) (i : ℕ) (d : PlacedTriple) (first before after : Rows) (s o : ℕ) → i < length ts → s ≡ (get_or ts i d).subject → o ≡ (get_or ts i d).object
+    → before ≡ record first { accesses = set.from_list {R = triple_cmp} (map triple_view (take i ts)) }
+    → after ≡ record before { accesses = set.insert before.accesses (s, o, (get_or ts i d).mode) }
+    → after ≡ record first { accesses = set.from_list {R = triple_cmp} (map triple_view (take (i + 1) ts)) }
+accesses_more ts i d first before after s o within subject object was now =
+    now
+    ∙ ap (λ (rows : Rows). record rows { accesses = set.insert rows.accesses (s, o, (get_or ts i d).mode) }) was
+    ∙ ap {A = ℕ} {B = Rows} (λ n. record first { accesses = set.insert (set.from_list {R = triple_cmp} (map triple_view (take i ts))) (n, o, (get_or ts i d).mode) }) subject
+    ∙ ap {A = ℕ} {B = Rows} (λ n. record first { accesses = set.insert (set.from_list {R = triple_cmp} (map triple_view (take i ts))) ((get_or ts i d).subject, n, (get_or ts i d).mode) }) object
+    ∙ ap {B = Rows} (λ accesses. record first { accesses = accesses }) (sym (set_more ts i d within))
+
 -- a cell of which a word is no mode's
 pub cell_lacks : {X Y : Type 0} (p q : Option ℕ) (g : ℕ → ℕ → X → Y) (modes : Option X) → modes ≡ None → having p (λ s. having q (λ o. option_map (g s o) modes)) ≡ None
 cell_lacks None q g modes none = refl

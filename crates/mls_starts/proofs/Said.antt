@@ -52,7 +52,7 @@ with_not names (Err fault) not = not
 named_not : (names : Names) (file : SaidFile) → NotJson (start_named names file)
 named_not names file =
     needing_not (labels_of names file) Label (start_labelled names file) (λ e. cc) (λ (labelled : Labelled).
-    needing_not (rows_of names labelled file.cells) Unknown start_of (λ e. cc) rows_not)
+    needing_not (rows_of names file labelled) Unknown start_of (λ e. cc) rows_not)
 
 file_not : (file : SaidFile) → NotJson (load_of_file file)
 file_not file =

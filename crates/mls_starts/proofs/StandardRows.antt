@@ -11,11 +11,12 @@ use Rattle.mls_facts.specs.Each.{each}
 use Rattle.mls_facts.proofs.Each.{each-from_list}
 use Rattle.mls_labels.specs.Label.{Label, Bounds, dominates, has_label}
 use Rattle.mls_labels.proofs.Laws.{reflexive}
-use Rattle.mls_tables.specs.Triples.{triple_cmp}
+use Rattle.mls_tables.specs.Triples.{Triple, triple_cmp}
 use Rattle.mls_tables.proofs.Laws.{triples_total, same_triple}
 use Rattle.mls_builder.proofs.Laws.{with_triples-from_list}
 use Rattle.mls_builder.specs.declared.start_fault.StartFault.{StartFault}
-use Rattle.mls_builder.specs.declared.start_fault.StartFault.TheVariants.{BadLabel, BadParent, CurrentAboveMaximum, NotCompatible, IntegrityAboveParent, NoSuchCell}
+use Rattle.mls_builder.specs.declared.start_fault.StartFault.TheVariants.{BadLabel, BadParent, CurrentAboveMaximum, NotCompatible, IntegrityAboveParent, NoSuchCell, NotSecure}
+use Rattle.mls_state.specs.Audit.{access_holds}
 use Rattle.mls_state.specs.First.{with_triples}
 use Rattle.mls_builder.specs.Rows.{labels_of, opening}
 use Rattle.mls_builder.specs.StartFaults.{start_fault, labels_fit, parents_before, current_fits, security_fits, integrity_fits, is_cell}
@@ -79,6 +80,9 @@ integrities = λ i. reflexive (plain 1) i && (above_plain (plain 1) 0 refl i && 
 cells : each standard_rows.cells (is_cell 4 4) ≡ true
 cells = each-from_list triples_total same_triple (is_cell 4 4) standard_cells
 
+no_access : (p : Triple → Bool) → each {R = triple_cmp} standard_rows.accesses p ≡ true
+no_access p = each-from_list triples_total same_triple p []
+
 -- to permit the cells one after the other is to permit their set
 pub all_cells : with_triples set.empty standard_cells ≡ set.from_list {R = triple_cmp} standard_cells
 all_cells = with_triples-from_list [] standard_cells
@@ -94,7 +98,9 @@ nothing_wrong =
     (unless (list_all current_fits standard_subjects) CurrentAboveMaximum _ currents
     (unless (list_all (security_fits (labels_of standard_rows)) standard_objects) NotCompatible _ compatible
     (unless (list_all (integrity_fits (labels_of standard_rows)) standard_objects) IntegrityAboveParent _ integrities
-    (unless (each standard_rows.cells (is_cell 4 4)) NoSuchCell _ cells refl)))))
+    (unless (each standard_rows.cells (is_cell 4 4)) NoSuchCell _ cells
+    (unless (each standard_rows.accesses (is_cell 4 4)) NoSuchCell _ (no_access (is_cell 4 4))
+    (unless (each standard_rows.accesses (access_holds (opening standard_rows))) NotSecure _ (no_access (access_holds (opening standard_rows))) refl)))))))
 
 -- the names of the standard start go with what its rows open with
 pub names_tied : AreTied standard_names (opening standard_rows)

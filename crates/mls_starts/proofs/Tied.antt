@@ -6,10 +6,9 @@ use Rattle.mls_lines.specs.Names.{Names}
 use Rattle.mls_builder.proofs.Laws.{subject_opening, active_opening}
 use Rattle.mls_builder.specs.Rows.{Rows, opening, object_count}
 use Rattle.mls_builder.specs.declared.object_row.ObjectRow.{ObjectRow}
-use Rattle.mls_tables.specs.Triples.{Triple}
 use Rattle.mls_starts.specs.Each.{each_of}
 use Rattle.mls_starts.specs.Labelling.{Labelled}
-use Rattle.mls_starts.specs.Placing.{placed_child, rows_made, rows_with}
+use Rattle.mls_starts.specs.Placing.{Placed, placed_child, rows_made, rows_with}
 use Rattle.mls_starts.specs.Ties.{HasCounts}
 use Rattle.mls_starts.proofs.Rows.{length_each}
 
@@ -29,7 +28,7 @@ integrity_is rows = refl
 pub counted : (rows : Rows) → HasCounts (length rows.subjects) (object_count rows) rows.security rows.integrity (opening rows)
 counted rows = record { known = subject_opening rows; active = active_opening rows; next = next_is rows; security = security_is rows; integrity = integrity_is rows }
 
-by_objects : (names : Names) (labelled : Labelled) (triples : List Triple) (rows : Rows) (o : Option (List ObjectRow)) → each_of placed_child labelled.children ≡ o → option_map (rows_made names labelled triples) o ≡ Some rows
+by_objects : (names : Names) (labelled : Labelled) (triples : Placed) (rows : Rows) (o : Option (List ObjectRow)) → each_of placed_child labelled.children ≡ o → option_map (rows_made names labelled triples) o ≡ Some rows
     → HasCounts (length labelled.subjects) (1 + length labelled.children) (bounds_of names.security) (bounds_of names.integrity) (opening rows)
 by_objects names labelled triples rows None known made = absurd (none-some rows made)
 by_objects names labelled triples rows (Some objects) known made =
@@ -39,6 +38,6 @@ by_objects names labelled triples rows (Some objects) known made =
     rw (← same, ← children) counts
 
 -- the rows of a labelled file open with just as many
-pub counted_rows : (names : Names) (labelled : Labelled) (triples : List Triple) (rows : Rows) → rows_with names labelled triples ≡ Some rows
+pub counted_rows : (names : Names) (labelled : Labelled) (triples : Placed) (rows : Rows) → rows_with names labelled triples ≡ Some rows
     → HasCounts (length labelled.subjects) (1 + length labelled.children) (bounds_of names.security) (bounds_of names.integrity) (opening rows)
 counted_rows names labelled triples rows made = by_objects names labelled triples rows (each_of placed_child labelled.children) refl made

@@ -1,9 +1,10 @@
 -- The start that rows make.
-use Rattle.std.specs.Prelude.{ℕ, ◌<◌, ◌+◌, ◌==◌, Option, Some, None, nat_lt, if◌then◌else◌, IfSome}
+use Rattle.std.specs.Prelude.{ℕ, ◌<◌, ◌+◌, ◌==◌, Option, Some, None, nat_lt, if◌then◌else◌, IfSome, All}
 use Rattle.mls_tables.specs.declared.limits.TheConstants.{MAX_SUBJECTS, MAX_OBJECTS}
 use Rattle.mls_builder.specs.declared.start_fault.StartFault.{StartFault}
 use Rattle.mls_builder.specs.declared.start_fault.StartFault.TheVariants.{NoSubjects, TooManySubjects, TooManyObjects}
 use Rattle.mls_starts.specs.declared.labels.LabelledChild.{LabelledChild}
+use Rattle.mls_starts.specs.declared.file_places.FilePlaces.{FilePlaces}
 use Rattle.mls_starts.specs.declared.places.PlacedTriple.{PlacedTriple}
 
 -- The fault of so many subjects and so many objects below the root, where there are none or too many of them. (own)
@@ -21,3 +22,8 @@ HasParentBelow objects c = IfSome c.parent (λ place. place < objects)
 -- A triple's places are of so many subjects and of so many objects. (own)
 abbrev pub IsPlacedBelow : ℕ → ℕ → PlacedTriple → Type 0
 IsPlacedBelow subjects objects t = (t.subject < subjects) × (t.object < objects)
+
+-- The places of all triples of a file are. (own)
+pub record ArePlacedBelow (subjects objects : ℕ) (places : FilePlaces) : Type 0 where
+  pub cells : All (IsPlacedBelow subjects objects) places.cells.items
+  pub accesses : All (IsPlacedBelow subjects objects) places.accesses.items

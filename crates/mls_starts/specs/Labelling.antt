@@ -11,8 +11,8 @@ use Rattle.mls_starts.specs.declared.labels.LabelledChild.{LabelledChild}
 use Rattle.mls_starts.specs.Each.{having, each_of}
 use Rattle.mls_starts.specs.Texts.{SaidFile, SaidSubject, SaidObject, SaidChild}
 
--- A start file whose labels are known: the subjects, the root's labels, and the objects below it, each with the place of its parent's name among
--- the objects' names, where it is one of them. (own)
+-- A start file whose labels are known: the subjects, the root's labels, and the objects below it, each with the place
+-- of its parent's name among the objects' names, where it is one of them. (own)
 pub record Labelled : Type 0 where
   pub subjects : List Subject
   pub root : ObjectLabels
@@ -22,7 +22,8 @@ pub record Labelled : Type 0 where
 abbrev pub label_in : Scheme → List ℕ → Option Label
 label_in scheme text = result_ok (label_at scheme text)
 
--- A subject with its labels: the maximum and the current one by the security scheme, the third by the integrity scheme. (own)
+-- A subject with its labels: the maximum and the current one by the security scheme, the third by the integrity scheme.
+-- (own)
 abbrev pub labelled_subject : Scheme → Scheme → SaidSubject → Option Subject
 labelled_subject security integrity s =
     having (label_in security s.maximum) (λ maximum.

@@ -33,7 +33,7 @@ start_of rows = refused_by (option_map (λ fault. Start fault) (start_fault rows
 
 -- What a file of these names with its labels says: what its rows say, where each name in it is known. (own)
 abbrev pub start_labelled : Names → SaidFile → Labelled → Result State LoadFault
-start_labelled names file labelled = needing (rows_of names labelled file.cells) Unknown start_of
+start_labelled names file labelled = needing (rows_of names file labelled) Unknown start_of
 
 -- What a file of these names says: what it says with its labels, where each text spells one. (own)
 abbrev pub start_named : Names → SaidFile → Result State LoadFault

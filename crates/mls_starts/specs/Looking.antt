@@ -2,7 +2,7 @@
 use Rattle.std.specs.Prelude.{◌≡◌, ℕ, suc, Bool, List, [], ◌∷◌, Option, Some, is_some, option_map, unwrap_or}
 use Rattle.std.specs.Str.{IsUtf8}
 use Rattle.serde_json.specs.Data.{Data, Items, no_items, item, Members, no_members, member}
-use Rattle.serde_json.specs.Find.{get, as_null, as_bool, as_str, as_array, as_object}
+use Rattle.serde_json.specs.Find.{get, as_null, as_bool, as_number, as_str, as_array, as_object, as_u64}
 use Rattle.serde_json.specs.Read.{read}
 use Rattle.mls_starts.specs.Each.{having, each_of}
 
@@ -35,6 +35,14 @@ bool_at key d = having (get key d) as_bool
 -- Whether a member is there, and null. (own)
 abbrev pub is_null_at : List ℕ → Data → Bool
 is_null_at key d = is_some (having (get key d) as_null)
+
+-- Whether a member is there, whatever it is. (own)
+abbrev pub has_member : List ℕ → Data → Bool
+has_member key d = is_some (get key d)
+
+-- The whole number in a member, from 0 to 2^64 - 1; a number that is written with a point or an exponent is none. (own)
+abbrev pub number_at : List ℕ → Data → Option ℕ
+number_at key d = having (having (get key d) as_number) as_u64
 
 -- The list in a member. (own)
 abbrev pub list_at : List ℕ → Data → Option (List Data)

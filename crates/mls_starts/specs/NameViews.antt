@@ -4,4 +4,11 @@ use Rattle.mls_starts.specs.declared.file_names.FileNames.{FileNames}
 
 -- The names in a file. (own)
 abbrev pub names_view : FileNames → Names
-names_view n = record { subjects = n.sets.subjects; objects = n.sets.objects; security = n.schemes.security; integrity = n.schemes.integrity }
+names_view n =
+    record {
+      subjects = n.sets.subjects;
+      objects = n.sets.objects;
+      security = n.schemes.security;
+      integrity =
+          n.schemes.integrity;
+    }

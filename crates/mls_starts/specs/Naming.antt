@@ -10,7 +10,8 @@ use Rattle.mls_starts.specs.declared.load_fault.LoadFault.{LoadFault}
 use Rattle.mls_starts.specs.declared.load_fault.LoadFault.TheVariants.{Scheme, Name}
 use Rattle.mls_starts.specs.Texts.{SaidFile, subject_names, object_names}
 
--- Why a file's schemes are refused, where they are: the fault of the security scheme, or else that of the integrity scheme. (own)
+-- Why a file's schemes are refused, where they are: the fault of the security scheme, or else that of the integrity
+-- scheme. (own)
 abbrev pub schemes_fault : SaidFile → Option SchemeFault
 schemes_fault file = option_or (scheme_fault file.security) (scheme_fault file.integrity)
 
@@ -22,12 +23,14 @@ are_names names = list_all is_name names && not (has_twice names)
 abbrev pub names_fit : SaidFile → Bool
 names_fit file = are_names (subject_names file) && are_names (object_names file)
 
--- What is wrong with the names in a file, where something is: a scheme is refused, or else the names of subjects or objects aren't as they are
--- to be. (own)
+-- What is wrong with the names in a file, where something is: a scheme is refused, or else the names of subjects or
+-- objects aren't as they are to be. (own)
 abbrev pub names_fault : SaidFile → Option LoadFault
-names_fault file = option_or (option_map (λ fault. Scheme fault) (schemes_fault file)) (if names_fit file then None else Some Name)
+names_fault file =
+    option_or (option_map (λ fault. Scheme fault) (schemes_fault file)) (if names_fit file then None else Some Name)
 
--- The names that a file's lines may use: its subjects' and objects', whose places are their numbers, and its schemes. (own)
+-- The names that a file's lines may use: its subjects' and objects', whose places are their numbers, and its schemes.
+-- (own)
 abbrev pub names_of : SaidFile → Names
 names_of file = record {
   subjects = subject_names file;

@@ -5,7 +5,8 @@ use Rattle.mls_starts.specs.Loading.{load_of}
 use Rattle.mls_starts.specs.Looking.{IsReadAs}
 use Rattle.mls_starts.specs.Ties.{Loaded}
 use Rattle.mls_starts.specs.declared.load_fault.LoadFault.{LoadFault}
-use Rattle.mls_starts.specs.declared.load_fault.LoadFault.TheVariants.{Json, Members, Scheme, Name, Label, Unknown, Start, Memory}
+use Rattle.mls_starts.specs.declared.load_fault.LoadFault.TheVariants.{Json, Members, Scheme, Name, Label, Unknown}
+use Rattle.mls_starts.specs.declared.load_fault.LoadFault.TheVariants.{Start, Memory}
 
 -- The bytes of a start file say these names and this start. (own)
 abbrev pub SaysStart : List ℕ → Loaded → Type 0

@@ -5,6 +5,7 @@ use Rattle.mls_labels.specs.Label.{Label}
 use Rattle.mls_labels.specs.Scheme.{Scheme, bounds_of}
 use Rattle.mls_tables.specs.Triples.{Triple}
 use Rattle.mls_tables.specs.declared.mode.Mode.TheVariants.{Execute, Read, Append, Write}
+use Rattle.mls_tree.specs.declared.profile.Profile.TheVariants.{One}
 use Rattle.mls_state.specs.declared.subject.Subject.{Subject}
 use Rattle.mls_builder.specs.declared.object_row.ObjectRow.{ObjectRow}
 use Rattle.mls_builder.specs.Rows.{Rows}
@@ -21,7 +22,8 @@ standard_security = record {
 abbrev pub standard_integrity : Scheme
 standard_integrity = record { levels = codes "lo" ∷ codes "hi" ∷ []; categories = [] }
 
--- The names of the standard start's subjects and objects, in the order of their numbers, and its schemes of labels. (own)
+-- The names of the standard start's subjects and objects, in the order of their numbers, and its schemes of labels.
+-- (own)
 abbrev pub standard_names : Names
 standard_names = record {
   subjects = codes "ann" ∷ codes "bob" ∷ codes "sec" ∷ codes "aud" ∷ [];
@@ -68,7 +70,8 @@ standard_cells =
     ∷ (3, 1, Read)
     ∷ []
 
--- The rows of the standard start: those subjects, objects and cells, a root without secrets, and the bounds of the two schemes. (own)
+-- The rows of the standard start: those subjects, objects and cells, a root without secrets, the bounds of the two
+-- schemes, profile 1 and no access. (own)
 abbrev pub standard_rows : Rows
 standard_rows = record {
   security = bounds_of standard_security;
@@ -77,4 +80,6 @@ standard_rows = record {
   subjects = standard_subjects;
   objects = standard_objects;
   cells = set.from_list standard_cells;
+  accesses = set.empty;
+  profile = One;
 }

@@ -1,10 +1,14 @@
--- What a start file has in its members, all of it as text: the form of the file, before it is asked what the texts name.
-use Rattle.std.specs.Prelude.{ℕ, Bool, List, [], ◌∷◌, codes, map, ◌==◌, if◌then◌else◌, Option, Some, None}
+-- What a start file has in its members, all of it as text: the form of the file, before it is asked what the texts
+-- name.
+use Rattle.std.specs.Prelude.{ℕ, Bool, List, [], ◌∷◌, codes, map, ◌==◌, ◌+◌, if◌then◌else◌, Option, Some, None}
 use Rattle.serde_json.specs.Data.{Data}
 use Rattle.serde_json.specs.Find.{get}
 use Rattle.mls_labels.specs.Scheme.{Scheme}
+use Rattle.mls_tree.specs.declared.profile.Profile.{Profile}
+use Rattle.mls_tree.specs.declared.profile.Profile.TheVariants.{One, Two}
 use Rattle.mls_starts.specs.Each.{having, each_of}
-use Rattle.mls_starts.specs.Looking.{member_count, text_at, bool_at, is_null_at, list_at, texts_at}
+use Rattle.mls_starts.specs.Looking.{member_count, has_member, text_at, bool_at, number_at, is_null_at}
+use Rattle.mls_starts.specs.Looking.{list_at, texts_at}
 
 -- A subject: its name, its labels, and whether it is trusted. (own)
 pub record SaidSubject : Type 0 where
@@ -25,23 +29,26 @@ pub record SaidChild : Type 0 where
   pub parent : List ℕ
   pub object : SaidObject
 
--- A cell of the matrix: the names of a subject and an object, and words for modes. (own)
+-- A cell of the matrix or of the accesses: the names of a subject and an object, and words for modes. (own)
 pub record SaidCell : Type 0 where
   pub subject : List ℕ
   pub object : List ℕ
   pub modes : List (List ℕ)
 
--- A start file: the schemes, the subjects, the root, the objects below it, and the cells, each list in the file's order. (own)
+-- A start file: the profile, the schemes, the subjects, the root, the objects below it, the cells of the matrix, and
+-- the current accesses in the form of cells, each list in the file's order. (own)
 pub record SaidFile : Type 0 where
+  pub profile : Profile
   pub security : Scheme
   pub integrity : Scheme
   pub subjects : List SaidSubject
   pub root : SaidObject
   pub children : List SaidChild
   pub cells : List SaidCell
+  pub accesses : List SaidCell
 
--- What is found in an object, where it has as many members as are to be there: each key stands in it once, so that with those that are found
--- it has no others. (own)
+-- What is found in an object, where it has as many members as are to be there: each key stands in it once, so that with
+-- those that are found it has no others. (own)
 abbrev pub with_members : {X : Type 0} → ℕ → Data → Option X → Option X
 with_members n d found = if member_count d == n then found else None
 
@@ -113,27 +120,53 @@ subjects_in d = having (list_at (codes "subjects") d) (each_of subject_of)
 abbrev pub objects_in : Data → Option (SaidObject × List SaidChild)
 objects_in d = having (list_at (codes "objects") d) objects_of
 
--- The cells of the matrix: `matrix`, a list. (own)
-abbrev pub cells_in : Data → Option (List SaidCell)
-cells_in d = having (list_at (codes "matrix") d) (each_of cell_of)
+-- The cells in a member that is a list. (own)
+abbrev pub cells_in : List ℕ → Data → Option (List SaidCell)
+cells_in key d = having (list_at key d) (each_of cell_of)
 
--- A start file: `security` and `integrity`, `subjects`, `objects` and `matrix`. (own)
+-- The current accesses: `accesses`, a list of cells; none where the member isn't there. (own)
+abbrev pub accesses_in : Data → Option (List SaidCell)
+accesses_in d = if has_member (codes "accesses") d then cells_in (codes "accesses") d else Some []
+
+-- The profile of a number, 1 or 2. (own)
+abbrev pub numbered_profile : ℕ → Option Profile
+numbered_profile n = if n == 1 then Some One else if n == 2 then Some Two else None
+
+-- The profile: `profile`, the whole number 1 or 2; profile 1 where the member isn't there. (own)
+abbrev pub profile_in : Data → Option Profile
+profile_in d =
+    if has_member (codes "profile") d then having (number_at (codes "profile") d) numbered_profile else Some One
+
+-- One for a member that is there. (own)
+abbrev pub one_where : List ℕ → Data → ℕ
+one_where key d = if has_member key d then 1 else 0
+
+-- How many of the members are there that may be left out. (own)
+abbrev pub extra_count : Data → ℕ
+extra_count d = one_where (codes "profile") d + one_where (codes "accesses") d
+
+-- A start file: `security` and `integrity`, `subjects`, `objects` and `matrix`, and `profile` and `accesses`, which may
+-- be left out. (own)
 abbrev pub file_of : Data → Option SaidFile
 file_of d =
-    with_members 5 d (
+    with_members (5 + extra_count d) d (
+    having (profile_in d) (λ profile.
     having (scheme_in (codes "security") d) (λ security.
     having (scheme_in (codes "integrity") d) (λ integrity.
     having (subjects_in d) (λ subjects.
     having (objects_in d) (λ objects.
-    having (cells_in d) (λ cells.
+    having (cells_in (codes "matrix") d) (λ cells.
+    having (accesses_in d) (λ accesses.
     Some (record {
+      profile = profile;
       security = security;
       integrity = integrity;
       subjects = subjects;
       root = objects.0;
       children = objects.1;
       cells = cells;
-    })))))))
+      accesses = accesses;
+    })))))))))
 
 -- The names of the subjects, in the order of their numbers. (own)
 abbrev pub subject_names : SaidFile → List (List ℕ)

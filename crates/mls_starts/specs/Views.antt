@@ -18,7 +18,15 @@ scheme_view s = record { levels = map (λ t. t.now) s.levels.items; categories =
 
 -- A subject. (own)
 abbrev pub subject_view : SubjectText → SaidSubject
-subject_view s = record { name = s.name.now; maximum = s.maximum.now; current = s.current.now; integrity = s.integrity.now; trusted = s.trusted }
+subject_view s =
+    record {
+      name = s.name.now;
+      maximum = s.maximum.now;
+      current = s.current.now;
+      integrity = s.integrity.now;
+      trusted =
+          s.trusted;
+    }
 
 -- An object. (own)
 abbrev pub object_view : ObjectText → SaidObject
@@ -39,10 +47,12 @@ cell_view c = record { subject = c.subject.now; object = c.object.now; modes = m
 -- A start file. (own)
 abbrev pub file_view : FileText → SaidFile
 file_view file = record {
+  profile = file.profile;
   security = scheme_view file.security;
   integrity = scheme_view file.integrity;
   subjects = map subject_view file.subjects.items;
   root = object_view file.root;
   children = map child_view file.children.items;
   cells = map cell_view file.cells.items;
+  accesses = map cell_view file.accesses.items;
 }

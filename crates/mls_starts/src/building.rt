@@ -1,19 +1,20 @@
 //! The start of a start file's rows.
-ghost use Rattle.std.specs.Prelude.{◌≡◌, ◌≢◌, ◌<◌, ◌≤◌, ◌+◌, ◌++◌, map, is_some, option_map, length, All, IfOk, IfErr, IfNone, OnOk, Some, None, Ok, Err};
+ghost use Rattle.std.specs.Prelude.{◌≡◌, ◌≢◌, ◌<◌, ◌≤◌, ◌+◌, ◌++◌, map, is_some, option_map, length, All, IfOk, IfErr};
+ghost use Rattle.std.specs.Prelude.{IfNone, OnOk, Some, None, Ok, Err};
 ghost use Rattle.std.specs.FinSet as set;
 ghost use Rattle.mls_labels.specs.Scheme.{bounds_of};
 ghost use Rattle.mls_tables.specs.declared.limits.TheConstants.{MAX_SUBJECTS, MAX_OBJECTS};
-ghost use Rattle.mls_tables.specs.Triples.{triple_cmp};
-ghost use Rattle.mls_starts.specs.Building.{count_fault, HasParentBelow, IsPlacedBelow};
+ghost use Rattle.mls_starts.specs.Building.{count_fault, HasParentBelow, IsPlacedBelow, ArePlacedBelow};
 ghost use Rattle.mls_starts.specs.Each.{each_of};
 ghost use Rattle.mls_starts.specs.LabelViews.{labels_view};
 ghost use Rattle.mls_starts.specs.Loading.{needing, start_of};
 ghost use Rattle.mls_starts.specs.NameViews.{names_view};
 ghost use Rattle.mls_starts.specs.Ties.{HasCounts};
 ghost use Rattle.mls_starts.specs.Placing.{placed_child, rows_with};
-ghost use Rattle.mls_starts.specs.PlaceViews.{triple_view};
+ghost use Rattle.mls_starts.specs.PlaceViews.{triple_view, placed_view};
 
 use crate::file_names::FileNames;
+use crate::file_places::FilePlaces;
 use crate::labels::{FileLabels, LabelledChild};
 use crate::load_fault::LoadFault;
 use crate::places::PlacedTriple;
@@ -70,8 +71,11 @@ fn add_subjects(builder: &mut StartBuilder, subjects: &[Subject]) -> Result<(), 
 fn add_children(builder: &mut StartBuilder, children: &[LabelledChild]) -> Result<(), LoadFault>
     requires { All (HasParentBelow MAX_OBJECTS) children.now }
     ensures ok { OnOk result (builder.new ≡ record builder.old { objects = builder.new.objects }) }
-    ensures objects { OnOk result (option_map (λ rows. builder.old.objects ++ rows) (each_of placed_child children.now) ≡ Some builder.new.objects) }
-    ensures fault { IfErr result (λ fault. fault ≢ LoadFault.Memory → (fault ≡ LoadFault.Unknown) × (each_of placed_child children.now ≡ None)) }
+    ensures objects { OnOk result
+        (option_map (λ rows. builder.old.objects ++ rows) (each_of placed_child children.now)
+        ≡ Some builder.new.objects) }
+    ensures fault { IfErr result
+        (λ fault. fault ≢ LoadFault.Memory → (fault ≡ LoadFault.Unknown) × (each_of placed_child children.now ≡ None)) }
 {
     for child in children {
         let Some(parent) = child.parent else {
@@ -87,17 +91,36 @@ fn add_children(builder: &mut StartBuilder, children: &[LabelledChild]) -> Resul
     Ok(())
 }
 
-/// Gives the builder the triples.
-fn add_triples(builder: &mut StartBuilder, triples: &[PlacedTriple]) -> Result<(), LoadFault>
+/// Gives the builder the cells of the matrix.
+fn add_cells(builder: &mut StartBuilder, triples: &[PlacedTriple]) -> Result<(), LoadFault>
     requires places { All (IsPlacedBelow MAX_SUBJECTS MAX_OBJECTS) triples.now }
     requires none { builder.old.cells ≡ set.empty }
-    ensures ok { OnOk result (builder.new ≡ record builder.old { cells = set.from_list {R = triple_cmp} (map triple_view triples.now) }) }
+    ensures ok { OnOk result (builder.new ≡ record builder.old {
+      cells = set.from_list (map triple_view triples.now);
+    }) }
     ensures err { IfErr result (λ fault. fault ≡ LoadFault.Memory) }
 {
     for triple in triples {
         let subject = SubjectId::new(triple.subject as u16);
         let object = ObjectId::new(triple.object as u16);
         builder.allow(subject, object, triple.mode)?;
+    }
+    Ok(())
+}
+
+/// Gives the builder the current accesses.
+fn add_accesses(builder: &mut StartBuilder, triples: &[PlacedTriple]) -> Result<(), LoadFault>
+    requires places { All (IsPlacedBelow MAX_SUBJECTS MAX_OBJECTS) triples.now }
+    requires none { builder.old.accesses ≡ set.empty }
+    ensures ok { OnOk result (builder.new ≡ record builder.old {
+      accesses = set.from_list (map triple_view triples.now);
+    }) }
+    ensures err { IfErr result (λ fault. fault ≡ LoadFault.Memory) }
+{
+    for triple in triples {
+        let subject = SubjectId::new(triple.subject as u16);
+        let object = ObjectId::new(triple.object as u16);
+        builder.access(subject, object, triple.mode)?;
     }
     Ok(())
 }
@@ -110,12 +133,15 @@ fn fill(
     alloc: Global,
     names: &FileNames,
     labels: &FileLabels,
-    triples: &[PlacedTriple],
+    places: &FilePlaces,
 ) -> Result<StartBuilder, LoadFault>
     requires parents { All (HasParentBelow MAX_OBJECTS) labels.now.children.items }
-    requires places { All (IsPlacedBelow MAX_SUBJECTS MAX_OBJECTS) triples.now }
-    ensures ok { IfOk result (λ builder. rows_with (names_view names.now) (labels_view labels.now) (map triple_view triples.now) ≡ Some builder) }
-    ensures fault { IfErr result (λ fault. fault ≢ LoadFault.Memory → (fault ≡ LoadFault.Unknown) × (each_of placed_child labels.now.children.items ≡ None)) }
+    requires places { ArePlacedBelow MAX_SUBJECTS MAX_OBJECTS places.now }
+    ensures ok { IfOk result
+        (λ builder. rows_with (names_view names.now) (labels_view labels.now) (placed_view places.now) ≡ Some builder) }
+    ensures fault { IfErr result
+        (λ fault. fault ≢ LoadFault.Memory → (fault ≡ LoadFault.Unknown)
+        × (each_of placed_child labels.now.children.items ≡ None)) }
 {
     let (security, integrity) = (
         names.schemes.security.bounds(),
@@ -123,9 +149,11 @@ fn fill(
     );
     let root = labels.root;
     let mut builder = StartBuilder::new(alloc, security, integrity, root.security, root.integrity);
+    builder.use_profile(places.profile);
     add_subjects(&mut builder, &labels.subjects)?;
     add_children(&mut builder, &labels.children)?;
-    add_triples(&mut builder, triples)?;
+    add_cells(&mut builder, &places.cells)?;
+    add_accesses(&mut builder, &places.accesses)?;
     Ok(builder)
 }
 
@@ -137,14 +165,25 @@ pub(crate) fn build(
     alloc: Global,
     names: &FileNames,
     labels: &FileLabels,
-    triples: &[PlacedTriple],
+    places: &FilePlaces,
 ) -> Result<Start, LoadFault>
     requires parents { All (HasParentBelow (1 + length labels.now.children.items)) labels.now.children.items }
-    requires places { All (IsPlacedBelow (length labels.now.subjects.items) (1 + length labels.now.children.items)) triples.now }
-    ensures counts { IfOk result (HasCounts (length labels.now.subjects.items) (1 + length labels.now.children.items) (bounds_of names.now.schemes.security) (bounds_of names.now.schemes.integrity)) }
-    ensures few { OnOk result ((length labels.now.subjects.items ≤ MAX_SUBJECTS) × (1 + length labels.now.children.items ≤ MAX_OBJECTS)) }
-    ensures ok { IfOk result (λ start. needing (rows_with (names_view names.now) (labels_view labels.now) (map triple_view triples.now)) LoadFault.Unknown start_of ≡ Ok start) }
-    ensures fault { IfErr result (λ fault. fault ≢ LoadFault.Memory → needing (rows_with (names_view names.now) (labels_view labels.now) (map triple_view triples.now)) LoadFault.Unknown start_of ≡ Err fault) }
+    requires places { ArePlacedBelow (length labels.now.subjects.items)
+        (1 + length labels.now.children.items) places.now }
+    ensures counts { IfOk result
+        (HasCounts (length labels.now.subjects.items) (1 + length labels.now.children.items)
+        (bounds_of names.now.schemes.security) (bounds_of names.now.schemes.integrity)) }
+    ensures few { OnOk result
+        ((length labels.now.subjects.items ≤ MAX_SUBJECTS) × (1 + length labels.now.children.items ≤ MAX_OBJECTS)) }
+    ensures ok { IfOk result
+        (λ start. needing
+        (rows_with (names_view names.now) (labels_view labels.now) (placed_view places.now)) LoadFault.Unknown start_of
+        ≡ Ok start) }
+    ensures fault { IfErr result
+        (λ fault. fault ≢ LoadFault.Memory
+        → needing
+        (rows_with (names_view names.now) (labels_view labels.now) (placed_view places.now)) LoadFault.Unknown start_of
+        ≡ Err fault) }
 {
     if !are_placed(&labels.children) {
         return Err(LoadFault::Unknown);
@@ -152,7 +191,7 @@ pub(crate) fn build(
     if let Some(fault) = count_fault(labels.subjects.len(), labels.children.len()) {
         return Err(LoadFault::Start(fault));
     }
-    match fill(alloc, names, labels, triples)?.build() {
+    match fill(alloc, names, labels, places)?.build() {
         Ok(start) => Ok(start),
         Err(refused) => Err(LoadFault::Start(refused.fault)),
     }

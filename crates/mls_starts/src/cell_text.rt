@@ -1,4 +1,4 @@
-//! A cell of the matrix, as the file has it.
+//! A cell of the matrix or of the accesses, as the file has it.
 ghost use Rattle.std.specs.Prelude.{◌≡◌, ◌≢◌, map, option_map, IfOk, IfErr, Some, None};
 ghost use Rattle.serde_json.specs.View.{view};
 ghost use Rattle.mls_starts.specs.Each.{each_of};
@@ -10,7 +10,8 @@ use crate::looking::{are_texts, list_in, member_count, text_in};
 use serde_json::Value;
 use std::alloc::Global;
 
-/// A cell of the matrix: the names of a subject and of an object, and a list of texts that are to be words of modes.
+/// A cell of the matrix or of the accesses: the names of a subject and of an object, and a list of texts that are to be
+/// words of modes.
 #[derive(Clone, Copy)]
 pub(crate) struct CellText<'a> {
     pub subject: &'a str,
@@ -46,7 +47,9 @@ impl<'a> CellText<'a> {
     /// `Members` where a value has not a cell's members, `Memory` where an allocation failed.
     pub(crate) fn read_all(alloc: Global, list: &'a [Value]) -> Result<Vec<CellText<'a>>, LoadFault>
         ensures ok { IfOk result (λ rows. each_of cell_of (map view list.now) ≡ Some (map cell_view rows.items)) }
-        ensures fault { IfErr result (λ fault. fault ≢ LoadFault.Memory → (fault ≡ LoadFault.Members) × (each_of cell_of (map view list.now) ≡ None)) }
+        ensures fault { IfErr result
+            (λ fault. fault ≢ LoadFault.Memory → (fault ≡ LoadFault.Members)
+            × (each_of cell_of (map view list.now) ≡ None)) }
     {
         let mut rows = Vec::with_capacity(alloc, list.len())?;
         for value in list {

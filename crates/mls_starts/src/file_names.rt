@@ -23,11 +23,13 @@ impl FileNames {
     /// The names in a file.
     ///
     /// # Errors
-    /// `Scheme` where a scheme is refused, `Name` where a name isn't one or stands twice, `Memory` where an allocation failed.
+    /// `Scheme` where a scheme is refused, `Name` where a name isn't one or stands twice, `Memory` where an allocation
+    /// failed.
     pub(crate) fn make(alloc: Global, file: &FileText<'_>) -> Result<FileNames, LoadFault>
         ensures ok { IfOk result (λ names. names_view names ≡ names_of (file_view file.now)) }
         ensures faultless { OnOk result (names_fault (file_view file.now) ≡ None) }
-        ensures fault { IfErr result (λ fault. fault ≢ LoadFault.Memory → names_fault (file_view file.now) ≡ Some fault) }
+        ensures fault { IfErr result
+            (λ fault. fault ≢ LoadFault.Memory → names_fault (file_view file.now) ≡ Some fault) }
     {
         let schemes = Schemes::make(alloc, file)?;
         match NameSets::make(alloc, file) {

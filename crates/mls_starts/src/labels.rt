@@ -84,9 +84,14 @@ fn label_subjects(
     schemes: &Schemes,
     subjects: &[SubjectText<'_>],
 ) -> Result<Vec<Subject>, LoadFault>
-    ensures ok { IfOk result (λ rows. each_of (labelled_subject schemes.now.security schemes.now.integrity) (map subject_view subjects.now) ≡ Some rows.items) }
+    ensures ok { IfOk result
+        (λ rows. each_of (labelled_subject schemes.now.security schemes.now.integrity) (map subject_view subjects.now)
+        ≡ Some rows.items) }
     ensures count { IfOk result (λ rows. length rows.items ≡ length subjects.now) }
-    ensures fault { IfErr result (λ fault. fault ≢ LoadFault.Memory → (fault ≡ LoadFault.Label) × (each_of (labelled_subject schemes.now.security schemes.now.integrity) (map subject_view subjects.now) ≡ None)) }
+    ensures fault { IfErr result
+        (λ fault. fault ≢ LoadFault.Memory → (fault ≡ LoadFault.Label)
+        × (each_of (labelled_subject schemes.now.security schemes.now.integrity) (map subject_view subjects.now)
+        ≡ None)) }
 {
     let mut rows = Vec::with_capacity(alloc, subjects.len())?;
     for subject in subjects {
@@ -108,10 +113,15 @@ fn label_children(
     objects: &NameSet,
     children: &[ChildText<'_>],
 ) -> Result<Vec<LabelledChild>, LoadFault>
-    ensures ok { IfOk result (λ rows. each_of (labelled_child schemes.now.security schemes.now.integrity objects.now) (map child_view children.now) ≡ Some rows.items) }
+    ensures ok { IfOk result
+        (λ rows. each_of (labelled_child schemes.now.security schemes.now.integrity objects.now)
+        (map child_view children.now) ≡ Some rows.items) }
     ensures count { IfOk result (λ rows. length rows.items ≡ length children.now) }
     ensures parents { IfOk result (λ rows. All (HasParentBelow (length objects.now)) rows.items) }
-    ensures fault { IfErr result (λ fault. fault ≢ LoadFault.Memory → (fault ≡ LoadFault.Label) × (each_of (labelled_child schemes.now.security schemes.now.integrity objects.now) (map child_view children.now) ≡ None)) }
+    ensures fault { IfErr result
+        (λ fault. fault ≢ LoadFault.Memory → (fault ≡ LoadFault.Label)
+        × (each_of (labelled_child schemes.now.security schemes.now.integrity objects.now) (map child_view children.now)
+        ≡ None)) }
 {
     let mut rows = Vec::with_capacity(alloc, children.len())?;
     for child in children {
@@ -133,11 +143,15 @@ impl FileLabels {
         names: &FileNames,
         file: &FileText<'_>,
     ) -> Result<FileLabels, LoadFault>
-        ensures ok { IfOk result (λ labels. labels_of (names_view names.now) (file_view file.now) ≡ Some (labels_view labels)) }
+        ensures ok { IfOk result
+            (λ labels. labels_of (names_view names.now) (file_view file.now) ≡ Some (labels_view labels)) }
         ensures subjects { IfOk result (λ labels. length labels.subjects.items ≡ length file.now.subjects.items) }
         ensures children { IfOk result (λ labels. length labels.children.items ≡ length file.now.children.items) }
-        ensures parents { IfOk result (λ labels. All (HasParentBelow (length names.now.sets.objects)) labels.children.items) }
-        ensures fault { IfErr result (λ fault. fault ≢ LoadFault.Memory → (fault ≡ LoadFault.Label) × (labels_of (names_view names.now) (file_view file.now) ≡ None)) }
+        ensures parents { IfOk result
+            (λ labels. All (HasParentBelow (length names.now.sets.objects)) labels.children.items) }
+        ensures fault { IfErr result
+            (λ fault. fault ≢ LoadFault.Memory → (fault ≡ LoadFault.Label)
+            × (labels_of (names_view names.now) (file_view file.now) ≡ None)) }
     {
         let schemes = &names.schemes;
         let Some(root) = label_object(schemes, &file.root) else {

@@ -4,6 +4,7 @@
 mod building;
 mod cell_text;
 mod file_names;
+mod file_places;
 mod file_text;
 mod labels;
 mod load_fault;

@@ -7,8 +7,8 @@ use mls_lines::Names;
 use std::alloc::{Allocator, Global};
 use std::marker::Model;
 
-/// A start, and the names that its lines may use. The start has as many subjects and objects as there are names of them, and the
-/// bounds of its labels are those of the schemes: a name never stands for nothing.
+/// A start, and the names that its lines may use. The start has as many subjects and objects as there are names of
+/// them, and the bounds of its labels are those of the schemes: a name never stands for nothing.
 #[derive(Drop)]
 pub struct Loaded<A: Allocator = Global> {
     names: Names<A>,

@@ -14,11 +14,11 @@ ghost use Rattle.mls_starts.specs.Views.{file_view};
 
 use crate::building::build;
 use crate::file_names::FileNames;
+use crate::file_places::FilePlaces;
 use crate::file_text::FileText;
 use crate::labels::FileLabels;
 use crate::load_fault::LoadFault;
 use crate::loaded::Loaded;
-use crate::places::place_cells;
 use crate::tree::read_tree;
 use mls_builder::Start;
 use serde_json::Value;
@@ -27,7 +27,8 @@ use std::alloc::Global;
 /// The start of a file of these names, with its labels.
 ///
 /// # Errors
-/// `Unknown` where a name or a mode's word is unknown, `Start` with the first fault of the start, `Memory` where an allocation failed.
+/// `Unknown` where a name or a mode's word is unknown, `Start` with the first fault of the start, `Memory` where an
+/// allocation failed.
 fn place_start(
     alloc: Global,
     names: &FileNames,
@@ -37,14 +38,18 @@ fn place_start(
     requires subjects { length names.now.sets.subjects ≡ length labels.now.subjects.items }
     requires objects { length names.now.sets.objects ≡ 1 + length labels.now.children.items }
     requires parents { All (HasParentBelow (length names.now.sets.objects)) labels.now.children.items }
-    ensures ok { IfOk result (λ start. start_labelled (names_view names.now) (file_view file.now) (labels_view labels.now) ≡ Ok start) }
+    ensures ok { IfOk result
+        (λ start. start_labelled (names_view names.now) (file_view file.now) (labels_view labels.now) ≡ Ok start) }
     ensures tied { IfOk result (AreTied (names_view names.now)) }
-    ensures few { OnOk result ((length names.now.sets.subjects ≤ MAX_SUBJECTS) × (length names.now.sets.objects ≤ MAX_OBJECTS)) }
-    ensures fault { IfErr result (λ fault. fault ≢ LoadFault.Memory → start_labelled (names_view names.now) (file_view file.now) (labels_view labels.now) ≡ Err fault) }
+    ensures few { OnOk result
+        ((length names.now.sets.subjects ≤ MAX_SUBJECTS) × (length names.now.sets.objects ≤ MAX_OBJECTS)) }
+    ensures fault { IfErr result
+        (λ fault. fault ≢ LoadFault.Memory
+        → start_labelled (names_view names.now) (file_view file.now) (labels_view labels.now) ≡ Err fault) }
 {
-    let triples = place_cells(alloc, &names.sets, &file.cells)?;
-    let start = build(alloc, names, labels, &triples);
-    drop(triples);
+    let places = FilePlaces::read(alloc, names, file)?;
+    let start = build(alloc, names, labels, &places);
+    drop(places);
     start
 }
 
@@ -57,8 +62,10 @@ fn label_start(alloc: Global, names: &FileNames, file: &FileText<'_>) -> Result<
     requires objects { length names.now.sets.objects ≡ 1 + length file.now.children.items }
     ensures ok { IfOk result (λ start. start_named (names_view names.now) (file_view file.now) ≡ Ok start) }
     ensures tied { IfOk result (AreTied (names_view names.now)) }
-    ensures few { OnOk result ((length names.now.sets.subjects ≤ MAX_SUBJECTS) × (length names.now.sets.objects ≤ MAX_OBJECTS)) }
-    ensures fault { IfErr result (λ fault. fault ≢ LoadFault.Memory → start_named (names_view names.now) (file_view file.now) ≡ Err fault) }
+    ensures few { OnOk result
+        ((length names.now.sets.subjects ≤ MAX_SUBJECTS) × (length names.now.sets.objects ≤ MAX_OBJECTS)) }
+    ensures fault { IfErr result
+        (λ fault. fault ≢ LoadFault.Memory → start_named (names_view names.now) (file_view file.now) ≡ Err fault) }
 {
     let labels = FileLabels::read(alloc, names, file)?;
     let start = place_start(alloc, names, &labels, file);
@@ -98,18 +105,22 @@ fn load_tree(alloc: Global, tree: &Value) -> Result<Loaded, LoadFault>
     loaded
 }
 
-/// Reads a start file: JSON in UTF-8 that nests at most 127 deep, whose members say the schemes, the subjects, the objects and the
-/// matrix of a start.
+/// Reads a start file: JSON in UTF-8 that nests at most 127 deep, whose members say the schemes, the subjects, the
+/// objects, the matrix, the profile and the current accesses of a start; the last two may be left out.
 ///
 /// # Errors
-/// The first fault, in the order of [`LoadFault`], that applies to any part of the file; `Memory` as soon as an allocation fails.
+/// The first fault, in the order of [`LoadFault`], that applies to any part of the file; `Memory` as soon as an
+/// allocation fails.
 pub fn read_start(alloc: Global, bytes: &[u8]) -> Result<Loaded, LoadFault>
     ensures ok { IfOk result (λ loaded. (d : Data) × IsReadAs bytes.now d × (load_of d ≡ Ok loaded)) }
     ensures json { result ≡ Err LoadFault.Json → (d : Data) → ¬ IsReadAs bytes.now d }
-    ensures fault { IfErr result (λ fault. fault ≢ LoadFault.Memory → fault ≢ LoadFault.Json → (d : Data) × IsReadAs bytes.now d × (load_of d ≡ Err fault)) }
+    ensures fault { IfErr result
+        (λ fault. fault ≢ LoadFault.Memory → fault ≢ LoadFault.Json → (d : Data) × IsReadAs bytes.now d
+        × (load_of d ≡ Err fault)) }
     ensures refused { IfErr result (λ fault. fault ≢ LoadFault.Memory → RefusesStart bytes.now fault) }
     ensures read { (d : Data) → IsReadAs bytes.now d → result ≢ Err LoadFault.Memory → result ≡ load_of d }
-    ensures unread { ((d : Data) → ¬ IsReadAs bytes.now d) → result ≢ Err LoadFault.Memory → result ≡ Err LoadFault.Json }
+    ensures unread { ((d : Data) → ¬ IsReadAs bytes.now d) → result ≢ Err LoadFault.Memory
+        → result ≡ Err LoadFault.Json }
 {
     let tree = read_tree(alloc, bytes)?;
     let loaded = load_tree(alloc, &tree);

@@ -3,7 +3,7 @@ ghost use Rattle.std.specs.Prelude.{◌≡◌, map, is_some, option_map};
 ghost use Rattle.serde_json.specs.Find.{as_str};
 ghost use Rattle.serde_json.specs.View.{view};
 ghost use Rattle.mls_starts.specs.Each.{each_of};
-ghost use Rattle.mls_starts.specs.Looking.{member_count, text_at, bool_at, is_null_at, list_at};
+ghost use Rattle.mls_starts.specs.Looking.{member_count, text_at, bool_at, is_null_at, has_member, number_at, list_at};
 
 use serde_json::Value;
 
@@ -39,6 +39,20 @@ pub(crate) fn is_null_in(value: &Value, key: &str) -> bool
         Some(member) => member.is_null(),
         None => false,
     }
+}
+
+/// Whether a member is there, whatever it is.
+pub(crate) fn has_member(value: &Value, key: &str) -> bool
+    ensures { result ≡ has_member key.now (view value.now) }
+{
+    value.get(key).is_some()
+}
+
+/// The whole number in a member, which is written without a point or an exponent.
+pub(crate) fn number_in(value: &Value, key: &str) -> Option<u64>
+    ensures { result ≡ number_at key.now (view value.now) }
+{
+    value.get(key)?.as_u64()
 }
 
 /// The list in a member.

@@ -39,7 +39,9 @@ fn are_all_names(texts: &[&str]) -> bool
 fn make_set(alloc: Global, names: &[&str]) -> Result<NameSet, LoadFault>
     ensures ok { IfOk result (λ set. set ≡ map (λ name. name.now) names.now) }
     ensures fit { OnOk result (are_names (map (λ name. name.now) names.now) ≡ true) }
-    ensures fault { IfErr result (λ fault. fault ≢ LoadFault.Memory → (fault ≡ LoadFault.Name) × (are_names (map (λ name. name.now) names.now) ≡ false)) }
+    ensures fault { IfErr result
+        (λ fault. fault ≢ LoadFault.Memory → (fault ≡ LoadFault.Name)
+        × (are_names (map (λ name. name.now) names.now) ≡ false)) }
 {
     if !are_all_names(names) {
         return Err(LoadFault::Name);
@@ -58,7 +60,9 @@ fn make_set(alloc: Global, names: &[&str]) -> Result<NameSet, LoadFault>
 fn subject_set(alloc: Global, subjects: &[SubjectText<'_>]) -> Result<NameSet, LoadFault>
     ensures ok { IfOk result (λ set. set ≡ map (λ s. s.name) (map subject_view subjects.now)) }
     ensures fit { OnOk result (are_names (map (λ s. s.name) (map subject_view subjects.now)) ≡ true) }
-    ensures fault { IfErr result (λ fault. fault ≢ LoadFault.Memory → (fault ≡ LoadFault.Name) × (are_names (map (λ s. s.name) (map subject_view subjects.now)) ≡ false)) }
+    ensures fault { IfErr result
+        (λ fault. fault ≢ LoadFault.Memory → (fault ≡ LoadFault.Name)
+        × (are_names (map (λ s. s.name) (map subject_view subjects.now)) ≡ false)) }
 {
     let mut names = Vec::with_capacity(alloc, subjects.len())?;
     for subject in subjects {
@@ -78,8 +82,11 @@ fn object_set(
     children: &[ChildText<'_>],
 ) -> Result<NameSet, LoadFault>
     ensures ok { IfOk result (λ set. set ≡ root.now.name.now ∷ map (λ c. c.object.name) (map child_view children.now)) }
-    ensures fit { OnOk result (are_names (root.now.name.now ∷ map (λ c. c.object.name) (map child_view children.now)) ≡ true) }
-    ensures fault { IfErr result (λ fault. fault ≢ LoadFault.Memory → (fault ≡ LoadFault.Name) × (are_names (root.now.name.now ∷ map (λ c. c.object.name) (map child_view children.now)) ≡ false)) }
+    ensures fit { OnOk result
+        (are_names (root.now.name.now ∷ map (λ c. c.object.name) (map child_view children.now)) ≡ true) }
+    ensures fault { IfErr result
+        (λ fault. fault ≢ LoadFault.Memory → (fault ≡ LoadFault.Name)
+        × (are_names (root.now.name.now ∷ map (λ c. c.object.name) (map child_view children.now)) ≡ false)) }
 {
     let mut names = Vec::new(alloc);
     names.push(root.name)?;
@@ -94,12 +101,14 @@ impl NameSets {
     /// The names of a file's subjects and objects.
     ///
     /// # Errors
-    /// `Name` where one isn't a name, or two subjects or two objects have one name; `Memory` where an allocation failed.
+    /// `Name` where one isn't a name, or two subjects or two objects have one name; `Memory` where an allocation
+    /// failed.
     pub(crate) fn make(alloc: Global, file: &FileText<'_>) -> Result<NameSets, LoadFault>
         ensures subjects { IfOk result (λ names. names.subjects ≡ subject_names (file_view file.now)) }
         ensures objects { IfOk result (λ names. names.objects ≡ object_names (file_view file.now)) }
         ensures fit { OnOk result (names_fit (file_view file.now) ≡ true) }
-        ensures fault { IfErr result (λ fault. fault ≢ LoadFault.Memory → (fault ≡ LoadFault.Name) × (names_fit (file_view file.now) ≡ false)) }
+        ensures fault { IfErr result
+            (λ fault. fault ≢ LoadFault.Memory → (fault ≡ LoadFault.Name) × (names_fit (file_view file.now) ≡ false)) }
     {
         let subjects = subject_set(alloc, &file.subjects)?;
         match object_set(alloc, &file.root, &file.children) {

@@ -72,7 +72,9 @@ impl<'a> ChildText<'a> {
         list: &'a [Value],
     ) -> Result<Vec<ChildText<'a>>, LoadFault>
         ensures ok { IfOk result (λ rows. each_of child_of (map view list.now) ≡ Some (map child_view rows.items)) }
-        ensures fault { IfErr result (λ fault. fault ≢ LoadFault.Memory → (fault ≡ LoadFault.Members) × (each_of child_of (map view list.now) ≡ None)) }
+        ensures fault { IfErr result
+            (λ fault. fault ≢ LoadFault.Memory → (fault ≡ LoadFault.Members)
+            × (each_of child_of (map view list.now) ≡ None)) }
     {
         let mut rows = Vec::with_capacity(alloc, list.len())?;
         for value in list {

@@ -1,4 +1,4 @@
-//! What the names of a start file's cells stand for.
+//! What the names of a start file's cells stand for, those of the matrix and those of the accesses.
 ghost use Rattle.std.specs.Prelude.{◌≡◌, ◌≢◌, ◌++◌, map, option_map, length, All, IfOk, IfErr, OnOk, Some, None};
 ghost use Rattle.mls_requests.specs.ModeWords.{read_mode};
 ghost use Rattle.mls_starts.specs.Building.{IsPlacedBelow};
@@ -14,7 +14,7 @@ use mls_tables::Mode;
 use serde_json::Value;
 use std::alloc::Global;
 
-/// A triple that a cell permits, by the places of its subject and its object.
+/// A triple of a cell, by the places of its subject and its object.
 #[derive(Clone, Copy)]
 pub(crate) struct PlacedTriple {
     pub subject: usize,
@@ -32,7 +32,7 @@ fn mode_of(value: &Value) -> Option<Mode>
     }
 }
 
-/// Adds the triples that a cell permits.
+/// Adds the triples of a cell.
 ///
 /// # Errors
 /// `Unknown` where a name or a word is unknown, `Memory` where an allocation failed.
@@ -41,8 +41,13 @@ fn place_cell(
     names: &NameSets,
     cell: &CellText<'_>,
 ) -> Result<(), LoadFault>
-    ensures ok { OnOk result (option_map (λ more. map triple_view triples.old.items ++ more) (cell_triples names.now.subjects names.now.objects (cell_view cell.now)) ≡ Some (map triple_view triples.new.items)) }
-    ensures fault { IfErr result (λ fault. fault ≢ LoadFault.Memory → (fault ≡ LoadFault.Unknown) × (cell_triples names.now.subjects names.now.objects (cell_view cell.now) ≡ None)) }
+    ensures ok { OnOk result
+        (option_map (λ more. map triple_view triples.old.items ++ more)
+        (cell_triples names.now.subjects names.now.objects (cell_view cell.now))
+        ≡ Some (map triple_view triples.new.items)) }
+    ensures fault { IfErr result
+        (λ fault. fault ≢ LoadFault.Memory → (fault ≡ LoadFault.Unknown)
+        × (cell_triples names.now.subjects names.now.objects (cell_view cell.now) ≡ None)) }
 {
     let Some(subject) = names.subjects.place(cell.subject) else {
         return Err(LoadFault::Unknown);
@@ -63,7 +68,7 @@ fn place_cell(
     Ok(())
 }
 
-/// The triples that the cells permit.
+/// The triples of the cells.
 ///
 /// # Errors
 /// `Unknown` where a name or a word is unknown, `Memory` where an allocation failed.
@@ -72,9 +77,14 @@ pub(crate) fn place_cells(
     names: &NameSets,
     cells: &[CellText<'_>],
 ) -> Result<Vec<PlacedTriple>, LoadFault>
-    ensures ok { IfOk result (λ triples. triples_of names.now.subjects names.now.objects (map cell_view cells.now) ≡ Some (map triple_view triples.items)) }
-    ensures places { IfOk result (λ triples. All (IsPlacedBelow (length names.now.subjects) (length names.now.objects)) triples.items) }
-    ensures fault { IfErr result (λ fault. fault ≢ LoadFault.Memory → (fault ≡ LoadFault.Unknown) × (triples_of names.now.subjects names.now.objects (map cell_view cells.now) ≡ None)) }
+    ensures ok { IfOk result
+        (λ triples. triples_of names.now.subjects names.now.objects (map cell_view cells.now)
+        ≡ Some (map triple_view triples.items)) }
+    ensures places { IfOk result
+        (λ triples. All (IsPlacedBelow (length names.now.subjects) (length names.now.objects)) triples.items) }
+    ensures fault { IfErr result
+        (λ fault. fault ≢ LoadFault.Memory → (fault ≡ LoadFault.Unknown)
+        × (triples_of names.now.subjects names.now.objects (map cell_view cells.now) ≡ None)) }
 {
     let mut triples = Vec::with_capacity(alloc, cells.len())?;
     for cell in cells {

@@ -23,7 +23,8 @@ pub(crate) struct SchemeText<'a> {
 /// `Members` where the member is not there or no such list, `Memory` where an allocation failed.
 fn read_texts<'a>(alloc: Global, value: &'a Value, key: &str) -> Result<Vec<&'a str>, LoadFault>
     ensures ok { IfOk result (λ texts. texts_at key.now (view value.now) ≡ Some (map (λ text. text.now) texts.items)) }
-    ensures fault { IfErr result (λ fault. fault ≢ LoadFault.Memory → (fault ≡ LoadFault.Members) × (texts_at key.now (view value.now) ≡ None)) }
+    ensures fault { IfErr result
+        (λ fault. fault ≢ LoadFault.Memory → (fault ≡ LoadFault.Members) × (texts_at key.now (view value.now) ≡ None)) }
 {
     let Some(list) = list_in(value, key) else {
         return Err(LoadFault::Members);
@@ -45,7 +46,8 @@ impl SchemeText<'_> {
     /// `Members` where it has not, `Memory` where an allocation failed.
     pub(crate) fn read<'a>(alloc: Global, value: &'a Value) -> Result<SchemeText<'a>, LoadFault>
         ensures ok { IfOk result (λ text. scheme_of (view value.now) ≡ Some (scheme_view text)) }
-        ensures fault { IfErr result (λ fault. fault ≢ LoadFault.Memory → (fault ≡ LoadFault.Members) × (scheme_of (view value.now) ≡ None)) }
+        ensures fault { IfErr result
+            (λ fault. fault ≢ LoadFault.Memory → (fault ≡ LoadFault.Members) × (scheme_of (view value.now) ≡ None)) }
     {
         if member_count(value) != 2 {
             return Err(LoadFault::Members);

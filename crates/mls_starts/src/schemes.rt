@@ -24,7 +24,9 @@ pub(crate) struct Schemes {
 fn make_scheme(alloc: Global, text: &SchemeText<'_>) -> Result<Scheme, LoadFault>
     ensures ok { IfOk result (λ scheme. scheme ≡ scheme_view text.now) }
     ensures faultless { OnOk result (scheme_fault (scheme_view text.now) ≡ None) }
-    ensures fault { IfErr result (λ fault. fault ≢ LoadFault.Memory → option_map (λ refused. LoadFault.Scheme refused) (scheme_fault (scheme_view text.now)) ≡ Some fault) }
+    ensures fault { IfErr result
+        (λ fault. fault ≢ LoadFault.Memory
+        → option_map (λ refused. LoadFault.Scheme refused) (scheme_fault (scheme_view text.now)) ≡ Some fault) }
 {
     let scheme = Scheme::new(alloc, &text.levels, &text.categories)?;
     // (that its names have no fault)
@@ -36,13 +38,15 @@ impl Schemes {
     /// The schemes of a file.
     ///
     /// # Errors
-    /// `Scheme` with the first fault of the security scheme's names, or else of the integrity scheme's; `Memory` where an allocation
-    /// failed.
+    /// `Scheme` with the first fault of the security scheme's names, or else of the integrity scheme's; `Memory` where
+    /// an allocation failed.
     pub(crate) fn make(alloc: Global, file: &FileText<'_>) -> Result<Schemes, LoadFault>
         ensures security { IfOk result (λ schemes. schemes.security ≡ (file_view file.now).security) }
         ensures integrity { IfOk result (λ schemes. schemes.integrity ≡ (file_view file.now).integrity) }
         ensures faultless { OnOk result (schemes_fault (file_view file.now) ≡ None) }
-        ensures fault { IfErr result (λ fault. fault ≢ LoadFault.Memory → option_map (λ refused. LoadFault.Scheme refused) (schemes_fault (file_view file.now)) ≡ Some fault) }
+        ensures fault { IfErr result
+            (λ fault. fault ≢ LoadFault.Memory
+            → option_map (λ refused. LoadFault.Scheme refused) (schemes_fault (file_view file.now)) ≡ Some fault) }
     {
         let security = make_scheme(alloc, &file.security)?;
         match make_scheme(alloc, &file.integrity) {

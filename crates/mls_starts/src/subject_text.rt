@@ -46,7 +46,9 @@ impl<'a> SubjectText<'a> {
         list: &'a [Value],
     ) -> Result<Vec<SubjectText<'a>>, LoadFault>
         ensures ok { IfOk result (λ rows. each_of subject_of (map view list.now) ≡ Some (map subject_view rows.items)) }
-        ensures fault { IfErr result (λ fault. fault ≢ LoadFault.Memory → (fault ≡ LoadFault.Members) × (each_of subject_of (map view list.now) ≡ None)) }
+        ensures fault { IfErr result
+            (λ fault. fault ≢ LoadFault.Memory → (fault ≡ LoadFault.Members)
+            × (each_of subject_of (map view list.now) ≡ None)) }
     {
         let mut rows = Vec::with_capacity(alloc, list.len())?;
         for value in list {

@@ -17,9 +17,11 @@ module _ {A : Type 0} (a : Inside A) (h : Agrees a) where
     matrix_rows = h.matrix_rows;
     access_rows = h.access_rows;
     labels = h.labels;
+    place = h.place;
     matrix_columns = h.matrix_columns;
     access_columns = h.access_columns;
     tree = h.tree;
+    next = h.next;
     accesses_known = known;
     matrix_known = h.matrix_known;
   }
@@ -30,9 +32,11 @@ module _ {A : Type 0} (a : Inside A) (h : Agrees a) where
     matrix_rows = h.matrix_rows;
     access_rows = h.access_rows;
     labels = h.labels;
+    place = h.place;
     matrix_columns = h.matrix_columns;
     access_columns = h.access_columns;
     tree = h.tree;
+    next = h.next;
     accesses_known = h.accesses_known;
     matrix_known = known;
   }
@@ -46,21 +50,23 @@ module _ {A : Type 0} (a : Inside A) (s o : ℕ) (x : Mode) (h : Agrees a) where
   pub agrees_removed : (set.remove a.accesses.triples (s, o, x) ≡ set.remove a.accesses.triples (s, o, x)) × Agrees (record a { accesses = record a.accesses { triples = set.remove a.accesses.triples (s, o, x) } })
   agrees_removed = (refl, agrees-accesses a h _ (Each-remove a.accesses.triples (s, o, x) (is_known (state_of a)) h.accesses_known))
 
-  pub agrees_permitted : is_subject (state_of a) s ≡ true → is_active (state_of a) o ≡ true
+  pub agrees_given : is_subject (state_of a) s ≡ true → is_active (state_of a) o ≡ true
       → (set.insert a.matrix.triples (s, o, x) ≡ set.insert a.matrix.triples (s, o, x)) × Agrees (record a { matrix = record a.matrix { triples = set.insert a.matrix.triples (s, o, x) } })
-  agrees_permitted subject object = (refl, agrees-matrix a h _ (Each-insert a.matrix.triples (s, o, x) (is_known (state_of a)) h.matrix_known (and_from _ _ subject object)))
+  agrees_given subject object = (refl, agrees-matrix a h _ (Each-insert a.matrix.triples (s, o, x) (is_known (state_of a)) h.matrix_known (and_from _ _ subject object)))
 
-  pub agrees_forbidden : (set.remove a.matrix.triples (s, o, x) ≡ set.remove a.matrix.triples (s, o, x))
+  pub agrees_rescinded : (set.remove a.matrix.triples (s, o, x) ≡ set.remove a.matrix.triples (s, o, x))
       × Agrees (record a { matrix = record a.matrix { triples = set.remove a.matrix.triples (s, o, x) }; accesses = record a.accesses { triples = set.remove a.accesses.triples (s, o, x) } })
-  agrees_forbidden = (
+  agrees_rescinded = (
     refl,
     record {
       matrix_rows = h.matrix_rows;
       access_rows = h.access_rows;
       labels = h.labels;
+      place = h.place;
       matrix_columns = h.matrix_columns;
       access_columns = h.access_columns;
       tree = h.tree;
+      next = h.next;
       accesses_known = Each-remove a.accesses.triples (s, o, x) (is_known (state_of a)) h.accesses_known;
       matrix_known = Each-remove a.matrix.triples (s, o, x) (is_known (state_of a)) h.matrix_known;
     },

@@ -1,20 +1,25 @@
--- States with the same tables, the first state, and a state with one object more: what they stand for, and that the tables of the first two agree.
-use Rattle.std.proofs.Common.{◌≡◌, ℕ, ◌+◌, Bool, List, [], ◌∷◌, length, Some, sym, ap, ◌∙◌, arith, ◌&&◌}
+-- States with the same tables, and the first state: what they stand for, and that their tables agree.
+use Rattle.std.proofs.Common.{◌≡◌, ℕ, Bool, true, false, cond, List, [], ◌∷◌, length, Option, Some, None, refl, sym, ap, ◌∙◌, arith, ◌&&◌}
 use Rattle.std.specs.FinSet as set
 use Rattle.std.specs.FinMap as map
 use Rattle.mls_tables.specs.Triples.{Triple}
 use Rattle.mls_tables.specs.Table.{Table}
 use Rattle.mls_tree.specs.Tree as tree
 use Rattle.mls_tree.specs.Tree.{Hierarchy}
+use Rattle.mls_tree.specs.declared.profile.Profile.{Profile}
+use Rattle.mls_tree.proofs.Laws.{root_alone, IsTree-root, HasNext-root}
 use Rattle.mls_state.specs.declared.state.State.TheInside.{Inside}
 use Rattle.mls_state.specs.declared.subject.Subject.{Subject}
 use Rattle.mls_state.specs.declared.subject.ObjectLabels.{ObjectLabels}
-use Rattle.mls_state.specs.State.{State}
 use Rattle.mls_state.specs.Properties.{Each, is_known}
 use Rattle.mls_state.specs.StateView.{state_of, Agrees}
 use Rattle.mls_state.specs.First.{first_state}
+use Rattle.std.specs.Ordering.{nat_cmp}
+use Rattle.std.specs.Cmp.{nat_cmp_total}
+use Rattle.std.specs.FinMap.{nat_cmp-IsAntisymmetric}
 use Rattle.mls_facts.specs.Numbered.{numbered, places_of}
-use Rattle.mls_state.proofs.Growing.{kept-one}
+use Rattle.mls_facts.proofs.Numbered.{numbered-one}
+use Rattle.mls_facts.proofs.Entries.{by_number, elsewhere, get-kept}
 use Rattle.mls_state.proofs.EachTriple.{Each-empty}
 
 module _ {A B : Type 0} (a : Inside A) (b : Inside B) (h : Agrees a)
@@ -30,19 +35,40 @@ module _ {A B : Type 0} (a : Inside A) (b : Inside B) (h : Agrees a)
   agrees-same = record {
     matrix_rows = ap (λ (m : Table). m.subjects) matrices ∙ h.matrix_rows ∙ ap length (sym subjects);
     access_rows = ap (λ (m : Table). m.subjects) accesses ∙ h.access_rows ∙ ap length (sym subjects);
-    labels = ap (λ (t : Hierarchy). t.next) trees ∙ h.labels ∙ ap length (sym objects);
-    matrix_columns = rw (trees, matrices) h.matrix_columns;
-    access_columns = rw (trees, accesses) h.access_columns;
+    labels = rw (trees, objects) h.labels;
+    place = rw (trees, objects) h.place;
+    matrix_columns = rw (objects, matrices) h.matrix_columns;
+    access_columns = rw (objects, accesses) h.access_columns;
     tree = rw trees h.tree;
+    next = rw trees h.next;
     accesses_known = λ t there. sym (known-same t) ∙ h.accesses_known t (sym (ap (λ (m : Table). set.contains m.triples t) accesses) ∙ there);
     matrix_known = λ t there. sym (known-same t) ∙ h.matrix_known t (sym (ap (λ (m : Table). set.contains m.triples t) matrices) ∙ there);
   }
 
+-- the tree of the root alone, and its next number
+pub first_tree : (t : Hierarchy) (profile : Profile) → t ≡ record { profile = profile; parent = map.empty; next = 1 } → tree.IsTree t.parent (tree.is_active t.parent)
+first_tree t profile is = rw is IsTree-root
+
+pub first_next : (t : Hierarchy) (profile : Profile) → t ≡ record { profile = profile; parent = map.empty; next = 1 } → tree.HasNext t.profile (tree.is_active t.parent) t.next
+first_next t profile is = rw is (HasNext-root profile)
+
+-- of a list of one item and the tree of the root alone
+pub kept-one : {A X : Type 0} (f : A → X) (a : A) → map.retain_keys (numbered (λ x. Some (f x)) (a ∷ [])) (tree.is_active map.empty) ≡ map.insert map.empty 0 (f a)
+kept-one f a = map.same_map nat_cmp_total nat_cmp-IsAntisymmetric _ _ (λ q.
+    get-kept (numbered (λ x. Some (f x)) (a ∷ [])) (tree.is_active map.empty) q
+    ∙ ap (λ m. cond (tree.is_active map.empty q) (map.get m q) None) (numbered-one (λ x. Some (f x)) a (f a) refl)
+    ∙ by_number 0 q (λ k. cond (tree.is_active map.empty k) (map.get {R = nat_cmp} (map.insert map.empty 0 (f a)) k) None ≡ map.get {R = nat_cmp} (map.insert map.empty 0 (f a)) k)
+    refl
+    (λ other. ap (λ e. cond (tree.is_active map.empty q) e None) (elsewhere map.empty 0 (f a) q other ∙ map.get-empty nat_cmp q) ∙ same_none (tree.is_active map.empty q) ∙ sym (elsewhere map.empty 0 (f a) q other ∙ map.get-empty nat_cmp q))) where
+      same_none : {X : Type 0} (b : Bool) → cond {A = Option X} b None None ≡ None
+      same_none true = refl
+      same_none false = refl
+
 module _ {A : Type 0} (b : Inside A) (subjects : List Subject) (root : ObjectLabels) (n : ℕ)
-    (rows : b.subjects.items ≡ subjects) (objects : b.objects.items ≡ root ∷ []) (trees : b.tree ≡ record { parent = map.empty; next = 1 })
+    (rows : b.subjects.items ≡ subjects) (objects : b.objects.items ≡ root ∷ []) (profile : Profile) (trees : b.tree ≡ record { profile = profile; parent = map.empty; next = 1 })
     (matrices : b.matrix ≡ record { subjects = n; columns = 1; triples = set.empty }) (accesses : b.accesses ≡ record { subjects = n; columns = 1; triples = set.empty }) where
   -- the first state is what its parts make
-  pub state-first : state_of b ≡ first_state subjects root b.security b.integrity
+  pub state-first : state_of b ≡ first_state subjects root b.security b.integrity profile
   state-first =
       (λ i. record {
         accesses = (accesses i).triples;
@@ -54,6 +80,7 @@ module _ {A : Type 0} (b : Inside A) (subjects : List Subject) (root : ObjectLab
         object_label = map.retain_keys (numbered (λ (o : ObjectLabels). Some o.security) (objects i)) (tree.is_active (trees i).parent);
         object_integrity = map.retain_keys (numbered (λ (o : ObjectLabels). Some o.integrity) (objects i)) (tree.is_active (trees i).parent);
         parent = (trees i).parent;
+        profile = (trees i).profile;
         next = (trees i).next;
         security = b.security;
         integrity = b.integrity;
@@ -68,6 +95,7 @@ module _ {A : Type 0} (b : Inside A) (subjects : List Subject) (root : ObjectLab
         object_label = kept-one (λ (o : ObjectLabels). o.security) root i;
         object_integrity = kept-one (λ (o : ObjectLabels). o.integrity) root i;
         parent = map.empty;
+        profile = profile;
         next = 1;
         security = b.security;
         integrity = b.integrity;
@@ -79,23 +107,16 @@ module _ {A : Type 0} (b : Inside A) (subjects : List Subject) (root : ObjectLab
   none-matrix : (p : Triple → Bool) → Each b.matrix.triples p
   none-matrix p = rw matrices (Each-empty p)
 
-  pub agrees-first : n ≡ length subjects → tree.IsTree b.tree.parent (tree.is_active b.tree.parent) b.tree.next → Agrees b
-  agrees-first count is_tree = record {
+  pub agrees-first : n ≡ length subjects → tree.IsTree b.tree.parent (tree.is_active b.tree.parent) → tree.HasNext b.tree.profile (tree.is_active b.tree.parent) b.tree.next → Agrees b
+  agrees-first count is_tree has_next = record {
     matrix_rows = ap (λ (m : Table). m.subjects) matrices ∙ count ∙ ap length (sym rows);
     access_rows = ap (λ (m : Table). m.subjects) accesses ∙ count ∙ ap length (sym rows);
-    labels = ap (λ (t : Hierarchy). t.next) trees ∙ ap length (sym objects);
-    matrix_columns = rw (trees, matrices) (omega arith);
-    access_columns = rw (trees, accesses) (omega arith);
+    labels = λ o is. let at : o ≡ 0 = root_alone o (ap (λ (t : Hierarchy). tree.is_active t.parent o) (sym trees) ∙ is) in rw objects (omega (arith, at));
+    place = rw (trees, objects) (omega arith);
+    matrix_columns = rw (objects, matrices) (omega arith);
+    access_columns = rw (objects, accesses) (omega arith);
     tree = is_tree;
+    next = has_next;
     accesses_known = none-accesses (is_known (state_of b));
     matrix_known = none-matrix (is_known (state_of b));
   }
-
--- the state with one object more
-abbrev pub grown : State → ObjectLabels → ℕ → State
-grown v l p = record v {
-  object_label = map.insert v.object_label v.next l.security;
-  object_integrity = map.insert v.object_integrity v.next l.integrity;
-  parent = map.insert v.parent v.next p;
-  next = v.next + 1;
-}

@@ -1,16 +1,30 @@
--- Maps of what is kept of a list, as the list and the tree grow by one.
-use Rattle.std.proofs.Common.{◌≡◌, ℕ, ◌<◌, Bool, true, false, cond, List, [], ◌∷◌, ◌++◌, length, length-append, arith, Option, Some, None, is_some, refl, sym, ap, ◌∙◌, nat_eq, ◌||◌}
+-- A state with one object more: what its fields stand for, and that they agree.
+use Rattle.std.proofs.Common.{◌≡◌, ℕ, ◌+◌, ◌<◌, ◌≤◌, ◌⊎◌, inl, inr, Bool, true, false, cond, set, List, [], ◌∷◌, ◌++◌, length, arith, Some, None, is_some, refl, sym, ap, ◌∙◌, nat_eq, ◌||◌}
 use Rattle.std.specs.Prelude.{◌==◌}
 use Rattle.std.specs.Ordering.{nat_cmp}
 use Rattle.std.specs.Cmp.{nat_cmp_total}
 use Rattle.std.specs.FinMap as map
 use Rattle.std.specs.FinMap.{FinMap, nat_cmp-IsAntisymmetric}
-use Rattle.std.proofs.lemmas.Bool.{or_right}
-use Rattle.mls_tree.specs.Tree.{IsTree, is_active}
-use Rattle.mls_state.specs.declared.subject.ObjectLabels.{ObjectLabels}
-use Rattle.mls_facts.specs.Numbered.{numbered}
-use Rattle.mls_facts.proofs.Numbered.{numbered-push, numbered-one}
+use Rattle.std.proofs.lemmas.Bool.{cases_Bool, cases_eq, eqb-true, ne_eqb, or_right}
+use Rattle.std.proofs.lemmas.Bool.Decides.{nat_tests}
+use Rattle.mls_facts.specs.Numbered.{numbered, places_of}
+use Rattle.mls_facts.specs.Places.{placed}
+use Rattle.mls_facts.proofs.Numbered.{numbered-push}
 use Rattle.mls_facts.proofs.Entries.{has-inserted, by_number, at_new, elsewhere, get-kept}
+use Rattle.mls_facts.proofs.Places.{length-placed}
+use Rattle.mls_labels.specs.Label.{Label}
+use Rattle.mls_tables.specs.declared.limits.TheConstants.{MAX_OBJECTS}
+use Rattle.mls_tree.specs.Tree.{Hierarchy, IsTree, HasNext, is_active, next_number, with_parents}
+use Rattle.mls_tree.proofs.Laws.{is_active-insert, next_number-same, next_most}
+use Rattle.mls_state.specs.declared.state.State.TheInside.{Inside}
+use Rattle.mls_state.specs.declared.subject.Subject.{Subject}
+use Rattle.mls_state.specs.declared.subject.ObjectLabels.{ObjectLabels}
+use Rattle.mls_state.specs.Properties.{HasTree}
+use Rattle.mls_state.specs.Changes.{with_object}
+use Rattle.mls_state.specs.StateView.{state_of, Agrees}
+use Rattle.mls_state.proofs.NumberedSet.{numbered-set}
+use Rattle.mls_state.proofs.Tables.{active-tree, has_tree}
+use Rattle.mls_state.proofs.TreeKept.{grown_tree}
 
 -- the new object is active, and any other as before
 pub active_new : (parent : FinMap nat_cmp ℕ) (n p : ℕ) → is_active (map.insert parent n p) n ≡ true
@@ -19,46 +33,124 @@ active_new parent n p = ap (λ e. n == 0 || is_some e) (at_new parent n p) ∙ o
 pub active_other : (parent : FinMap nat_cmp ℕ) (n p q : ℕ) → nat_eq q n ≡ false → is_active (map.insert parent n p) q ≡ is_active parent q
 active_other parent n p q other = ap (λ e. q == 0 || is_some e) (elsewhere parent n p q other)
 
-module _ {A X : Type 0} (f : A → X) (items : List A) (a : A) (parent : FinMap nat_cmp ℕ) (p : ℕ) where
-  whole : FinMap nat_cmp X
-  whole = numbered (λ x. Some (f x)) items
+-- to place an item is to enter it
+pub numbered-placed : {A X : Type 0} (f : A → X) (items : List A) (n : ℕ) (a : A) → n ≤ length items
+    → numbered (λ x. Some (f x)) (placed items n a) ≡ map.insert (numbered (λ x. Some (f x)) items) n (f a)
+numbered-placed {A} {X} f items n a within = from (cases_Bool (nat_eq n (length items))) where
+  from : (nat_eq n (length items) ≡ true) ⊎ (nat_eq n (length items) ≡ false) → numbered (λ x. Some (f x)) (placed items n a) ≡ map.insert (numbered (λ x. Some (f x)) items) n (f a)
+  from (inl end) =
+      ap (λ b. numbered (λ x. Some (f x)) (cond b (items ++ a ∷ []) (set items n a))) end
+      ∙ numbered-push (λ x. Some (f x)) items a (f a) refl ∙ ap (λ k. map.insert (numbered (λ x. Some (f x)) items) k (f a)) (sym (eqb-true n (length items) end))
+  from (inr inside) =
+      let low : n < length items = grind (arith, nat_tests, inside, within) in
+      ap (λ b. numbered (λ x. Some (f x)) (cond b (items ++ a ∷ []) (set items n a))) inside ∙ numbered-set f items n a low
 
-  -- to push labels and to add their object is to enter them
-  pub kept-push : (n : ℕ) → n ≡ length items → (is_active parent n ≡ true → ⊥)
-      → map.retain_keys (numbered (λ x. Some (f x)) (items ++ a ∷ [])) (is_active (map.insert parent n p)) ≡ map.insert (map.retain_keys (numbered (λ x. Some (f x)) items) (is_active parent)) n (f a)
-  kept-push n at new = map.same_map nat_cmp_total nat_cmp-IsAntisymmetric _ _ (λ q.
-      get-kept (numbered (λ x. Some (f x)) (items ++ a ∷ [])) (is_active (map.insert parent n p)) q
-      ∙ ap (λ m. cond (is_active (map.insert parent n p) q) (map.get m q) None) (numbered-push (λ x. Some (f x)) items a (f a) refl ∙ ap (λ k. map.insert (numbered (λ x. Some (f x)) items) k (f a)) (sym at))
+module _ {A X : Type 0} (f : A → X) (items : List A) (a : A) (parent : FinMap nat_cmp ℕ) (p : ℕ) where
+  -- to place labels and to add their object is to enter them
+  pub kept-placed : (n : ℕ) → n ≤ length items
+      → map.retain_keys (numbered (λ x. Some (f x)) (placed items n a)) (is_active (map.insert parent n p)) ≡ map.insert (map.retain_keys (numbered (λ x. Some (f x)) items) (is_active parent)) n (f a)
+  kept-placed n within = map.same_map nat_cmp_total nat_cmp-IsAntisymmetric _ _ (λ q.
+      get-kept (numbered (λ x. Some (f x)) (placed items n a)) (is_active (map.insert parent n p)) q
+      ∙ ap (λ m. cond (is_active (map.insert parent n p) q) (map.get m q) None) (numbered-placed f items n a within)
       ∙ by_number n q (λ k. cond (is_active (map.insert parent n p) k) (map.get (map.insert (numbered (λ x. Some (f x)) items) n (f a)) k) None ≡ map.get (map.insert (map.retain_keys (numbered (λ x. Some (f x)) items) (is_active parent)) n (f a)) k)
       ((λ i. cond (active_new parent n p i) (at_new (numbered (λ x. Some (f x)) items) n (f a) i) None) ∙ sym (at_new (map.retain_keys (numbered (λ x. Some (f x)) items) (is_active parent)) n (f a)))
       (λ other. (λ i. cond (active_other parent n p q other i) (elsewhere (numbered (λ x. Some (f x)) items) n (f a) q other i) None)
       ∙ sym (get-kept (numbered (λ x. Some (f x)) items) (is_active parent) q)
       ∙ sym (elsewhere (map.retain_keys (numbered (λ x. Some (f x)) items) (is_active parent)) n (f a) q other)))
 
--- of a list of one item and the tree of the root alone
-pub kept-one : {A X : Type 0} (f : A → X) (a : A) → map.retain_keys (numbered (λ x. Some (f x)) (a ∷ [])) (is_active map.empty) ≡ map.insert map.empty 0 (f a)
-kept-one f a = map.same_map nat_cmp_total nat_cmp-IsAntisymmetric _ _ (λ q.
-    get-kept (numbered (λ x. Some (f x)) (a ∷ [])) (is_active map.empty) q
-    ∙ ap (λ m. cond (is_active map.empty q) (map.get m q) None) (numbered-one (λ x. Some (f x)) a (f a) refl)
-    ∙ by_number 0 q (λ k. cond (is_active map.empty k) (map.get {R = nat_cmp} (map.insert map.empty 0 (f a)) k) None ≡ map.get {R = nat_cmp} (map.insert map.empty 0 (f a)) k)
-    refl
-    (λ other. ap (λ e. cond (is_active map.empty q) e None) (elsewhere map.empty 0 (f a) q other ∙ map.get-empty nat_cmp q) ∙ same_none (is_active map.empty q) ∙ sym (elsewhere map.empty 0 (f a) q other ∙ map.get-empty nat_cmp q))) where
-      same_none : {X : Type 0} (b : Bool) → cond {A = Option X} b None None ≡ None
-      same_none true = refl
-      same_none false = refl
+-- the state with one object more: what its fields stand for, and that they agree
+module _ {A : Type 0} (a b : Inside A) (h : Agrees a) (p : ℕ) (l : ObjectLabels) (above : is_active a.tree.parent p ≡ true) (room : a.tree.next < MAX_OBJECTS)
+    (subjects : b.subjects.items ≡ a.subjects.items) (objects : b.objects.items ≡ placed a.objects.items a.tree.next l)
+    (trees : b.tree ≡ with_parents a.tree (map.insert a.tree.parent a.tree.next p) (a.tree.next + 1))
+    (matrix_rows : b.matrix.subjects ≡ a.matrix.subjects) (matrix_triples : b.matrix.triples ≡ a.matrix.triples)
+    (matrix_columns : a.matrix.columns ≤ b.matrix.columns) (matrix_wide : a.tree.next < b.matrix.columns)
+    (access_rows : b.accesses.subjects ≡ a.accesses.subjects) (access_triples : b.accesses.triples ≡ a.accesses.triples)
+    (access_columns : a.accesses.columns ≤ b.accesses.columns) (access_wide : a.tree.next < b.accesses.columns)
+    (security : b.security ≡ a.security) (integrity : b.integrity ≡ a.integrity) where
+  abbrev m : FinMap nat_cmp ℕ
+  m = map.insert a.tree.parent a.tree.next p
 
--- the labels of the objects with one more below another
-module _ (items : List ObjectLabels) (l : ObjectLabels) (parent : FinMap nat_cmp ℕ) (n p : ℕ) (is_tree : IsTree parent (is_active parent) n) (at : n ≡ length items) where
-  not_yet : is_active parent n ≡ true → ⊥
-  not_yet active = let below : n < n = is_tree.below_next n active in omega arith
+  labels-placed : {X : Type 0} (f : ObjectLabels → X) → map.retain_keys (numbered (λ x. Some (f x)) b.objects.items) (is_active b.tree.parent)
+      ≡ map.insert (map.retain_keys (numbered (λ x. Some (f x)) a.objects.items) (is_active a.tree.parent)) a.tree.next (f l)
+  labels-placed f =
+      (λ i. map.retain_keys (numbered (λ x. Some (f x)) (objects i)) (is_active (trees i).parent))
+      ∙ kept-placed f a.objects.items l a.tree.parent p a.tree.next h.place
 
-  pub security_grown : map.retain_keys (numbered (λ (x : ObjectLabels). Some x.security) (items ++ l ∷ [])) (is_active (map.insert parent n p))
-      ≡ map.insert (map.retain_keys (numbered (λ (x : ObjectLabels). Some x.security) items) (is_active parent)) n l.security
-  security_grown = kept-push (λ (x : ObjectLabels). x.security) items l parent p n at not_yet
+  abbrev grown_labels : FinMap nat_cmp Label
+  grown_labels = map.insert (state_of a).object_label a.tree.next l.security
 
-  pub integrity_grown : map.retain_keys (numbered (λ (x : ObjectLabels). Some x.integrity) (items ++ l ∷ [])) (is_active (map.insert parent n p))
-      ≡ map.insert (map.retain_keys (numbered (λ (x : ObjectLabels). Some x.integrity) items) (is_active parent)) n l.integrity
-  integrity_grown = kept-push (λ (x : ObjectLabels). x.integrity) items l parent p n at not_yet
+  -- what is active in the tree has labels
+  active-grown : (o : ℕ) → is_active m o ≡ map.contains_key grown_labels o
+  active-grown o =
+      is_active-insert a.tree.parent a.tree.next p o ∙ ap (λ c. nat_eq o a.tree.next || c) (sym (active-tree a h o))
+      ∙ sym (has-inserted (state_of a).object_label a.tree.next l.security o)
 
--- what the function that adds an object needs
-pub ruleset add_object_steps = (length-append, has-inserted, security_grown, integrity_grown)
+  pub state-grown : state_of b ≡ with_object (state_of a) p l.security l.integrity
+  state-grown i = record {
+    accesses = access_triples i;
+    matrix = matrix_triples i;
+    maximum = numbered (λ (s : Subject). Some s.maximum) (subjects i);
+    current = numbered (λ (s : Subject). Some s.current) (subjects i);
+    subject_integrity = numbered (λ (s : Subject). Some s.integrity) (subjects i);
+    trusted = places_of (λ (s : Subject). s.trusted) (subjects i);
+    object_label = labels-placed (λ (x : ObjectLabels). x.security) i;
+    object_integrity = labels-placed (λ (x : ObjectLabels). x.integrity) i;
+    parent = (trees i).parent;
+    profile = (trees i).profile;
+    next = (ap (λ (t : Hierarchy). t.next) trees ∙ next_number-same a.tree.profile (a.tree.next + 1) (is_active m) (λ o. map.contains_key grown_labels o) active-grown) i;
+    security = security i;
+    integrity = integrity i;
+  }
+
+  still : HasTree (with_object (state_of a) p l.security l.integrity)
+  still = grown_tree (state_of a) p l.security l.integrity (has_tree a h) (active-tree a h p ∙ above) room
+
+  pub agrees-grown : IsTree b.tree.parent (is_active b.tree.parent) → HasNext b.tree.profile (is_active b.tree.parent) b.tree.next → Agrees b
+  agrees-grown is_tree has_next = record {
+    matrix_rows = matrix_rows ∙ h.matrix_rows ∙ ap length (sym subjects);
+    access_rows = access_rows ∙ h.access_rows ∙ ap length (sym subjects);
+    labels = labels;
+    place = place;
+    matrix_columns = wide a.matrix.columns b.matrix.columns h.matrix_columns matrix_columns matrix_wide;
+    access_columns = wide a.accesses.columns b.accesses.columns h.access_columns access_columns access_wide;
+    tree = is_tree;
+    next = has_next;
+    accesses_known = (rw (sym state-grown) at still).accesses_known;
+    matrix_known = (rw (sym state-grown) at still).matrix_known;
+  } where
+    sizes : (length a.objects.items ≤ length (placed a.objects.items a.tree.next l)) × (a.tree.next < length (placed a.objects.items a.tree.next l)) × (length (placed a.objects.items a.tree.next l) ≡ cond (nat_eq a.tree.next (length a.objects.items)) (length a.objects.items + 1) (length a.objects.items))
+    sizes = length-placed a.objects.items a.tree.next l h.place
+
+    longer : length a.objects.items ≤ length b.objects.items
+    longer = rw objects sizes.0
+
+    there : a.tree.next < length b.objects.items
+    there = rw objects sizes.1
+
+    labels : (o : ℕ) → is_active b.tree.parent o ≡ true → o < length b.objects.items
+    labels o is = from (cases_eq o a.tree.next) where
+      now : (nat_eq o a.tree.next || is_active a.tree.parent o) ≡ true
+      now = sym (is_active-insert a.tree.parent a.tree.next p o) ∙ ap (λ (t : Hierarchy). is_active t.parent o) (sym trees) ∙ is
+
+      from : (o ≡ a.tree.next) ⊎ (o ≡ a.tree.next → ⊥) → o < length b.objects.items
+      from (inl same) = omega (arith, same, there)
+      from (inr other) =
+          let old : o < length a.objects.items = h.labels o (sym (ap (λ c. c || is_active a.tree.parent o) (ne_eqb o a.tree.next other)) ∙ now) in
+          omega (arith, old, longer)
+
+    -- the next number has a place, or is the first behind all
+    place : b.tree.next ≤ length b.objects.items
+    place =
+        let most = next_most a.tree.profile (is_active b.tree.parent) (a.tree.next + 1) (length b.objects.items) (omega (arith, there)) labels in
+        rw (ap (λ (t : Hierarchy). t.next) trees ∙ ap (λ (t : Hierarchy). next_number a.tree.profile (a.tree.next + 1) (is_active t.parent)) (sym trees)) most
+
+    wide : (old new : ℕ) → length a.objects.items ≤ old → old ≤ new → a.tree.next < new → length b.objects.items ≤ new
+    wide old new fits longer_columns room = from (nat_eq a.tree.next (length a.objects.items)) refl where
+      from : (c : Bool) → nat_eq a.tree.next (length a.objects.items) ≡ c → length b.objects.items ≤ new
+      from true end =
+          let long : length b.objects.items ≡ length a.objects.items + 1 = ap length objects ∙ sizes.2 ∙ ap (λ c. cond c (length a.objects.items + 1) (length a.objects.items)) end in
+          let at : a.tree.next ≡ length a.objects.items = eqb-true a.tree.next (length a.objects.items) end in
+          omega (arith, long, at, room)
+      from false inside =
+          let long : length b.objects.items ≡ length a.objects.items = ap length objects ∙ sizes.2 ∙ ap (λ c. cond c (length a.objects.items + 1) (length a.objects.items)) inside in
+          omega (arith, long, fits, longer_columns)

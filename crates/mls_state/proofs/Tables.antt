@@ -31,7 +31,7 @@ module _ {A : Type 0} (a : Inside A) where
 
     -- an object that the tree has, has labels
     has_labels : (o : ℕ) → tree.is_active a.tree.parent o ≡ true → o < length a.objects.items
-    has_labels o active = rw (sym h.labels) (h.tree.below_next o active)
+    has_labels o active = h.labels o active
 
     -- the active objects are those of the tree
     pub active-tree : (o : ℕ) → is_active (state_of a) o ≡ tree.is_active a.tree.parent o
@@ -46,17 +46,14 @@ module _ {A : Type 0} (a : Inside A) where
     pub in_tree : (o : ℕ) → is_active (state_of a) o ≡ true → tree.is_active a.tree.parent o ≡ true
     in_tree o active = sym (active-tree o) ∙ active
 
-    pub below_next : (o : ℕ) → is_active (state_of a) o ≡ true → o < a.tree.next
-    below_next o active = h.tree.below_next o (in_tree o active)
-
     pub label_place : (o : ℕ) → is_active (state_of a) o ≡ true → o < length a.objects.items
     label_place o active = has_labels o (in_tree o active)
 
     pub matrix_column : (o : ℕ) → is_active (state_of a) o ≡ true → o < a.matrix.columns
-    matrix_column o active = let below : o < a.tree.next = below_next o active in let wide : a.tree.next ≤ a.matrix.columns = h.matrix_columns in omega arith
+    matrix_column o active = let below : o < length a.objects.items = label_place o active in let wide : length a.objects.items ≤ a.matrix.columns = h.matrix_columns in omega arith
 
     pub access_column : (o : ℕ) → is_active (state_of a) o ≡ true → o < a.accesses.columns
-    access_column o active = let below : o < a.tree.next = below_next o active in let wide : a.tree.next ≤ a.accesses.columns = h.access_columns in omega arith
+    access_column o active = let below : o < length a.objects.items = label_place o active in let wide : length a.objects.items ≤ a.accesses.columns = h.access_columns in omega arith
 
     -- the labels at the place of an active object
     pub security-at : (o : ℕ) (x : ObjectLabels) → is_active (state_of a) o ≡ true → x ≡ get_or a.objects.items o x → map.get (state_of a).object_label o ≡ Some x.security
@@ -75,7 +72,8 @@ module _ {A : Type 0} (a : Inside A) where
     -- the objects are a tree, and triples name what is there
     pub has_tree : HasTree (state_of a)
     has_tree = record {
-      objects = subst (λ active. tree.IsTree a.tree.parent active a.tree.next) (λ i o. sym (active-tree o) i) h.tree;
+      objects = subst (tree.IsTree a.tree.parent) (λ i o. sym (active-tree o) i) h.tree;
+      next = subst (λ active. tree.HasNext a.tree.profile active a.tree.next) (λ i o. sym (active-tree o) i) h.next;
       accesses_known = h.accesses_known;
       matrix_known = h.matrix_known;
     }

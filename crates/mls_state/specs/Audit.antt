@@ -2,7 +2,7 @@
 use Rattle.std.specs.Prelude.{ℕ, Bool, true, ◌&&◌, ◌<◌, IsTrue, Option, Some, None}
 use Rattle.std.specs.FinMap as map
 use Rattle.mls_tables.specs.Triples.{Triple}
-use Rattle.mls_state.specs.State.{State, is_subject, is_above}
+use Rattle.mls_state.specs.State.{State, is_subject, is_active, is_above}
 use Rattle.mls_state.specs.Properties.{discretionary_holds, simple_holds, star_holds, integrity_holds, compatible_holds}
 
 -- Whether an access meets all four properties that speak of accesses. (own)
@@ -25,6 +25,10 @@ ceiling_holds v s = is_above (map.get v.maximum s) (map.get v.current s)
 -- Each number below a bound passes the test. (own)
 abbrev pub EachBelow : ℕ → (ℕ → Bool) → Type 0
 EachBelow n passes = (k : ℕ) → k < n → IsTrue (passes k)
+
+-- Each active object passes the test. (own)
+abbrev pub EachObject : State → (ℕ → Bool) → Type 0
+EachObject v passes = (o : ℕ) → IsTrue (is_active v o) → IsTrue (passes o)
 
 -- Each known subject passes the test. (own)
 abbrev pub EachSubject : State → (ℕ → Bool) → Type 0

@@ -7,12 +7,13 @@ use Rattle.mls_tables.specs.Triples.{Triple, TripleSet}
 use Rattle.mls_tables.specs.Table.{Table}
 use Rattle.mls_state.specs.declared.subject.Subject.{Subject}
 use Rattle.mls_state.specs.declared.subject.ObjectLabels.{ObjectLabels}
+use Rattle.mls_tree.specs.declared.profile.Profile.{Profile}
 use Rattle.mls_state.specs.State.{State}
 use Rattle.mls_facts.specs.Numbered.{numbered, places_of}
 
 -- The first state: these subjects, numbered in their order, the root, and nothing permitted or accessed. (own)
-abbrev pub first_state : List Subject → ObjectLabels → Bounds → Bounds → State
-first_state subjects root security integrity = record {
+abbrev pub first_state : List Subject → ObjectLabels → Bounds → Bounds → Profile → State
+first_state subjects root security integrity profile = record {
   accesses = set.empty;
   matrix = set.empty;
   maximum = numbered (λ s. Some s.maximum) subjects;
@@ -22,6 +23,7 @@ first_state subjects root security integrity = record {
   object_label = map.insert map.empty 0 root.security;
   object_integrity = map.insert map.empty 0 root.integrity;
   parent = map.empty;
+  profile = profile;
   next = 1;
   security = security;
   integrity = integrity;

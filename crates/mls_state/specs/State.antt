@@ -8,8 +8,11 @@ use Rattle.std.specs.FinMap.{FinMap}
 use Rattle.std.specs.Coded.{Coded, code_by, coded×, coded_ℕ}
 use Rattle.mls_labels.specs.Label.{Label, Bounds, label_code, bounds_code, dominates}
 use Rattle.mls_tables.specs.Triples.{TripleSet, triple_set_code}
+use Rattle.mls_tree.specs.declared.profile.Profile.{Profile}
+use Rattle.mls_tree.specs.contracts.profile.Profile as profiles
 
--- The state (b, M, f, H). (MTR-2997, system states; the integrity labels MTR-3153; the next number and the bounds own)
+-- The state (b, M, f, H). (MTR-2997, system states; the integrity labels MTR-3153; the profile, the next number and the
+-- bounds own)
 pub record State : Type 0 where
   -- the triples of subject, object and mode that are current accesses, and those that the matrix permits
   pub accesses : TripleSet
@@ -25,7 +28,10 @@ pub record State : Type 0 where
   pub object_integrity : FinMap nat_cmp Label
   -- the parent of each active object but the root
   pub parent : FinMap nat_cmp ℕ
-  -- the least object number that was never used
+  -- whether object numbers are used again
+  pub profile : Profile
+  -- the number that the next object will have: in profile 1 the least that was never used, in profile 2 the least that
+  -- isn't active; 4,096 where there is none
   pub next : ℕ
   -- the bounds of the security and of the integrity labels
   pub security : Bounds
@@ -57,18 +63,25 @@ labels_code = map.code coded_ℕ label_code
 abbrev Subjects : Type 0
 Subjects = FinMap nat_cmp Label × (FinMap nat_cmp Label × (FinMap nat_cmp Label × FinSet nat_cmp))
 
--- The tables of a state that speak of objects, and the next number. (own)
+-- The tables of a state that speak of objects, the profile, and the next number. (own)
 abbrev Objects : Type 0
-Objects = FinMap nat_cmp Label × (FinMap nat_cmp Label × (FinMap nat_cmp ℕ × ℕ))
+Objects = FinMap nat_cmp Label × (FinMap nat_cmp Label × (FinMap nat_cmp ℕ × (Profile × ℕ)))
 
 -- How a state is stored: as the tuple of its parts. (own)
 abbrev pub state_code : Coded State
 state_code = code_by ((TripleSet × TripleSet) × (Subjects × (Objects × (Bounds × Bounds))))
     (coded× (coded× triple_set_code triple_set_code) (coded×
     (coded× labels_code (coded× labels_code (coded× labels_code (set.code coded_ℕ)))) (coded×
-    (coded× labels_code (coded× labels_code (coded× (map.code coded_ℕ coded_ℕ) coded_ℕ)))
+    (coded× labels_code
+    (coded× labels_code (coded× (map.code coded_ℕ coded_ℕ) (coded× profiles.the_row.coded coded_ℕ))))
     (coded× bounds_code bounds_code))))
-    (λ v. ((v.accesses, v.matrix), ((v.maximum, (v.current, (v.subject_integrity, v.trusted))), ((v.object_label, (v.object_integrity, (v.parent, v.next))), (v.security, v.integrity)))))
+    (λ v. (
+      (v.accesses, v.matrix),
+      (
+        (v.maximum, (v.current, (v.subject_integrity, v.trusted))),
+        ((v.object_label, (v.object_integrity, (v.parent, (v.profile, v.next)))), (v.security, v.integrity)),
+      ),
+    ))
     (λ p. record {
       accesses = p.0.0;
       matrix = p.0.1;
@@ -79,7 +92,8 @@ state_code = code_by ((TripleSet × TripleSet) × (Subjects × (Objects × (Boun
       object_label = p.1.1.0.0;
       object_integrity = p.1.1.0.1.0;
       parent = p.1.1.0.1.1.0;
-      next = p.1.1.0.1.1.1;
+      profile = p.1.1.0.1.1.1.0;
+      next = p.1.1.0.1.1.1.1;
       security = p.1.1.1.0;
       integrity = p.1.1.1.1;
     })

@@ -1,5 +1,5 @@
 -- How the fields of a state stand for it, and what keeps them in agreement.
-use Rattle.std.specs.Prelude.{◌≡◌, ◌≤◌, Some, length}
+use Rattle.std.specs.Prelude.{◌≡◌, ℕ, ◌<◌, ◌≤◌, IsTrue, Some, length}
 use Rattle.std.specs.FinMap as map
 use Rattle.mls_tree.specs.Tree as tree
 use Rattle.mls_state.specs.State.{State}
@@ -19,19 +19,24 @@ state_of a = record {
   object_label = map.retain_keys (numbered (λ o. Some o.security) a.objects.items) (tree.is_active a.tree.parent);
   object_integrity = map.retain_keys (numbered (λ o. Some o.integrity) a.objects.items) (tree.is_active a.tree.parent);
   parent = a.tree.parent;
+  profile = a.tree.profile;
   next = a.tree.next;
   security = a.security;
   integrity = a.integrity;
 }
 
--- The tables agree: both have a row for each subject and a column for each object number given out, each such number has labels, the objects are a
--- tree, and triples name known subjects and active objects. A creation for which an allocation failed may leave a column over. (own)
+-- The tables agree: both have a row for each subject and a column for each place of labels, each active object has a
+-- place there, and the next one has, or is behind all; the objects are a tree, the next number is that of the profile,
+-- and triples name known subjects and active objects. A creation for which an allocation failed may leave a column
+-- over. (own)
 pub record Agrees {A : Type 0} (a : Inside A) : Type 0 where
   pub matrix_rows : a.matrix.subjects ≡ length a.subjects.items
   pub access_rows : a.accesses.subjects ≡ length a.subjects.items
-  pub labels : a.tree.next ≡ length a.objects.items
-  pub matrix_columns : a.tree.next ≤ a.matrix.columns
-  pub access_columns : a.tree.next ≤ a.accesses.columns
-  pub tree : tree.IsTree a.tree.parent (tree.is_active a.tree.parent) a.tree.next
+  pub labels : (o : ℕ) → IsTrue (tree.is_active a.tree.parent o) → o < length a.objects.items
+  pub place : a.tree.next ≤ length a.objects.items
+  pub matrix_columns : length a.objects.items ≤ a.matrix.columns
+  pub access_columns : length a.objects.items ≤ a.accesses.columns
+  pub next : tree.HasNext a.tree.profile (tree.is_active a.tree.parent) a.tree.next
+  pub tree : tree.IsTree a.tree.parent (tree.is_active a.tree.parent)
   pub accesses_known : Each a.accesses.triples (is_known (state_of a))
   pub matrix_known : Each a.matrix.triples (is_known (state_of a))

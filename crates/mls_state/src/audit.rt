@@ -5,7 +5,7 @@ ghost use Rattle.mls_tables.specs.Triples.{Triple};
 ghost use Rattle.mls_tables.specs.Held.{each_mode};
 ghost use Rattle.mls_state.specs.State.{is_subject, is_active};
 ghost use Rattle.mls_state.specs.Properties.{IsSecure, HasTree, Each};
-ghost use Rattle.mls_state.specs.Audit.{access_holds, fits_parent, ceiling_holds, EachBelow, EachSubject};
+ghost use Rattle.mls_state.specs.Audit.{access_holds, fits_parent, ceiling_holds, EachObject, EachSubject};
 
 use crate::conditions::{discretionary_holds, integrity_holds, simple_holds, star_holds};
 use crate::state::State;
@@ -55,7 +55,8 @@ fn cell_holds<A: Allocator>(state: &State<A>, s: SubjectId, o: ObjectId) -> bool
 /// Whether all accesses of a subject do.
 fn row_holds<A: Allocator>(state: &State<A>, s: SubjectId) -> bool
     requires { IsTrue (is_subject state.now s) }
-    ensures { IsTrue result ↔ ((t : Triple) → IsTrue (set.contains state.now.accesses t) → t.0 ≡ s → IsTrue (access_holds state.now t)) }
+    ensures { IsTrue result
+        ↔ ((t : Triple) → IsTrue (set.contains state.now.accesses t) → t.0 ≡ s → IsTrue (access_holds state.now t)) }
 {
     for o in state.objects_of(s) {
         if !cell_holds(state, s, *o) {
@@ -69,8 +70,7 @@ fn row_holds<A: Allocator>(state: &State<A>, s: SubjectId) -> bool
 fn accesses_hold<A: Allocator>(state: &State<A>) -> bool
     ensures { IsTrue result ↔ Each state.now.accesses (access_holds state.now) }
 {
-    // that accesses name known subjects
-    let _ = state.next();
+    state.agrees();
     for n in 0..state.subject_count() {
         if !row_holds(state, SubjectId::new(n)) {
             return false;
@@ -100,9 +100,10 @@ fn fits_parent<A: Allocator>(state: &State<A>, o: ObjectId) -> bool
 
 /// Whether all objects are compatible with their parents.
 fn objects_fit<A: Allocator>(state: &State<A>) -> bool
-    ensures { IsTrue result ↔ EachBelow state.now.next (fits_parent state.now) }
+    ensures { IsTrue result ↔ EachObject state.now (fits_parent state.now) }
 {
-    for n in 0..state.next() {
+    state.agrees();
+    for n in 0..state.places() {
         if !fits_parent(state, ObjectId::new(n)) {
             return false;
         }
@@ -123,14 +124,13 @@ fn ceilings_hold<A: Allocator>(state: &State<A>) -> bool
     true
 }
 
-/// Whether the state is secure: whether all properties hold, each looked at anew. It goes once over the objects
-/// of each subject, once over the object numbers and once over the subjects, and doesn't allocate. That the objects are a tree
-/// and the tables agree is so of every state.
+/// Whether the state is secure: whether all properties hold, each looked at anew. It goes once over the objects of each
+/// subject, once over the object numbers that were used and once over the subjects, and doesn't allocate. That the
+/// objects are a tree and the tables agree is so of every state.
 pub fn is_secure<A: Allocator>(state: &State<A>) -> bool
     ensures secure { IsTrue result → IsSecure state.now }
     ensures exact { IsSecure state.now → IsTrue result }
 {
-    // that the objects are a tree and the tables agree
-    let _ = state.next();
+    state.agrees();
     accesses_hold(state) && objects_fit(state) && ceilings_hold(state)
 }

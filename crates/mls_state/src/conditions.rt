@@ -1,10 +1,11 @@
 //! The conditions of one triple, each looked at alone.
 ghost use Rattle.std.specs.Prelude.{◌≡◌, IsTrue, Some};
 ghost use Rattle.mls_state.specs.State.{is_subject, is_active};
-ghost use Rattle.mls_state.specs.Properties.{simple_holds, star_between, star_holds, integrity_holds, discretionary_holds};
+ghost use Rattle.mls_state.specs.Properties.{simple_between, simple_holds, star_between, star_holds};
+ghost use Rattle.mls_state.specs.Properties.{integrity_between, integrity_holds, discretionary_holds};
 
 use crate::state::State;
-use mls_labels::SecLabel;
+use mls_labels::{IntLabel, SecLabel};
 use mls_tables::{Mode, ObjectId, SubjectId};
 use std::alloc::Allocator;
 
@@ -22,13 +23,20 @@ pub fn discretionary_holds<A: Allocator>(
     state.allowed(s, o).has(x)
 }
 
+/// Whether simple security holds between the maximum label of a subject and the label of an object that it accesses.
+pub fn simple_between(maximum: SecLabel, label: SecLabel, x: Mode) -> bool
+    ensures { result ≡ simple_between (Some maximum) (Some label) x }
+{
+    !x.observes() || maximum.dominates(&label)
+}
+
 /// Whether the access meets simple security.
 pub fn simple_holds<A: Allocator>(state: &State<A>, s: SubjectId, o: ObjectId, x: Mode) -> bool
     requires subject { IsTrue (is_subject state.now s) }
     requires object { IsTrue (is_active state.now o) }
     ensures { result ≡ simple_holds state.now (s, o, x) }
 {
-    !x.observes() || state.maximum(s).dominates(&state.object_label(o))
+    simple_between(state.maximum(s), state.object_label(o), x)
 }
 
 /// Whether star holds between the current label of an untrusted subject and the label of an object that it accesses.
@@ -52,13 +60,18 @@ pub fn star_holds<A: Allocator>(state: &State<A>, s: SubjectId, o: ObjectId, x: 
     state.is_trusted(s) || star_between(state.current(s), state.object_label(o), x)
 }
 
+/// Whether strict integrity holds between the integrity labels of a subject and of an object that it accesses.
+pub fn integrity_between(own: IntLabel, label: IntLabel, x: Mode) -> bool
+    ensures { result ≡ integrity_between (Some own) (Some label) x }
+{
+    (!x.uses() || label.dominates(&own)) && (!x.alters() || own.dominates(&label))
+}
+
 /// Whether the access meets strict integrity, which binds every subject.
 pub fn integrity_holds<A: Allocator>(state: &State<A>, s: SubjectId, o: ObjectId, x: Mode) -> bool
     requires subject { IsTrue (is_subject state.now s) }
     requires object { IsTrue (is_active state.now o) }
     ensures { result ≡ integrity_holds state.now (s, o, x) }
 {
-    let own = state.subject_integrity(s);
-    let label = state.object_integrity(o);
-    (!x.uses() || label.dominates(&own)) && (!x.alters() || own.dominates(&label))
+    integrity_between(state.subject_integrity(s), state.object_integrity(o), x)
 }

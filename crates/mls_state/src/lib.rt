@@ -8,7 +8,8 @@ mod subject;
 
 pub use audit::is_secure;
 pub use conditions::{
-    discretionary_holds, integrity_holds, simple_holds, star_between, star_holds,
+    discretionary_holds, integrity_between, integrity_holds, simple_between, simple_holds,
+    star_between, star_holds,
 };
 pub use state::State;
 pub use subject::{ObjectLabels, Subject};

@@ -9,7 +9,7 @@ ghost use Rattle.mls_state.specs.Properties.{HasTree, HasWholeTables};
 use crate::subject::{ObjectLabels, Subject};
 use mls_labels::{Bounds, IntLabel, SecLabel};
 use mls_tables::{AccessSet, Matrix, Mode, Modes, ObjectId, SubjectId};
-use mls_tree::Tree;
+use mls_tree::{Profile, Tree};
 use std::alloc::{Allocator, Global};
 use std::marker::Model;
 
@@ -91,14 +91,38 @@ impl<A: Allocator> State<A> {
         self.tree.is_active(o)
     }
 
-    /// The least object number that was never used, [`mls_tables::MAX_OBJECTS`] where all were. The active objects are a tree, and the tables
-    /// of the state agree, always.
+    /// Whether object numbers are used again.
+    pub fn profile(&self) -> Profile
+        ensures { result ≡ self.now.profile }
+    {
+        self.tree.profile()
+    }
+
+    /// The number that the next object will have, [`mls_tables::MAX_OBJECTS`] where there is none: in profile 1 the
+    /// least that was never used, in profile 2 the least that isn't active. The active objects are a tree, and the
+    /// tables of the state agree, always.
     pub fn next(&self) -> u16
         ensures number { result ≡ self.now.next }
         ensures tree { HasTree self.now }
         ensures whole { HasWholeTables self.now }
     {
         self.tree.next()
+    }
+
+    /// A number above those of all active objects, at most [`mls_tables::MAX_OBJECTS`].
+    #[tactic(auto, using(crate::proofs::Tables::in_the_tree))]
+    pub(crate) fn places(&self) -> u16
+        ensures { (o : ℕ) → IsTrue (is_active self.now o) → o < result }
+    {
+        self.tree.places()
+    }
+
+    /// That the active objects are a tree and the tables agree, which is so of every state.
+    pub fn agrees(&self)
+        ensures tree { HasTree self.now }
+        ensures whole { HasWholeTables self.now }
+    {
+        let _ = self.next();
     }
 
     /// The maximum security label of a known subject.

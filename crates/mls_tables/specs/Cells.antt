@@ -35,7 +35,9 @@ add_if b t ts = cond b (set.insert ts t) ts
 -- The triples of one cell, and those of a set. (own)
 unfoldable pub with_cell : ModeSet → ℕ → ℕ → TripleSet → TripleSet
 with_cell modes s o ts =
-    add_if (set.contains modes Write) (s, o, Write) (add_if (set.contains modes Append) (s, o, Append) (add_if (set.contains modes Read) (s, o, Read) (add_if (set.contains modes Execute) (s, o, Execute) ts)))
+    add_if (set.contains modes Write) (s, o, Write)
+    (add_if (set.contains modes Append) (s, o, Append)
+    (add_if (set.contains modes Read) (s, o, Read) (add_if (set.contains modes Execute) (s, o, Execute) ts)))
 
 -- The triples of the cells of one object for the subjects below a number, and those of a set. (own)
 unfoldable pub with_column : (ℕ → ModeSet) → ℕ → ℕ → TripleSet → TripleSet

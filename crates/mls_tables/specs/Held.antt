@@ -9,7 +9,8 @@ use Rattle.mls_tables.specs.Rows.{listed, IsRows}
 
 -- Whether a subject accesses an object, in whatever mode. (own)
 abbrev pub is_held : TripleSet → ℕ → ℕ → Bool
-is_held b s o = set.contains b (s, o, Execute) || (set.contains b (s, o, Read) || (set.contains b (s, o, Append) || set.contains b (s, o, Write)))
+is_held b s o = set.contains b (s, o, Execute)
+    || (set.contains b (s, o, Read) || (set.contains b (s, o, Append) || set.contains b (s, o, Write)))
 
 -- The objects that a subject accesses: ascending, each once. (own)
 unfoldable pub objects_of : TripleSet → ℕ → List ℕ
@@ -24,9 +25,11 @@ abbrev pub each_mode : TripleSet → ℕ → ℕ → (Triple → Bool) → Bool
 each_mode b s o passes =
     (not (set.contains b (s, o, Execute)) || passes (s, o, Execute))
     && ((not (set.contains b (s, o, Read)) || passes (s, o, Read))
-    && ((not (set.contains b (s, o, Append)) || passes (s, o, Append)) && (not (set.contains b (s, o, Write)) || passes (s, o, Write))))
+    && ((not (set.contains b (s, o, Append)) || passes (s, o, Append))
+    && (not (set.contains b (s, o, Write)) || passes (s, o, Write))))
 
--- Lists of objects and lists of subjects tell which subjects are related to which objects; none is beyond the bounds. (own)
+-- Lists of objects and lists of subjects tell which subjects are related to which objects; none is beyond the bounds.
+-- (own)
 pub record Indexes (p : ℕ → ℕ → Bool) (objects subjects : List (List ℕ)) : Type 0 where
   pub within : (s o : ℕ) → IsTrue (p s o) → (s < MAX_SUBJECTS) × (o < MAX_OBJECTS)
   pub rows : IsRows p MAX_OBJECTS objects
@@ -34,10 +37,11 @@ pub record Indexes (p : ℕ → ℕ → Bool) (objects subjects : List (List ℕ
 
 -- Pairs are taken out of both: whatever relation they told, they tell it less those. (own)
 pub record Unlisted (gone : ℕ → ℕ → Bool) (objects subjects objects' subjects' : List (List ℕ)) : Type 0 where
-  pub told : (p : ℕ → ℕ → Bool) → Indexes p objects subjects → Indexes (λ a b. p a b && not (gone a b)) objects' subjects'
+  pub told : (p : ℕ → ℕ → Bool) → Indexes p objects subjects
+      → Indexes (λ a b. p a b && not (gone a b)) objects' subjects'
 
--- There is a list for each row and each column of a table, and the lists tell who accesses what. There may be more lists of subjects, which are
--- empty. (own)
+-- There is a list for each row and each column of a table, and the lists tell who accesses what. There may be more
+-- lists of subjects, which are empty. (own)
 pub record IsIndexed (t : Table) (objects subjects : List (List ℕ)) : Type 0 where
   pub rows : length objects ≡ t.subjects
   pub columns : t.columns ≤ length subjects

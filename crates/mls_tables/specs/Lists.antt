@@ -17,8 +17,10 @@ AreApart s t = (s.start + s.room ≤ t.start) ⊎ (t.start + t.room ≤ s.start)
 -- Each list is within its stretch, each stretch within the memory, and no two have a place in common. (own)
 pub record IsLaidOut {X : Type 0} (spans : List Span) (store : List X) : Type 0 where
   pub short : (i : ℕ) → i < length spans → (slice_index_or spans i nowhere).len ≤ (slice_index_or spans i nowhere).room
-  pub within : (i : ℕ) → i < length spans → (slice_index_or spans i nowhere).start + (slice_index_or spans i nowhere).room ≤ length store
-  pub apart : (i j : ℕ) → i < j → j < length spans → AreApart (slice_index_or spans i nowhere) (slice_index_or spans j nowhere)
+  pub within : (i : ℕ) → i < length spans
+      → (slice_index_or spans i nowhere).start + (slice_index_or spans i nowhere).room ≤ length store
+  pub apart : (i j : ℕ) → i < j → j < length spans
+      → AreApart (slice_index_or spans i nowhere) (slice_index_or spans j nowhere)
 
 -- A stretch with room for one more has the same list: it is the old one, or a new one behind the old memory. (own)
 pub record FindsRoom {X : Type 0} (old new : List X) (s t : Span) : Type 0 where

@@ -23,7 +23,8 @@ alters Read = false
 alters Append = true
 alters Write = true
 
--- A mode uses where it takes something from the object, which for integrity counts as observing it. (own: MTR-3153 has observe, modify and invoke)
+-- A mode uses where it takes something from the object, which for integrity counts as observing it. (own: MTR-3153 has
+-- observe, modify and invoke)
 abbrev pub uses : Mode → Bool
 uses Execute = true
 uses Read = true

@@ -9,4 +9,6 @@ pub record Rooms (X : Type 0) : Type 0 where
 
 -- They are stored as the pair of both. (own)
 abbrev pub rooms_code : {X : Type 0} → Coded X → Coded (Rooms X)
-rooms_code {X} c = code_by (List (List X) × List ℕ) (coded× (coded_list (coded_list c)) (coded_list coded_ℕ)) (λ r. (r.lists, r.rooms)) (λ p. record { lists = p.0; rooms = p.1 }) (λ _. refl)
+rooms_code {X} c =
+    code_by (List (List X) × List ℕ) (coded× (coded_list (coded_list c)) (coded_list coded_ℕ)) (λ r. (r.lists, r.rooms))
+    (λ p. record { lists = p.0; rooms = p.1 }) (λ _. refl)

@@ -1,12 +1,12 @@
 -- Tables of triples: the value of the access matrix and of the current accesses.
-use Rattle.std.specs.Prelude.{ℕ, ◌<◌, ◌≤◌, ◌==◌, not, IsTrue, List, length, slice_index, refl}
+use Rattle.std.specs.Prelude.{ℕ, ◌<◌, ◌==◌, not, IsTrue, List, refl}
 use Rattle.std.specs.List.{list_any}
 use Rattle.std.specs.FinSet as set
 use Rattle.std.specs.Coded.{Coded, code_by, coded×, coded_ℕ}
 use Rattle.mls_tables.specs.Triples.{Triple, TripleSet, triple_set_code}
 
--- A table: how many subjects it has rows for, how many object numbers it has columns for, and the set of triples in its cells. (MTR-2997 has the
--- access matrix and the set of current accesses as such sets; the two counts are own)
+-- A table: how many subjects it has rows for, how many object numbers it has columns for, and the set of triples in its
+-- cells. (MTR-2997 has the access matrix and the set of current accesses as such sets; the two counts are own)
 pub record Table : Type 0 where
   pub subjects : ℕ
   pub columns : ℕ
@@ -24,10 +24,6 @@ without_object triples o = set.retain triples (λ t. not (t.1 == o))
 abbrev pub without_objects : TripleSet → List ℕ → TripleSet
 without_objects triples group = set.retain triples (λ t. not (list_any (λ o. o == t.1) group))
 
--- The numbers of a list ascend. (own)
-abbrev pub IsAscending : List ℕ → Type 0
-IsAscending ns = (i j : ℕ) → i ≤ j → j < length ns → slice_index ns i ≤ slice_index ns j
-
 -- A table just made: it has rows for some subjects, no column and no triple. (own)
 abbrev pub empty_table : ℕ → Table
 empty_table subjects = record { subjects = subjects; columns = 0; triples = set.empty }
@@ -35,4 +31,6 @@ empty_table subjects = record { subjects = subjects; columns = 0; triples = set.
 -- A table is stored as the tuple of its parts. (own)
 abbrev pub table_code : Coded Table
 table_code =
-    code_by (ℕ × (ℕ × TripleSet)) (coded× coded_ℕ (coded× coded_ℕ triple_set_code)) (λ t. (t.subjects, (t.columns, t.triples))) (λ p. record { subjects = p.0; columns = p.1.0; triples = p.1.1 }) (λ _. refl)
+    code_by (ℕ × (ℕ × TripleSet)) (coded× coded_ℕ (coded× coded_ℕ triple_set_code))
+    (λ t. (t.subjects, (t.columns, t.triples))) (λ p. record { subjects = p.0; columns = p.1.0; triples = p.1.1 })
+    (λ _. refl)

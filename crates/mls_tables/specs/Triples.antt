@@ -15,7 +15,8 @@ Triple = ℕ × ℕ × Mode
 
 -- Triples in order, by subject, then by object, then by mode. (own)
 abbrev pub triple_cmp : Triple → Triple → Ordering
-triple_cmp a b = ordering_then (nat_cmp a.0 b.0) (ordering_then (nat_cmp a.1 b.1) (nat_cmp (mode_number a.2) (mode_number b.2)))
+triple_cmp a b =
+    ordering_then (nat_cmp a.0 b.0) (ordering_then (nat_cmp a.1 b.1) (nat_cmp (mode_number a.2) (mode_number b.2)))
 
 -- A finite set of triples. (MTR-2997, b)
 abbrev pub TripleSet : Type 0
@@ -23,7 +24,9 @@ TripleSet = FinSet triple_cmp
 
 -- A set of triples is stored as the list of its triples. (own)
 abbrev pub triple_set_code : Coded TripleSet
-triple_set_code = set.code (code_by (ℕ × (ℕ × Mode)) (coded× coded_ℕ (coded× coded_ℕ mode.the_row.coded)) (λ t. (t.0, (t.1, t.2))) (λ p. (p.0, p.1.0, p.1.1)) (λ _. refl))
+triple_set_code =
+    set.code (code_by (ℕ × (ℕ × Mode)) (coded× coded_ℕ (coded× coded_ℕ mode.the_row.coded)) (λ t. (t.0, (t.1, t.2)))
+    (λ p. (p.0, p.1.0, p.1.1)) (λ _. refl))
 
 -- Whether two triples are one. (own)
 abbrev pub is_triple : Triple → Triple → Bool

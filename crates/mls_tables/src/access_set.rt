@@ -4,7 +4,7 @@ ghost use Rattle.std.specs.FinSet as set;
 ghost use Rattle.std.specs.List.{list_any};
 ghost use Rattle.mls_tables.specs.declared.limits.TheConstants.{MAX_SUBJECTS, MAX_OBJECTS};
 ghost use Rattle.mls_tables.specs.declared.mode.Mode.{Mode as ModeName};
-ghost use Rattle.mls_tables.specs.Table.{IsWithin, IsAscending, empty_table, without_object, without_objects};
+ghost use Rattle.mls_tables.specs.Table.{IsWithin, empty_table, without_object, without_objects};
 ghost use Rattle.mls_tables.specs.Held.{is_held, objects_of, subjects_of};
 
 use crate::ids::{ObjectId, SubjectId};
@@ -16,8 +16,9 @@ use crate::modes::Modes;
 use std::alloc::{AllocError, Allocator, Global};
 use std::marker::Model;
 
-/// The current accesses: a set of triples of a subject, an object and a mode, with rows for 1 to `MAX_SUBJECTS` subjects and columns for up to
-/// `MAX_OBJECTS` object numbers. It is kept as cells, with the objects of each subject and the subjects of each object listed beside them.
+/// The current accesses: a set of triples of a subject, an object and a mode, with rows for 1 to `MAX_SUBJECTS`
+/// subjects and columns for up to `MAX_OBJECTS` object numbers. It is kept as cells, with the objects of each subject
+/// and the subjects of each object listed beside them.
 #[derive(Drop)]
 pub struct AccessSet<A: Allocator = Global> {
     matrix: Matrix<A>,
@@ -158,10 +159,9 @@ impl<A: Allocator> AccessSet<A> {
         }
     }
 
-    /// Removes the triples of the objects of a group, whose numbers ascend. It touches only the lists of those
-    /// who access them, the largest object first.
+    /// Removes the triples of the objects of a group, the last object first. It touches only the lists of those who
+    /// access them.
     pub fn drop_objects(&mut self, group: &[ObjectId])
-        requires { IsAscending group.now }
         ensures { self.new ≡ record self.old { triples = without_objects self.old.triples group.now } }
     {
         let mut left = group.len();

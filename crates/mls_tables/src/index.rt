@@ -1,7 +1,9 @@
 //! Who accesses what: for each subject its objects, and for each object its subjects.
-ghost use Rattle.std.specs.Prelude.{◌≡◌, ℕ, ◌<◌, ◌≤◌, ◌==◌, ◌&&◌, ◌||◌, Bool, not, [], All, length, slice_index_or, replicate, IfOk, OnOk, OnErr};
+ghost use Rattle.std.specs.Prelude.{◌≡◌, ℕ, ◌<◌, ◌≤◌, ◌==◌, ◌&&◌, ◌||◌, Bool, not, [], All, length, slice_index_or};
+ghost use Rattle.std.specs.Prelude.{replicate, IfOk, OnOk, OnErr};
 ghost use Rattle.mls_tables.specs.declared.limits.TheConstants.{MAX_SUBJECTS, MAX_OBJECTS};
 ghost use Rattle.mls_tables.specs.Held.{Indexes, Unlisted};
+ghost use Rattle.mls_tables.specs.Rows.{TellRelation};
 
 use crate::ids::{ObjectId, SubjectId};
 use crate::lists::Lists;
@@ -58,13 +60,15 @@ impl<A: Allocator> Index<A> {
         ensures room { OnOk result (next < length self.new.subjects.lists) }
         ensures longer { length self.old.subjects.lists ≤ length self.new.subjects.lists }
         ensures objects { self.new.objects.lists ≡ self.old.objects.lists }
-        ensures subjects { (o : ℕ) → slice_index_or self.new.subjects.lists o [] ≡ slice_index_or self.old.subjects.lists o [] }
+        ensures subjects { (o : ℕ)
+            → slice_index_or self.new.subjects.lists o [] ≡ slice_index_or self.old.subjects.lists o [] }
     {
         self.subjects.spare_list(usize::from(next))?;
         Ok(())
     }
 
-    /// Enters an object into the list of a subject, and the subject into that of the object. Both lists have room before either changes.
+    /// Enters an object into the list of a subject, and the subject into that of the object. Both lists have room
+    /// before either changes.
     ///
     /// # Errors
     /// Where allocation fails. The lists are then unchanged.
@@ -77,7 +81,9 @@ impl<A: Allocator> Index<A> {
         requires few_subjects { length (slice_index_or self.old.subjects.lists o []) ≤ MAX_OBJECTS }
         ensures rows { length self.new.objects.lists ≡ length self.old.objects.lists }
         ensures columns { length self.new.subjects.lists ≡ length self.old.subjects.lists }
-        ensures ok { OnOk result ((p : ℕ → ℕ → Bool) → Indexes p self.old.objects.lists self.old.subjects.lists → Indexes (λ a b. (a == s && b == o) || p a b) self.new.objects.lists self.new.subjects.lists) }
+        ensures ok { OnOk result
+            ((p : ℕ → ℕ → Bool) → Indexes p self.old.objects.lists self.old.subjects.lists
+            → Indexes (λ a b. (a == s && b == o) || p a b) self.new.objects.lists self.new.subjects.lists) }
         ensures err_objects { OnErr result (self.new.objects.lists ≡ self.old.objects.lists) }
         ensures err_subjects { OnErr result (self.new.subjects.lists ≡ self.old.subjects.lists) }
     {
@@ -92,9 +98,12 @@ impl<A: Allocator> Index<A> {
     pub(crate) fn unlink(&mut self, s: SubjectId, o: ObjectId)
         requires row { s < length self.old.objects.lists }
         requires column { o < length self.old.subjects.lists }
+        requires told { TellRelation self.old.objects.lists }
         ensures rows { length self.new.objects.lists ≡ length self.old.objects.lists }
         ensures columns { length self.new.subjects.lists ≡ length self.old.subjects.lists }
-        ensures gone { Unlisted (λ a b. a == s && b == o) self.old.objects.lists self.old.subjects.lists self.new.objects.lists self.new.subjects.lists }
+        ensures gone { Unlisted
+            (λ a b. a == s
+            && b == o) self.old.objects.lists self.old.subjects.lists self.new.objects.lists self.new.subjects.lists }
     {
         take_object(&mut self.objects, s, o);
         take_subject(&mut self.subjects, o, s);
@@ -104,9 +113,11 @@ impl<A: Allocator> Index<A> {
     pub(crate) fn unlink_object(&mut self, o: ObjectId)
         requires column { o < length self.old.subjects.lists }
         requires subjects { All (λ s. s < length self.old.objects.lists) (slice_index_or self.old.subjects.lists o []) }
+        requires told { TellRelation self.old.objects.lists }
         ensures rows { length self.new.objects.lists ≡ length self.old.objects.lists }
         ensures columns { length self.new.subjects.lists ≡ length self.old.subjects.lists }
-        ensures gone { Unlisted (λ a b. b == o) self.old.objects.lists self.old.subjects.lists self.new.objects.lists self.new.subjects.lists }
+        ensures gone { Unlisted (λ a b. b == o) self.old.objects.lists self.old.subjects.lists
+            self.new.objects.lists self.new.subjects.lists }
     {
         take_from_each(&mut self.objects, subjects_of(&self.subjects, o), o);
         clear_subjects(&mut self.subjects, o);

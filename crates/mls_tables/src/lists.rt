@@ -1,5 +1,6 @@
 //! Lists in one piece of memory: each has a stretch of it, and moves to a longer one at the end when its own is full.
-ghost use Rattle.std.specs.Prelude.{◌≡◌, ℕ, ◌<◌, ◌≤◌, ◌++◌, [], ◌∷◌, length, slice_set, slice_index_or, IfOk, OnOk, OnErr};
+ghost use Rattle.std.specs.Prelude.{◌≡◌, ℕ, ◌<◌, ◌≤◌, ◌++◌, [], ◌∷◌, length, slice_set, slice_index_or, IfOk, OnOk};
+ghost use Rattle.std.specs.Prelude.{OnErr};
 ghost use Rattle.mls_tables.specs.declared.limits.TheConstants.{MAX_OBJECTS};
 ghost use Rattle.mls_tables.specs.Rows.{entered, left, IsInRange};
 
@@ -111,7 +112,8 @@ impl<T: Copy, A: Allocator> Lists<T, A> {
     pub fn push(&mut self, i: usize, x: T) -> Result<(), AllocError>
         requires list { i < length self.old.lists }
         requires few { length (slice_index_or self.old.lists i []) ≤ MAX_OBJECTS }
-        ensures ok { OnOk result (self.new.lists ≡ slice_set self.old.lists i (slice_index_or self.old.lists i [] ++ x ∷ [])) }
+        ensures ok { OnOk result
+            (self.new.lists ≡ slice_set self.old.lists i (slice_index_or self.old.lists i [] ++ x ∷ [])) }
         ensures err { OnErr result (self.new.lists ≡ self.old.lists) }
     {
         self.make_room(i, x)?;

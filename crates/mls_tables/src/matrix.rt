@@ -13,8 +13,8 @@ use crate::pair::Pair;
 use std::alloc::{AllocError, Allocator, Global};
 use std::marker::Model;
 
-/// The access matrix: a set of triples of a subject, an object and a mode, with a row for each subject and a column for each object number.
-/// There are 1 to `MAX_SUBJECTS` rows and up to `MAX_OBJECTS` columns.
+/// The access matrix: a set of triples of a subject, an object and a mode, with a row for each subject and a column for
+/// each object number. There are 1 to `MAX_SUBJECTS` rows and up to `MAX_OBJECTS` columns.
 #[derive(Drop)]
 pub struct Matrix<A: Allocator = Global> {
     subjects: u16,

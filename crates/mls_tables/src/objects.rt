@@ -1,12 +1,14 @@
 //! Lists of objects, which ascend.
-ghost use Rattle.std.specs.Prelude.{◌≡◌, ℕ, ◌<◌, ◌==◌, ◌&&◌, ◌||◌, Bool, not, [], All, length, filter, slice_index_or, slice_set};
+ghost use Rattle.std.specs.Prelude.{◌≡◌, ℕ, ◌<◌, ◌≤◌, ◌==◌, ◌&&◌, Bool, not, [], All, length, filter, slice_index_or};
+ghost use Rattle.std.specs.Prelude.{slice_set, OnOk, OnErr};
 ghost use Rattle.std.specs.List.{list_any};
 ghost use Rattle.std.specs.List.Sorted.{IsStrictlyIncreasing};
-ghost use Rattle.mls_tables.specs.Rows.{IsInRange, FoundAt, IsRows, TakenOut};
+ghost use Rattle.mls_tables.specs.declared.limits.TheConstants.{MAX_OBJECTS};
+ghost use Rattle.mls_tables.specs.Rows.{IsInRange, FoundAt, IsRows, TakenOut, Entered, TellRelation};
 
 use crate::ids::{ObjectId, SubjectId};
 use crate::lists::Lists;
-use std::alloc::Allocator;
+use std::alloc::{AllocError, Allocator};
 use std::cmp::Ordering;
 
 /// Where an object stands in a list, or else where it would, by binary search.
@@ -17,8 +19,8 @@ fn searched(list: &[ObjectId], o: ObjectId) -> Result<usize, usize>
     list.binary_search_by_key(&o.number(), |x| x.number())
 }
 
-/// Where an object stands in a list, or else where it would. The end is looked at first: objects are created in ascending order, and
-/// dropped from the largest down.
+/// Where an object stands in a list, or else where it would. The end is looked at first: objects are often created in
+/// ascending order.
 #[tactic(auto, using(crate::proofs::Ordered::behind_last))]
 fn place_of_object(list: &[ObjectId], o: ObjectId) -> Result<usize, usize>
     ensures range { IsInRange result (length list.now) }
@@ -35,23 +37,54 @@ fn place_of_object(list: &[ObjectId], o: ObjectId) -> Result<usize, usize>
 }
 
 impl<A: Allocator> Lists<ObjectId, A> {
-    /// Takes an object out of a list, if it is there. It is looked for by binary search, so the list must ascend.
-    pub fn discard(&mut self, i: usize, o: ObjectId)
-        requires { i < length self.old.lists }
+    /// Enters an object into a list that ascends and has room for it, in its place; nothing changes where it is there.
+    fn enter_in_place(&mut self, i: usize, o: ObjectId)
+        requires list { i < length self.old.lists }
+        requires room { length (slice_index_or self.old.lists i []) < slice_index_or self.old.rooms i 0 }
         ensures many { length self.new.lists ≡ length self.old.lists }
-        ensures gone { IsStrictlyIncreasing (slice_index_or self.old.lists i []) →
-            self.new.lists ≡ slice_set self.old.lists i (filter (λ y. not (y == o)) (slice_index_or self.old.lists i [])) }
+        ensures entered { Entered i o self.old.lists self.new.lists }
     {
         let place = place_of_object(self.list(i), o);
+        self.enter(i, place, o);
+    }
+
+    /// Enters an object into a list of at most 4,096 that ascends, in its place; nothing changes where it is there.
+    /// The end is looked at first, then it is a binary search.
+    ///
+    /// # Errors
+    /// Where allocation fails. The lists are then unchanged.
+    pub fn insert(&mut self, i: usize, o: ObjectId) -> Result<(), AllocError>
+        requires list { i < length self.old.lists }
+        requires few { length (slice_index_or self.old.lists i []) ≤ MAX_OBJECTS }
+        ensures many { length self.new.lists ≡ length self.old.lists }
+        ensures ok { OnOk result (Entered i o self.old.lists self.new.lists) }
+        ensures err { OnErr result (self.new.lists ≡ self.old.lists) }
+    {
+        self.make_room(i, o)?;
+        self.enter_in_place(i, o);
+        Ok(())
+    }
+
+    /// Takes an object out of a list that ascends, if it is there. It is looked for by binary search.
+    pub fn discard(&mut self, i: usize, o: ObjectId)
+        requires list { i < length self.old.lists }
+        requires ascending { IsStrictlyIncreasing (slice_index_or self.old.lists i []) }
+        ensures many { length self.new.lists ≡ length self.old.lists }
+        ensures gone { self.new.lists ≡
+            slice_set self.old.lists i (filter (λ y. not (y == o)) (slice_index_or self.old.lists i [])) }
+    {
+        let place = searched(self.list(i), o);
         self.leave(i, place);
     }
 }
 
 /// Takes an object out of the list of a subject.
 pub(crate) fn take_object<A: Allocator>(objects: &mut Lists<ObjectId, A>, s: SubjectId, o: ObjectId)
-    requires { s < length objects.old.lists }
+    requires row { s < length objects.old.lists }
+    requires told { TellRelation objects.old.lists }
     ensures many { length objects.new.lists ≡ length objects.old.lists }
-    ensures taken { (p : ℕ → ℕ → Bool) (n : ℕ) → IsRows p n objects.old.lists → IsRows (λ a b. p a b && not (a == s && b == o)) n objects.new.lists }
+    ensures taken { (p : ℕ → ℕ → Bool) (n : ℕ) → IsRows p n objects.old.lists
+        → IsRows (λ a b. p a b && not (a == s && b == o)) n objects.new.lists }
 {
     objects.discard(usize::from(s.0), o);
 }
@@ -62,7 +95,8 @@ pub(crate) fn take_from_each<A: Allocator>(
     holders: &[SubjectId],
     o: ObjectId,
 )
-    requires { All (λ s. s < length objects.old.lists) holders.now }
+    requires rows { All (λ s. s < length objects.old.lists) holders.now }
+    requires told { TellRelation objects.old.lists }
     ensures many { length objects.new.lists ≡ length objects.old.lists }
     ensures taken { TakenOut holders.now o objects.old.lists objects.new.lists }
 {
@@ -80,9 +114,7 @@ pub(crate) fn enter_object<A: Allocator>(
     requires row { s < length objects.old.lists }
     requires room { length (slice_index_or objects.old.lists s []) < slice_index_or objects.old.rooms s 0 }
     ensures many { length objects.new.lists ≡ length objects.old.lists }
-    ensures entered { (p : ℕ → ℕ → Bool) (n : ℕ) → o < n → IsRows p n objects.old.lists → IsRows (λ a b. (a == s && b == o) || p a b) n objects.new.lists }
+    ensures entered { Entered s o objects.old.lists objects.new.lists }
 {
-    let row = usize::from(s.0);
-    let place = place_of_object(objects.list(row), o);
-    objects.enter(row, place, o);
+    objects.enter_in_place(usize::from(s.0), o);
 }

@@ -6,8 +6,8 @@ ghost use Rattle.mls_tables.specs.Cells.{half, no_pair};
 use crate::mode::Mode;
 use crate::modes::Modes;
 
-/// The cells of two subjects whose numbers follow one another, the first of them even: its modes are the four low bits, those of the odd one the
-/// four high bits.
+/// The cells of two subjects whose numbers follow one another, the first of them even: its modes are the four low bits,
+/// those of the odd one the four high bits.
 #[derive(Clone, Copy)]
 pub(crate) struct Pair {
     bits: u8,

@@ -14,7 +14,8 @@ pub struct Span {
     pub room: usize,
 }
 
-/// A stretch with room for one more: the list's own, or a new one at the end that the list is copied to. The item fills the room.
+/// A stretch with room for one more: the list's own, or a new one at the end that the list is copied to. The item fills
+/// the room.
 ///
 /// # Errors
 /// Where allocation fails. The memory is then unchanged.

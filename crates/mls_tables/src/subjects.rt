@@ -31,7 +31,8 @@ pub(crate) fn take_subject<A: Allocator>(
 )
     requires { o < length subjects.old.lists }
     ensures many { length subjects.new.lists ≡ length subjects.old.lists }
-    ensures taken { (p : ℕ → ℕ → Bool) (n : ℕ) → IsRows p n subjects.old.lists → IsRows (λ a b. p a b && not (a == o && b == s)) n subjects.new.lists }
+    ensures taken { (p : ℕ → ℕ → Bool) (n : ℕ) → IsRows p n subjects.old.lists
+        → IsRows (λ a b. p a b && not (a == o && b == s)) n subjects.new.lists }
 {
     let column = usize::from(o.0);
     let place = place_of_subject(subjects.list(column), s);
@@ -55,7 +56,8 @@ pub(crate) fn enter_subject<A: Allocator>(
     requires column { o < length subjects.old.lists }
     requires room { length (slice_index_or subjects.old.lists o []) < slice_index_or subjects.old.rooms o 0 }
     ensures many { length subjects.new.lists ≡ length subjects.old.lists }
-    ensures entered { (p : ℕ → ℕ → Bool) (n : ℕ) → s < n → IsRows p n subjects.old.lists → IsRows (λ a b. (a == o && b == s) || p a b) n subjects.new.lists }
+    ensures entered { (p : ℕ → ℕ → Bool) (n : ℕ) → s < n → IsRows p n subjects.old.lists
+        → IsRows (λ a b. (a == o && b == s) || p a b) n subjects.new.lists }
 {
     let column = usize::from(o.0);
     let place = place_of_subject(subjects.list(column), s);

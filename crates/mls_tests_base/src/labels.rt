@@ -16,8 +16,12 @@ fn is_same(a: Label, b: Label) -> bool
 #[test]
 fn a_set_has_what_was_added(rt: HostRuntime) {
     let none = CatSet::empty();
-    let some = none.with(0).with(63).with(0);
-    sees(&rt, some.contains(0) && some.contains(63), "what was added");
+    let some = none.with(0).with(255).with(0);
+    sees(
+        &rt,
+        some.contains(0) && some.contains(255),
+        "what was added",
+    );
     sees(
         &rt,
         !some.contains(1) && !none.contains(0),
@@ -30,13 +34,13 @@ fn a_set_has_what_was_added(rt: HostRuntime) {
     );
     sees(
         &rt,
-        some == none.with(63).with(0) && some != none,
+        some == none.with(255).with(0) && some != none,
         "equal sets",
     );
     let mut rest = some;
     sees(
         &rt,
-        rest.pop_first() == Some(0) && rest.pop_first() == Some(63),
+        rest.pop_first() == Some(0) && rest.pop_first() == Some(255),
         "the first",
     );
     sees(&rt, rest.pop_first().is_none() && rest == none, "none left");

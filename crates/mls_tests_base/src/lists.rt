@@ -1,5 +1,5 @@
 //! Lists of objects in one piece of memory.
-ghost use Rattle.std.specs.Prelude.{◌<◌, ◌≡◌, [], OnOk, length};
+ghost use Rattle.std.specs.Prelude.{◌<◌, ◌≡◌, [], ◌∷◌, OnOk, length, slice_index_or};
 
 use crate::seen::sees;
 use mls_tables::{Lists, ObjectId};
@@ -21,7 +21,8 @@ fn list_is(rt: &impl Abort, lists: &Lists<ObjectId>, i: usize, wanted: &[ObjectI
 
 /// Takes an object out of the second list, and one that isn't there, and empties the first.
 fn leave(rt: &impl Abort, lists: &mut Lists<ObjectId>)
-    requires { 1 < length lists.old.lists }
+    requires two { 1 < length lists.old.lists }
+    requires second { slice_index_or lists.old.lists 1 [] ≡ 2 ∷ 3 ∷ 5 ∷ [] }
 {
     list_is(rt, lists, 0, &[ObjectId(7)]);
     list_is(rt, lists, 1, &[ObjectId(2), ObjectId(3), ObjectId(5)]);
@@ -36,7 +37,8 @@ fn leave(rt: &impl Abort, lists: &mut Lists<ObjectId>)
 /// Puts four objects into two lists that are new.
 fn enter(lists: &mut Lists<ObjectId>) -> Result<(), AllocError>
     requires { lists.old.lists ≡ [] }
-    ensures { OnOk result (1 < length lists.new.lists) }
+    ensures two { OnOk result (1 < length lists.new.lists) }
+    ensures second { OnOk result (slice_index_or lists.new.lists 1 [] ≡ 2 ∷ 3 ∷ 5 ∷ []) }
 {
     lists.spare_list(0)?;
     lists.spare_list(1)?;
@@ -53,7 +55,8 @@ fn leave_copied(
     lists: &mut Lists<ObjectId>,
     alloc: Global,
 ) -> Result<(), AllocError>
-    requires { 1 < length lists.old.lists }
+    requires two { 1 < length lists.old.lists }
+    requires second { slice_index_or lists.old.lists 1 [] ≡ 2 ∷ 3 ∷ 5 ∷ [] }
 {
     let copy = lists.duplicate(alloc)?;
     leave(rt, lists);

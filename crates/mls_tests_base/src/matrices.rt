@@ -3,6 +3,7 @@
 //! met no refusal.
 ghost use Rattle.std.specs.Prelude.{◌<◌};
 
+use crate::beside::{Pair, Row, refused_in_turn, take_row};
 use crate::seen::{has_just, sees};
 use mls_tables::{MAX_OBJECTS, Matrix, ObjectId, SubjectId};
 use refusing::Refusing;
@@ -10,7 +11,7 @@ use same::same_matrices;
 use std::alloc::{AllocError, Allocator, Global};
 use std::process::Abort;
 use std::test::Fail;
-use steps::{GIVEN_TWICE, GROUP, LARGEST, PACKED, Row, Step};
+use steps::{GIVEN_TWICE, GROUP, LARGEST, PACKED, Step};
 
 mod same;
 mod steps;
@@ -28,6 +29,19 @@ fn widen<A: Allocator>(rt: &impl Abort, matrix: &mut Matrix<A>) -> Result<(), Al
     sees(rt, matrix.columns() < MAX_OBJECTS, "room for a column");
     matrix.add_object()?;
     Ok(())
+}
+
+/// Sees what a step tells of a matrix.
+fn look<A: Allocator>(rt: &impl Abort, matrix: &Matrix<A>, step: &Step) {
+    if let Step::Has(s, o, modes) = step {
+        covers(rt, matrix, *s, *o);
+        let found = matrix.modes(SubjectId(*s), ObjectId(*o));
+        sees(
+            rt,
+            has_just(found, modes) && found.is_empty() == modes.is_empty(),
+            "modes",
+        );
+    }
 }
 
 /// Takes a step.
@@ -55,137 +69,83 @@ fn take<A: Allocator>(
             covers(rt, matrix, 0, 3);
             matrix.clear_objects(&[ObjectId(1), ObjectId(3)]);
         }
-        Step::Has(s, o, modes) => {
-            covers(rt, matrix, *s, *o);
-            let found = matrix.modes(SubjectId(*s), ObjectId(*o));
-            sees(
-                rt,
-                has_just(found, modes) && found.is_empty() == modes.is_empty(),
-                "modes",
-            );
-        }
+        other => look(rt, matrix, other),
     }
     Ok(())
 }
 
-/// Takes a step in both matrices, in the first again where an allocation failed: then all its cells are as before. The
-/// largest are compared only there.
-fn take_in_both<A: Allocator>(
-    rt: &impl Abort,
-    matrix: &mut Matrix<A>,
-    wanted: &mut Matrix,
-    step: &Step,
-) -> Result<(), AllocError> {
-    if take(rt, matrix, step).is_err() {
-        same_matrices(rt, matrix, wanted);
-        take(rt, matrix, step)?;
-    }
-    take(rt, wanted, step)?;
-    if matrix.columns() < 8 {
-        same_matrices(rt, matrix, wanted);
-    }
-    Ok(())
-}
-
-/// Takes steps in both matrices.
-fn take_all<A: Allocator>(
-    rt: &impl Abort,
-    matrix: &mut Matrix<A>,
-    wanted: &mut Matrix,
-    steps: &[Step],
-) -> Result<(), AllocError> {
-    for step in steps {
-        take_in_both(rt, matrix, wanted, step)?;
-    }
-    Ok(())
-}
-
-/// Adds as many columns to both matrices as there can be.
-fn widen_all<A: Allocator>(
-    rt: &impl Abort,
-    matrix: &mut Matrix<A>,
-    wanted: &mut Matrix,
-) -> Result<(), AllocError> {
-    for _ in 0..MAX_OBJECTS {
-        take_in_both(rt, matrix, wanted, &Step::Widen)?;
-    }
-    Ok(())
-}
-
-/// Copies a matrix, again where an allocation failed, takes steps in the matrix, and sees what is told of the copy.
-fn copy<A: Allocator + Copy>(
-    rt: &impl Abort,
-    alloc: A,
-    matrix: &mut Matrix<A>,
-    wanted: &mut Matrix,
-    row: &Row,
-) -> Result<(), AllocError> {
-    let mut copy = match matrix.duplicate(alloc) {
-        Ok(copy) => copy,
-        Err(_) => matrix.duplicate(alloc)?,
-    };
-    if copy.columns() < 8 {
-        same_matrices(rt, &copy, wanted);
-    }
-    let mut taken = take_all(rt, matrix, wanted, row.after);
-    for step in row.copied {
-        if taken.is_ok() {
-            taken = take(rt, &mut copy, step);
-        }
-    }
-    drop(copy);
-    taken
-}
-
-/// Takes the steps of a row in both matrices.
-fn take_row<A: Allocator + Copy>(
-    rt: &impl Abort,
-    alloc: A,
-    matrix: &mut Matrix<A>,
-    wanted: &mut Matrix,
-    row: &Row,
-) -> Result<(), AllocError> {
-    if row.widest {
-        widen_all(rt, matrix, wanted)?;
-    }
-    take_all(rt, matrix, wanted, row.before)?;
-    copy(rt, alloc, matrix, wanted, row)
-}
-
-/// Takes the steps of a row in a matrix and beside it in one that meets no refusal.
-fn run_beside<A: Allocator + Copy>(
-    rt: &impl Abort,
+/// A matrix, and beside it one that meets no refusal.
+#[derive(Drop)]
+struct Matrices<A: Allocator> {
+    matrix: Matrix<A>,
     heap: A,
-    alloc: Global,
-    row: &Row,
-) -> Result<(), AllocError> {
-    sees(rt, row.subjects >= 1 && row.subjects <= 256, "subjects");
-    let mut wanted = Matrix::new(alloc, row.subjects);
-    let mut matrix = Matrix::new(heap, row.subjects);
-    let taken = take_row(rt, heap, &mut matrix, &mut wanted, row);
-    drop(matrix);
-    drop(wanted);
-    taken
+    wanted: Matrix,
 }
 
-/// Takes the steps of a row where each allocation is refused in turn.
-fn refused_in_turn(rt: &impl Abort, alloc: Global, row: &Row) -> Result<(), AllocError> {
-    for number in 1..100 {
-        let heap = Refusing::new(alloc, number);
-        run_beside(rt, &heap, alloc, row)?;
-        if !heap.has_refused() {
-            sees(rt, number > 2, "how many allocations");
-            return Ok(());
+/// All cells are compared where a step was refused, and after each step those of small matrices.
+impl<A: Allocator + Copy> Pair for Matrices<A> {
+    type Step = Step;
+
+    type Copied = Matrix<A>;
+
+    fn take(&mut self, rt: &impl Abort, step: &Step) -> Result<(), AllocError> {
+        take(rt, &mut self.matrix, step)
+    }
+
+    fn follow(&mut self, rt: &impl Abort, step: &Step) -> Result<(), AllocError> {
+        take(rt, &mut self.wanted, step)
+    }
+
+    fn compare(&self, rt: &impl Abort) {
+        self.compare_copy(rt, &self.matrix);
+    }
+
+    fn compare_refused(&self, rt: &impl Abort) {
+        same_matrices(rt, &self.matrix, &self.wanted);
+    }
+
+    fn copied(&self) -> Result<Matrix<A>, AllocError> {
+        self.matrix.duplicate(self.heap)
+    }
+
+    fn compare_copy(&self, rt: &impl Abort, copy: &Matrix<A>) {
+        if copy.columns() < 8 {
+            same_matrices(rt, copy, &self.wanted);
         }
     }
-    sees(rt, false, "a run without a refusal");
-    Ok(())
+
+    fn look(rt: &impl Abort, copy: &Matrix<A>, step: &Step) {
+        look(rt, copy, step);
+    }
+}
+
+/// Takes the steps of a row where the allocation of a number is refused, and returns whether it was.
+fn is_refused(
+    rt: &impl Abort,
+    alloc: Global,
+    number: u64,
+    subjects: u16,
+    row: &Row<'_, Step>,
+) -> Result<bool, AllocError> {
+    let heap = Refusing::new(alloc, number);
+    sees(rt, subjects >= 1 && subjects <= 256, "subjects");
+    let mut pair = Matrices {
+        matrix: Matrix::new(&heap, subjects),
+        heap: &heap,
+        wanted: Matrix::new(alloc, subjects),
+    };
+    let taken = take_row(rt, &mut pair, row);
+    drop(pair);
+    taken?;
+    Ok(heap.has_refused())
 }
 
 #[test]
 fn matrices_have_what_is_given(rt: HostRuntime) -> Result<(), Fail> {
-    for row in &[GIVEN_TWICE, PACKED, GROUP, LARGEST] {
-        refused_in_turn(&rt, rt.alloc(), row)?;
+    for (subjects, row) in &[GIVEN_TWICE, PACKED, GROUP, LARGEST] {
+        refused_in_turn(&rt, 2, |number| {
+            is_refused(&rt, rt.alloc(), number, *subjects, row)
+        })?;
     }
     Ok(())
 }

@@ -2,6 +2,7 @@
 //! refused in turn: then the set is compared with one that met no refusal after each step.
 ghost use Rattle.std.specs.Prelude.{◌<◌};
 
+use crate::beside::{Pair, Row, refused_in_turn, take_row};
 use crate::seen::{are, are_subjects, has_just, sees};
 use mls_tables::{
     AccessSet, MAX_OBJECTS, Mode, ObjectId, SubjectId, indexes_give_each_triple_once,
@@ -11,7 +12,7 @@ use same::same_sets;
 use std::alloc::{AllocError, Allocator, Global};
 use std::process::Abort;
 use std::test::Fail;
-use steps::{FILLED, GROUP, LARGEST, Row, Step, WORKED};
+use steps::{FILLED, GROUP, LARGEST, Step, WORKED};
 
 mod same;
 mod steps;
@@ -98,134 +99,92 @@ fn take<A: Allocator>(
     Ok(())
 }
 
-/// Takes a step in both sets, in the first again where an allocation failed. Sets as large as can be aren't compared.
-fn take_in_both<A: Allocator>(
-    rt: &impl Abort,
-    set: &mut AccessSet<A>,
-    wanted: &mut AccessSet,
-    step: &Step,
-) -> Result<(), AllocError> {
-    let small = set.columns() < 8;
-    if take(rt, set, step).is_err() {
-        if small {
-            same_sets(rt, set, wanted);
+/// A set, and beside it one that meets no refusal.
+#[derive(Drop)]
+struct Sets<A: Allocator> {
+    set: AccessSet<A>,
+    heap: A,
+    wanted: AccessSet,
+}
+
+/// Sets as large as can be aren't compared.
+impl<A: Allocator + Copy> Pair for Sets<A> {
+    type Step = Step;
+
+    type Copied = AccessSet<A>;
+
+    fn take(&mut self, rt: &impl Abort, step: &Step) -> Result<(), AllocError> {
+        take(rt, &mut self.set, step)
+    }
+
+    fn follow(&mut self, rt: &impl Abort, step: &Step) -> Result<(), AllocError> {
+        take(rt, &mut self.wanted, step)
+    }
+
+    fn compare(&self, rt: &impl Abort) {
+        self.compare_copy(rt, &self.set);
+    }
+
+    fn compare_refused(&self, rt: &impl Abort) {
+        self.compare_copy(rt, &self.set);
+    }
+
+    fn copied(&self) -> Result<AccessSet<A>, AllocError> {
+        self.set.duplicate(self.heap)
+    }
+
+    fn compare_copy(&self, rt: &impl Abort, copy: &AccessSet<A>) {
+        if copy.columns() < 8 {
+            same_sets(rt, copy, &self.wanted);
         }
-        take(rt, set, step)?;
     }
-    take(rt, wanted, step)?;
-    if small {
-        same_sets(rt, set, wanted);
+
+    fn look(rt: &impl Abort, copy: &AccessSet<A>, step: &Step) {
+        look(rt, copy, step);
     }
-    Ok(())
 }
 
-/// Takes steps in both sets.
-fn take_all<A: Allocator>(
+/// A set without accesses, made again where an allocation failed.
+fn made<A: Allocator + Copy>(
     rt: &impl Abort,
-    set: &mut AccessSet<A>,
-    wanted: &mut AccessSet,
-    steps: &[Step],
-) -> Result<(), AllocError> {
-    for step in steps {
-        take_in_both(rt, set, wanted, step)?;
+    heap: A,
+    subjects: u16,
+) -> Result<AccessSet<A>, AllocError> {
+    sees(rt, subjects >= 1 && subjects <= 256, "subjects");
+    match AccessSet::new(heap, subjects) {
+        Ok(set) => Ok(set),
+        Err(_) => AccessSet::new(heap, subjects),
     }
-    Ok(())
-}
-
-/// Adds as many columns to both sets as there can be.
-fn widen_all<A: Allocator>(
-    rt: &impl Abort,
-    set: &mut AccessSet<A>,
-    wanted: &mut AccessSet,
-) -> Result<(), AllocError> {
-    for _ in 0..MAX_OBJECTS {
-        take_in_both(rt, set, wanted, &Step::Widen)?;
-    }
-    Ok(())
-}
-
-/// Copies a set, again where an allocation failed, takes steps in the set, and sees what is told of the copy.
-fn copy<A: Allocator + Copy>(
-    rt: &impl Abort,
-    alloc: A,
-    set: &mut AccessSet<A>,
-    wanted: &mut AccessSet,
-    row: &Row,
-) -> Result<(), AllocError> {
-    let mut copy = match set.duplicate(alloc) {
-        Ok(copy) => copy,
-        Err(_) => set.duplicate(alloc)?,
-    };
-    let mut taken = take_in_both(rt, &mut copy, wanted, &Step::Nothing);
-    if taken.is_ok() {
-        taken = take_all(rt, set, wanted, row.after);
-    }
-    for step in row.copied {
-        look(rt, &copy, step);
-    }
-    drop(copy);
-    taken
-}
-
-/// Takes the steps of a row in both sets.
-fn take_row<A: Allocator + Copy>(
-    rt: &impl Abort,
-    alloc: A,
-    set: &mut AccessSet<A>,
-    wanted: &mut AccessSet,
-    row: &Row,
-) -> Result<(), AllocError> {
-    if row.widest {
-        widen_all(rt, set, wanted)?;
-    }
-    take_all(rt, set, wanted, row.before)?;
-    copy(rt, alloc, set, wanted, row)
-}
-
-/// Takes the steps of a row in a set and beside it in one that meets no refusal.
-fn run_beside<A: Allocator + Copy>(
-    rt: &impl Abort,
-    alloc: A,
-    wanted: &mut AccessSet,
-    row: &Row,
-) -> Result<(), AllocError> {
-    sees(rt, row.subjects >= 1 && row.subjects <= 256, "subjects");
-    let mut set = match AccessSet::new(alloc, row.subjects) {
-        Ok(set) => set,
-        Err(_) => AccessSet::new(alloc, row.subjects)?,
-    };
-    let taken = take_row(rt, alloc, &mut set, wanted, row);
-    drop(set);
-    taken
 }
 
 /// Takes the steps of a row where the allocation of a number is refused, and returns whether it was.
-fn is_refused(rt: &impl Abort, alloc: Global, number: u64, row: &Row) -> Result<bool, AllocError> {
+fn is_refused(
+    rt: &impl Abort,
+    alloc: Global,
+    number: u64,
+    subjects: u16,
+    row: &Row<'_, Step>,
+) -> Result<bool, AllocError> {
     let heap = Refusing::new(alloc, number);
-    sees(rt, row.subjects >= 1 && row.subjects <= 256, "subjects");
-    let mut wanted = AccessSet::new(alloc, row.subjects)?;
-    let taken = run_beside(rt, &heap, &mut wanted, row);
-    drop(wanted);
+    let wanted = made(rt, alloc, subjects)?;
+    let set = made(rt, &heap, subjects)?;
+    let mut pair = Sets {
+        set,
+        heap: &heap,
+        wanted,
+    };
+    let taken = take_row(rt, &mut pair, row);
+    drop(pair);
     taken?;
     Ok(heap.has_refused())
 }
 
-/// Takes the steps of a row where each allocation is refused in turn.
-fn refused_in_turn(rt: &impl Abort, alloc: Global, row: &Row) -> Result<(), AllocError> {
-    for number in 1..200 {
-        if !is_refused(rt, alloc, number, row)? {
-            sees(rt, number > 5, "how many allocations");
-            return Ok(());
-        }
-    }
-    sees(rt, false, "a run without a refusal");
-    Ok(())
-}
-
 #[test]
 fn sets_have_what_is_inserted(rt: HostRuntime) -> Result<(), Fail> {
-    for row in &[WORKED, GROUP, FILLED, LARGEST] {
-        refused_in_turn(&rt, rt.alloc(), row)?;
+    for (subjects, row) in &[WORKED, GROUP, FILLED, LARGEST] {
+        refused_in_turn(&rt, 5, |number| {
+            is_refused(&rt, rt.alloc(), number, *subjects, row)
+        })?;
     }
     indexes_give_each_triple_once();
     Ok(())

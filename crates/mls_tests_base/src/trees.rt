@@ -3,26 +3,20 @@
 ghost use Rattle.std.specs.Prelude.{IsTrue};
 ghost use Rattle.mls_tree.specs.Tree.{is_active};
 
+use crate::beside::{Pair, Row, refused_in_turn, take_row};
 use crate::seen::{are, sees};
 use mls_tables::ObjectId;
-use mls_tree::{Tree, TreeFault, inferiors_reach};
+use mls_tree::{Profile, Tree, TreeFault, inferiors_reach};
 use refusing::Refusing;
 use same::same_trees;
 use std::alloc::{AllocError, Allocator, Global};
 use std::process::Abort;
 use std::test::Fail;
-use steps::{BRANCHED, Row, Step, WORKED};
+use steps::{BRANCHED, REUSED, Step, WORKED};
 
 mod chain;
 mod same;
 mod steps;
-
-/// A tree that meets no refusal, and its allocator.
-#[derive(Drop)]
-struct Beside {
-    tree: Tree,
-    alloc: Global,
-}
 
 /// Asserts that an object is active.
 fn is_there<A: Allocator>(rt: &impl Abort, tree: &Tree<A>, o: u16)
@@ -116,107 +110,95 @@ fn look<A: Allocator>(rt: &impl Abort, tree: &Tree<A>, step: &Step) {
     }
 }
 
-/// Takes a step in both trees, in the first again where an allocation failed: then all its objects are as before.
-fn take_in_both<A: Allocator + Copy>(
-    rt: &impl Abort,
-    alloc: A,
-    tree: &mut Tree<A>,
-    wanted: &mut Beside,
-    step: &Step,
-) -> Result<(), AllocError> {
-    if take(rt, tree, alloc, step).is_err() {
-        same_trees(rt, tree, &wanted.tree);
-        take(rt, tree, alloc, step)?;
-    }
-    take(rt, &mut wanted.tree, wanted.alloc, step)?;
-    same_trees(rt, tree, &wanted.tree);
-    Ok(())
+/// A tree, and beside it one that meets no refusal.
+#[derive(Drop)]
+struct Trees<A: Allocator> {
+    tree: Tree<A>,
+    heap: A,
+    wanted: Tree,
+    alloc: Global,
 }
 
-/// Takes steps in both trees.
-fn take_all<A: Allocator + Copy>(
-    rt: &impl Abort,
-    alloc: A,
-    tree: &mut Tree<A>,
-    wanted: &mut Beside,
-    steps: &[Step],
-) -> Result<(), AllocError> {
-    for step in steps {
-        take_in_both(rt, alloc, tree, wanted, step)?;
+impl<A: Allocator + Copy> Pair for Trees<A> {
+    type Step = Step;
+
+    type Copied = Tree<A>;
+
+    fn take(&mut self, rt: &impl Abort, step: &Step) -> Result<(), AllocError> {
+        take(rt, &mut self.tree, self.heap, step)
     }
-    Ok(())
+
+    fn follow(&mut self, rt: &impl Abort, step: &Step) -> Result<(), AllocError> {
+        take(rt, &mut self.wanted, self.alloc, step)
+    }
+
+    fn compare(&self, rt: &impl Abort) {
+        same_trees(rt, &self.tree, &self.wanted);
+    }
+
+    fn compare_refused(&self, rt: &impl Abort) {
+        same_trees(rt, &self.tree, &self.wanted);
+    }
+
+    fn copied(&self) -> Result<Tree<A>, AllocError> {
+        self.tree.duplicate(self.heap)
+    }
+
+    fn compare_copy(&self, rt: &impl Abort, copy: &Tree<A>) {
+        same_trees(rt, copy, &self.wanted);
+    }
+
+    fn look(rt: &impl Abort, copy: &Tree<A>, step: &Step) {
+        look(rt, copy, step);
+    }
 }
 
-/// Copies a tree, again where an allocation failed, takes the steps that come after that, and sees what is told of the
-/// copy.
-fn copy<A: Allocator + Copy>(
-    rt: &impl Abort,
-    alloc: A,
-    tree: &mut Tree<A>,
-    wanted: &mut Beside,
-    row: &Row,
-) -> Result<(), AllocError> {
-    let copy = match tree.duplicate(alloc) {
-        Ok(copy) => copy,
-        Err(_) => tree.duplicate(alloc)?,
-    };
-    same_trees(rt, &copy, &wanted.tree);
-    let taken = take_all(rt, alloc, tree, wanted, row.after);
-    for step in row.copied {
-        look(rt, &copy, step);
+/// A tree of the root alone, made again where an allocation failed.
+fn made<A: Allocator + Copy>(heap: A, profile: Profile) -> Result<Tree<A>, AllocError> {
+    match Tree::new(heap, profile) {
+        Ok(tree) => Ok(tree),
+        Err(_) => Tree::new(heap, profile),
     }
-    drop(copy);
-    taken
-}
-
-/// Takes the steps of a row beside a tree that meets no refusal.
-fn take_row<A: Allocator + Copy>(
-    rt: &impl Abort,
-    alloc: A,
-    wanted: &mut Beside,
-    row: &Row,
-) -> Result<(), AllocError> {
-    let mut tree = match Tree::new(alloc) {
-        Ok(tree) => tree,
-        Err(_) => Tree::new(alloc)?,
-    };
-    let mut taken = take_all(rt, alloc, &mut tree, wanted, row.before);
-    if taken.is_ok() {
-        taken = copy(rt, alloc, &mut tree, wanted, row);
-    }
-    drop(tree);
-    taken
 }
 
 /// Takes the steps of a row where the allocation of a number is refused, and returns whether it was.
-fn is_refused(rt: &impl Abort, alloc: Global, number: u64, row: &Row) -> Result<bool, AllocError> {
+fn is_refused(
+    rt: &impl Abort,
+    alloc: Global,
+    number: u64,
+    row: &Row<'_, Step>,
+    profile: Profile,
+) -> Result<bool, AllocError> {
     let heap = Refusing::new(alloc, number);
-    let mut wanted = Beside {
-        tree: Tree::new(alloc)?,
+    let wanted = made(alloc, profile)?;
+    let tree = made(&heap, profile)?;
+    let mut pair = Trees {
+        tree,
+        heap: &heap,
+        wanted,
         alloc,
     };
-    let taken = take_row(rt, &heap, &mut wanted, row);
-    drop(wanted);
+    let taken = take_row(rt, &mut pair, row);
+    drop(pair);
     taken?;
     Ok(heap.has_refused())
 }
 
-/// Takes the steps of a row where each allocation is refused in turn.
-fn refused_in_turn(rt: &impl Abort, alloc: Global, row: &Row) -> Result<(), AllocError> {
-    for number in 1..100 {
-        if !is_refused(rt, alloc, number, row)? {
-            sees(rt, number > 6, "how many allocations");
-            return Ok(());
-        }
+#[test]
+fn branches_are_taken_out(rt: HostRuntime) -> Result<(), Fail> {
+    for row in &[WORKED, BRANCHED] {
+        refused_in_turn(&rt, 6, |number| {
+            is_refused(&rt, rt.alloc(), number, row, Profile::One)
+        })?;
     }
-    sees(rt, false, "a run without a refusal");
+    inferiors_reach();
     Ok(())
 }
 
 #[test]
-fn branches_are_taken_out(rt: HostRuntime) -> Result<(), Fail> {
-    refused_in_turn(&rt, rt.alloc(), &WORKED)?;
-    refused_in_turn(&rt, rt.alloc(), &BRANCHED)?;
-    inferiors_reach();
+fn numbers_are_used_again(rt: HostRuntime) -> Result<(), Fail> {
+    refused_in_turn(&rt, 6, |number| {
+        is_refused(&rt, rt.alloc(), number, &REUSED, Profile::Two)
+    })?;
     Ok(())
 }

@@ -2,7 +2,7 @@
 use crate::alike::are_alike;
 use crate::refusals::opening;
 use crate::seen::sees;
-use crate::standard::{CALLS, begun, give};
+use crate::standard::{CALLS_WITH_ACCESSES, begun, give};
 use crate::starts::counts;
 use mls_builder::{Start, StartBuilder, StartFault};
 use mls_state::State;
@@ -57,6 +57,11 @@ fn starts_are_alike<A: Allocator + Copy>(
         wanted.object_count(),
         wanted.cell_count(),
     );
+    sees(
+        rt,
+        start.access_count() == wanted.access_count(),
+        "how many accesses",
+    );
     let state = wanted.opening(alloc)?;
     let opened = opens_with(rt, heap, start, &state);
     drop(state);
@@ -84,15 +89,15 @@ fn built_alike<A: Allocator + Copy>(
     Ok(())
 }
 
-/// Makes the calls of the standard start up to one that is refused, and asserts that the builder then builds what one
-/// builds with ample memory that was given the calls before. Returns how many calls were made.
+/// Makes the calls of the standard start with accesses up to one that is refused, and asserts that the builder then
+/// builds what one builds with ample memory that was given the calls before. Returns how many calls were made.
 fn builds_what_was_given<A: Allocator + Copy>(
     rt: &impl Abort,
     heap: A,
     alloc: Global,
 ) -> Result<usize, AllocError> {
     let mut builder = begun(heap);
-    let count = give_until_refused(&mut builder, CALLS);
+    let count = give_until_refused(&mut builder, CALLS_WITH_ACCESSES);
     let built = outcome(builder);
     let mut ample = begun(alloc);
     sees(
@@ -112,9 +117,9 @@ fn builds_what_was_given<A: Allocator + Copy>(
 fn a_builder_keeps_what_it_was_given(rt: HostRuntime) -> Result<(), Fail> {
     for number in 1..100 {
         let heap = Refusing::new(rt.alloc(), number);
-        if builds_what_was_given(&rt, &heap, rt.alloc())? == CALLS {
-            // the first subject, the first object, the first cell, and where these lists grow
-            sees(&rt, number > 4, "how many refusals");
+        if builds_what_was_given(&rt, &heap, rt.alloc())? == CALLS_WITH_ACCESSES {
+            // the first subject, object, cell and access, and where these lists grow
+            sees(&rt, number > 5, "how many refusals");
             return Ok(());
         }
     }

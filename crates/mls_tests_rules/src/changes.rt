@@ -6,6 +6,7 @@ use crate::steps::{Step, look_all, take_all};
 use mls_labels::Bounds;
 use mls_state::{ObjectLabels, State, Subject, star_between};
 use mls_tables::{Mode, SubjectId};
+use mls_tree::Profile;
 use std::alloc::{AllocError, Global};
 use std::process::Abort;
 use std::test::Fail;
@@ -22,7 +23,14 @@ fn first(alloc: Global) -> Result<State<Global>, AllocError> {
         security: security(0, 0),
         integrity: integrity(1),
     };
-    State::first(alloc, &[ann], root, Bounds::new(4, 2), Bounds::new(2, 0))
+    State::first(
+        alloc,
+        &[ann],
+        root,
+        Bounds::new(4, 2),
+        Bounds::new(2, 0),
+        Profile::One,
+    )
 }
 
 /// What a first state has.
@@ -40,7 +48,7 @@ fn permits_what_it_is_told(rt: &impl Abort, state: &mut State<Global>) {
     look_all(rt, state, FIRST);
     knows(rt, state, ANN, ROOT);
     sees(rt, state.object_label(ROOT) == security(0, 0), "a label");
-    state.permit_all(&[(ANN, ROOT, Mode::Read), (ANN, ROOT, Mode::Append)]);
+    state.give_all(&[(ANN, ROOT, Mode::Read), (ANN, ROOT, Mode::Append)]);
     look_all(
         rt,
         state,

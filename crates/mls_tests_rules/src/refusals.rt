@@ -2,7 +2,7 @@
 //! same call made again returns what it always does.
 use crate::alike::are_alike;
 use crate::seen::{knows, sees};
-use crate::standard::{BOB, PLANS, ROOT, SEC, integrity, opened, security, started};
+use crate::standard::{BOB, PLANS, ROOT, SEC, integrity, opened, security, started_with_accesses};
 use crate::starts::counts;
 use mls_builder::Start;
 use mls_requests::{Action, Reply, Request};
@@ -22,15 +22,16 @@ pub fn opening<A: Allocator + Copy>(heap: A, start: &Start<A>) -> Result<State<A
     }
 }
 
-/// Asserts that the standard start, of which each call is made again where an allocation failed, opens like one that
-/// has ample memory.
+/// Asserts that the standard start with accesses, of which each call is made again where an allocation failed, opens
+/// like one that has ample memory.
 fn opens_alike<A: Allocator + Copy, B: Allocator>(
     rt: &impl Abort,
     heap: A,
     ample: &State<B>,
 ) -> Result<(), AllocError> {
-    let start = started(heap)?;
+    let start = started_with_accesses(heap)?;
     counts(rt, &start, 4, 4, 12);
+    sees(rt, start.access_count() == 2, "how many accesses");
     let opened = opening(heap, &start);
     drop(start);
     let state = opened?;
@@ -60,7 +61,7 @@ fn starts_refused_in_turn(
 
 #[test]
 fn each_allocation_of_a_start_is_refused_once(rt: HostRuntime) -> Result<(), Fail> {
-    let ample = opened(rt.alloc())?;
+    let ample = started_with_accesses(rt.alloc())?.opening(rt.alloc())?;
     let refused = starts_refused_in_turn(&rt, rt.alloc(), &ample);
     drop(ample);
     refused?;

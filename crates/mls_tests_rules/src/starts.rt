@@ -1,6 +1,8 @@
 //! Starts that are built by calls: what they count, what they open with, and why they are refused.
 use crate::seen::{knows, sees};
-use crate::standard::{begun, built, give_rows, integrity, security, started};
+use crate::standard::{
+    ANN, PLANS, SEC, begun, built, give_rows, integrity, security, started, started_with_accesses,
+};
 use crate::steps::{Step, look_all};
 use mls_builder::{Start, StartBuilder};
 use mls_state::{State, is_secure};
@@ -106,6 +108,33 @@ fn a_triple_counts_once(rt: HostRuntime) -> Result<(), Fail> {
     let start = given_twice(rt.alloc())?;
     counts(&rt, &start, 4, 4, 8);
     let opened = permits_two_cells(&rt, rt.alloc(), &start);
+    drop(start);
+    opened?;
+    Ok(())
+}
+
+/// Asserts which of some triples the opening of the standard start with accesses holds.
+fn opens_with_accesses(
+    rt: &impl Abort,
+    alloc: Global,
+    start: &Start<Global>,
+) -> Result<(), AllocError> {
+    let state = start.opening(alloc)?;
+    sees(rt, state.has_access(ANN, PLANS, Mode::Read), "ann reads");
+    sees(rt, state.has_access(SEC, PLANS, Mode::Write), "sec writes");
+    sees(rt, !state.has_access(ANN, PLANS, Mode::Write), "no more");
+    sees(rt, !state.has_access(SEC, PLANS, Mode::Read), "no more");
+    sees(rt, is_secure(&state), "a secure state");
+    drop(state);
+    Ok(())
+}
+
+#[test]
+fn an_access_counts_once(rt: HostRuntime) -> Result<(), Fail> {
+    let start = started_with_accesses(rt.alloc())?;
+    counts(&rt, &start, 4, 4, 12);
+    sees(&rt, start.access_count() == 2, "how many accesses");
+    let opened = opens_with_accesses(&rt, rt.alloc(), &start);
     drop(start);
     opened?;
     Ok(())

@@ -234,11 +234,11 @@ fn take<A: Allocator>(rt: &impl Abort, state: &mut State<A>, step: &Step) {
         }
         Step::Permit(s, o, x) => {
             knows(rt, state, SubjectId(*s), ObjectId(*o));
-            state.permit(SubjectId(*s), ObjectId(*o), *x);
+            state.give(SubjectId(*s), ObjectId(*o), *x);
         }
         Step::Forbid(s, o, x) => {
             knows(rt, state, SubjectId(*s), ObjectId(*o));
-            state.forbid(SubjectId(*s), ObjectId(*o), *x);
+            state.rescind(SubjectId(*s), ObjectId(*o), *x);
         }
         other => take_other(rt, state, other),
     }

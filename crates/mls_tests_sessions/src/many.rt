@@ -85,7 +85,8 @@ fn close_after(rt: &impl Abort, office: Office, first: Session, mut rest: Vec<Se
     close_whole(rt, office, rest);
 }
 
-/// With session 0 left out the office comes back with the others, in their order; with all of them it leaves an entry of each.
+/// With session 0 left out the office comes back with the others, in their order; with all of them it leaves an entry
+/// of each.
 fn close_all(rt: &impl Abort, office: Office, mut sessions: Vec<Session>)
     requires { Ascending office 0 sessions.items }
 {

@@ -1,5 +1,6 @@
 //! Scripts that are run over a start file, each in a thread of its own.
-ghost use Rattle.std.specs.Prelude.{◌≡◌, ◌<◌, ◌≤◌, ◌++◌, [], length, map, vec_len, string_bytes, option_map, is_some, All, IfOk, IfErr, IfSome, OnOk};
+ghost use Rattle.std.specs.Prelude.{◌≡◌, ◌<◌, ◌≤◌, ◌++◌, [], length, map, vec_len, string_bytes, option_map, is_some};
+ghost use Rattle.std.specs.Prelude.{All, IfOk, IfErr, IfSome, OnOk};
 ghost use Rattle.mls_feeds.specs.declared.feed.Stage.TheVariants as stage;
 ghost use Rattle.mls_monitor.specs.Journal.{IsLegal};
 ghost use Rattle.mls_feeds.specs.Feeds.{AllAt};
@@ -28,8 +29,11 @@ fn finish(
     journal: bool,
 ) -> Result<RunText, CommandFault>
     requires { vec_len left.feeds ≤ MAX_SCRIPTS }
-    ensures output { IfOk result (λ run. string_bytes run.output ≡ fed_texts 0 left.entry.feeds.items ++ ending (length left.entry.monitor.entries)) }
-    ensures journal { IfOk result (λ run. IfSome run.journal (λ text. string_bytes text ≡ journal_text left.entry.monitor.entries)) }
+    ensures output { IfOk result
+        (λ run. string_bytes run.output ≡ fed_texts 0 left.entry.feeds.items
+        ++ ending (length left.entry.monitor.entries)) }
+    ensures journal { IfOk result
+        (λ run. IfSome run.journal (λ text. string_bytes text ≡ journal_text left.entry.monitor.entries)) }
     ensures asked { IfOk result (λ run. is_some run.journal ≡ journal) }
     ensures whole { OnOk result (NoneFailed left.entry.feeds.items) }
     ensures legal { IsLegal left.entry.monitor.start left.entry.monitor.entries }
@@ -65,7 +69,9 @@ fn run_feeds<R: Threads + Wait + Sync>(
     requires ready { AllAt (λ f. f.stage) stage.Ready feeds.items }
     requires count { vec_len feeds ≤ MAX_SCRIPTS }
     requires fresh { monitor.entries ≡ [] }
-    ensures ok { IfOk result (λ run. LeavesFeeds monitor.start feeds.entry.items journal (string_bytes run.output) (option_map (λ text. string_bytes text) run.journal)) }
+    ensures ok { IfOk result
+        (λ run. LeavesFeeds monitor.start feeds.entry.items journal (string_bytes run.output)
+        (option_map (λ text. string_bytes text) run.journal)) }
     ensures fault { IfErr result IsRunFault }
 {
     match run_sessions(rt, alloc, monitor, feeds) {
@@ -89,7 +95,9 @@ fn run_over<R: Threads + Wait + Sync>(
 ) -> Result<RunText, CommandFault>
     requires count { (0 < length scripts.now) × (length scripts.now ≤ MAX_SCRIPTS) }
     requires fresh { monitor.entries ≡ [] }
-    ensures ok { IfOk result (λ run. LeavesInThreads names.now monitor.start (map (λ script. script.now) scripts.now) journal (string_bytes run.output) (option_map (λ text. string_bytes text) run.journal)) }
+    ensures ok { IfOk result
+        (λ run. LeavesInThreads names.now monitor.start (map (λ script. script.now) scripts.now) journal
+        (string_bytes run.output) (option_map (λ text. string_bytes text) run.journal)) }
     ensures fault { IfErr result IsRunFault }
 {
     let Ok(feeds) = make_feeds(alloc, names, scripts) else {
@@ -109,7 +117,9 @@ fn run_start<R: Threads + Wait + Sync>(
     journal: bool,
 ) -> Result<RunText, CommandFault>
     requires { (0 < length scripts.now) × (length scripts.now ≤ MAX_SCRIPTS) }
-    ensures ok { IfOk result (λ run. LeavesInThreads names.now start (map (λ script. script.now) scripts.now) journal (string_bytes run.output) (option_map (λ text. string_bytes text) run.journal)) }
+    ensures ok { IfOk result
+        (λ run. LeavesInThreads names.now start (map (λ script. script.now) scripts.now) journal
+        (string_bytes run.output) (option_map (λ text. string_bytes text) run.journal)) }
     ensures fault { IfErr result IsRunFault }
 {
     let Ok(monitor) = Monitor::open(alloc, start) else {
@@ -118,13 +128,14 @@ fn run_start<R: Threads + Wait + Sync>(
     run_over(rt, alloc, names, monitor, scripts, journal)
 }
 
-/// Runs scripts over a start file, each in a thread of its own, the first as session 0. Each begins with no variable bound, and all
-/// share one monitor. What is printed is in the order of the scripts, whichever thread comes first. The journal's text is made where it
-/// is asked for. It waits for the threads.
+/// Runs scripts over a start file, each in a thread of its own, the first as session 0. Each begins with no variable
+/// bound, and all share one monitor. What is printed is in the order of the scripts, whichever thread comes first. The
+/// journal's text is made where it is asked for. It waits for the threads.
 ///
 /// # Errors
-/// `Load` where the start is refused. `Memory` where an allocation failed for the start, the office or a request, or, where all threads were
-/// started, for what is printed. `Thread` where a thread couldn't be started, and no request was refused memory.
+/// `Load` where the start is refused. `Memory` where an allocation failed for the start, the office or a request, or,
+/// where all threads were started, for what is printed. `Thread` where a thread couldn't be started, and no request was
+/// refused memory.
 pub fn run_threads<R: Threads + Wait + Sync>(
     rt: &R,
     alloc: Global,
@@ -134,7 +145,9 @@ pub fn run_threads<R: Threads + Wait + Sync>(
 ) -> Result<RunText, CommandFault>
     requires count { (0 < length scripts.now) × (length scripts.now ≤ MAX_SCRIPTS) }
     requires limit { All (λ script. length script.now ≤ SCRIPT_LIMIT) scripts.now }
-    ensures ok { IfOk result (λ run. RunsInThreads start.now (map (λ script. script.now) scripts.now) journal (string_bytes run.output) (option_map (λ text. string_bytes text) run.journal)) }
+    ensures ok { IfOk result
+        (λ run. RunsInThreads start.now (map (λ script. script.now) scripts.now) journal (string_bytes run.output)
+        (option_map (λ text. string_bytes text) run.journal)) }
     ensures fault { IfErr result (λ fault. RefusesRun start.now fault) }
 {
     let (names, start) = read_start(alloc, start)?.into_parts();

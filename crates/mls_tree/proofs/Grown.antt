@@ -1,6 +1,6 @@
 -- A tree with one object more.
-use Rattle.std.proofs.Common.{◌≡◌, ℕ, ◌+◌, ◌<◌, ◌⊎◌, inl, inr, Bool, true, false, nat_eq, ◌||◌, IsTrue, Some, None, is_some, refl, sym, ap, subst, ◌∙◌, arith, lit≤}
-use Rattle.std.proofs.lemmas.Bool.{cases_eq}
+use Rattle.std.proofs.Common.{◌≡◌, ℕ, ◌<◌, ◌⊎◌, inl, inr, Bool, true, false, nat_eq, ◌||◌, IsTrue, Some, None, is_some, refl, sym, ap, subst, ◌∙◌, arith}
+use Rattle.std.proofs.lemmas.Bool.{cases_eq, ne_eqb}
 use Rattle.std.proofs.lemmas.Bool.Decides.{nat_tests}
 use Rattle.std.proofs.lemmas.Option.{same_Some}
 use Rattle.std.specs.Ordering.{nat_cmp}
@@ -19,42 +19,41 @@ module _ (parent : FinMap nat_cmp ℕ) (n p : ℕ) where
     from (inl same) = let both : map.get parent n ≡ Some r = rw same at step in cc
     from (inr other) = let test : nat_eq o n ≡ false = grind (arith, nat_tests) in elsewhere parent n p o test ∙ step
 
-no_parent : (m : FinMap nat_cmp ℕ) (n : ℕ) → ((p : ℕ) → map.get m n ≡ Some p → ⊥) → map.get m n ≡ None
+pub no_parent : (m : FinMap nat_cmp ℕ) (n : ℕ) → ((p : ℕ) → map.get m n ≡ Some p → ⊥) → map.get m n ≡ None
 no_parent m n never = elim (map.get m n) as (λ e. map.get m n ≡ e → e ≡ None) [ None ↦ λ is. refl | Some p ↦ λ is. absurd (never p is) ] refl
 
-module _ (parent : FinMap nat_cmp ℕ) (active : ℕ → Bool) (next p : ℕ) (tree : IsTree parent active next) where
-  -- the next number has no parent yet
-  next_is_free : map.get parent next ≡ None
-  next_is_free = no_parent parent next (λ r is. let below : next < next = tree.below_next next (tree.children_active next r is).0 in absurd (omega arith))
+module _ (parent : FinMap nat_cmp ℕ) (active : ℕ → Bool) (n p : ℕ) (tree : IsTree parent active) (free : active n ≡ false) where
+  -- a number that isn't active has no parent
+  is_free : map.get parent n ≡ None
+  is_free = no_parent parent n (λ r is. let no : true ≡ false = sym (tree.children_active n r is).0 ∙ free in cc)
 
-  old_number : (o : ℕ) → IsTrue (active o) → nat_eq o next ≡ false
-  old_number o is = let below : o < next = tree.below_next o is in grind (arith, nat_tests)
+  old_number : (o : ℕ) → IsTrue (active o) → nat_eq o n ≡ false
+  old_number o is = ne_eqb o n (λ same. let no : true ≡ false = sym is ∙ ap active same ∙ free in cc)
 
-  -- A tree stays one with the next number below an active object.
-  pub IsTree-insert : (grown : ℕ → Bool) → ((o : ℕ) → grown o ≡ (nat_eq o next || active o)) → IsTrue (active p) → next < MAX_OBJECTS → IsTree (map.insert parent next p) grown (next + 1)
+  -- A tree stays one with a number that isn't active below an active object.
+  pub IsTree-insert : (grown : ℕ → Bool) → ((o : ℕ) → grown o ≡ (nat_eq o n || active o)) → IsTrue (active p) → n < MAX_OBJECTS → IsTree (map.insert parent n p) grown
   IsTree-insert grown grows below room = record {
     root_active = still 0 tree.root_active;
-    root_has_no_parent = elsewhere parent next p 0 (old_number 0 tree.root_active) ∙ tree.root_has_no_parent;
-    reaches_root = λ o is. by_number next o (λ q. IsTrue (grown q) → Reaches (map.insert parent next p) q 0)
-        (λ _. up (at_new parent next p) (Reaches-insert parent next p next_is_free (tree.reaches_root p below)))
-        (λ other now. Reaches-insert parent next p next_is_free (tree.reaches_root o (before o other now))) is;
-    children_active = λ o q step. by_number next o (λ c. map.get (map.insert parent next p) c ≡ Some q → IsTrue (grown c) × IsTrue (grown q))
-        (λ at. (new, subst (λ r. IsTrue (grown r)) (same_Some p q (sym (at_new parent next p) ∙ at)) (still p below)))
-        (λ other at. let both = tree.children_active o q (sym (elsewhere parent next p o other) ∙ at) in (still o both.0, still q both.1))
+    root_has_no_parent = elsewhere parent n p 0 (old_number 0 tree.root_active) ∙ tree.root_has_no_parent;
+    reaches_root = λ o is. by_number n o (λ q. IsTrue (grown q) → Reaches (map.insert parent n p) q 0)
+        (λ _. up (at_new parent n p) (Reaches-insert parent n p is_free (tree.reaches_root p below)))
+        (λ other now. Reaches-insert parent n p is_free (tree.reaches_root o (before o other now))) is;
+    children_active = λ o q step. by_number n o (λ c. map.get (map.insert parent n p) c ≡ Some q → IsTrue (grown c) × IsTrue (grown q))
+        (λ at. (new, subst (λ r. IsTrue (grown r)) (same_Some p q (sym (at_new parent n p) ∙ at)) (still p below)))
+        (λ other at. let both = tree.children_active o q (sym (elsewhere parent n p o other) ∙ at) in (still o both.0, still q both.1))
         step;
-    below_next = λ o is. by_number next o (λ q. IsTrue (grown q) → q < next + 1)
-        (λ _. omega arith)
-        (λ other now. let low : o < next = tree.below_next o (before o other now) in omega arith) is;
-    few = omega arith;
+    below = λ o is. by_number n o (λ q. IsTrue (grown q) → q < MAX_OBJECTS)
+        (λ _. room)
+        (λ other now. tree.below o (before o other now)) is;
   } where
     still : (o : ℕ) → IsTrue (active o) → IsTrue (grown o)
-    still o is = let other : nat_eq o next ≡ false = old_number o is in grows o ∙ (λ i. other i || is i)
+    still o is = let other : nat_eq o n ≡ false = old_number o is in grows o ∙ (λ i. other i || is i)
 
-    before : (o : ℕ) → nat_eq o next ≡ false → IsTrue (grown o) → IsTrue (active o)
+    before : (o : ℕ) → nat_eq o n ≡ false → IsTrue (grown o) → IsTrue (active o)
     before o other now = sym (grows o ∙ ap (λ b. b || active o) other) ∙ now
 
-    new : IsTrue (grown next)
-    new = let same : nat_eq next next ≡ true = grind (arith, nat_tests) in grows next ∙ ap (λ b. b || active next) same
+    new : IsTrue (grown n)
+    new = let same : nat_eq n n ≡ true = grind (arith, nat_tests) in grows n ∙ ap (λ b. b || active n) same
 
 swapped : (a b c : Bool) → (a || (b || c)) ≡ (b || (a || c))
 swapped true true c = refl
@@ -65,10 +64,10 @@ swapped false b c = refl
 pub is_active-insert : (parent : FinMap nat_cmp ℕ) (n p o : ℕ) → is_active (map.insert parent n p) o ≡ (nat_eq o n || is_active parent o)
 is_active-insert parent n p o = ap (λ b. nat_eq o 0 || b) (has-inserted parent n p o) ∙ swapped (nat_eq o 0) (nat_eq o n) (map.contains_key parent o)
 
-abbrev nobody : FinMap nat_cmp ℕ
+abbrev pub nobody : FinMap nat_cmp ℕ
 nobody = map.empty
 
-root_alone : (o : ℕ) → is_active nobody o ≡ true → o ≡ 0
+pub root_alone : (o : ℕ) → is_active nobody o ≡ true → o ≡ 0
 root_alone o is = from (cases_eq o 0) where
   from : (o ≡ 0) ⊎ (o ≡ 0 → ⊥) → o ≡ 0
   from (inl same) = same
@@ -78,12 +77,11 @@ root_alone o is = from (cases_eq o 0) where
       let gone : is_active nobody o ≡ false = (λ i. test i || is_some {T = ℕ} (none i)) in cc
 
 -- the tree of the root alone
-pub IsTree-root : IsTree map.empty (is_active map.empty) 1
+pub IsTree-root : IsTree map.empty (is_active map.empty)
 IsTree-root = record {
   root_active = refl;
   root_has_no_parent = map.get-empty nat_cmp 0;
   reaches_root = λ o is. subst (λ q. Reaches nobody q 0) (sym (root_alone o is)) here;
   children_active = λ o p step. let none : map.get nobody o ≡ None = map.get-empty nat_cmp o in cc;
-  below_next = λ o is. let at : o ≡ 0 = root_alone o is in omega arith;
-  few = lit≤ tt;
+  below = λ o is. let at : o ≡ 0 = root_alone o is in omega arith;
 }

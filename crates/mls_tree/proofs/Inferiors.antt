@@ -10,7 +10,7 @@ use Rattle.mls_tree.specs.Tree.{Reaches, here, up, IsTree, is_active, reaches_wi
 use Rattle.mls_facts.proofs.Entries.{get-kept, has-kept, at_kept, was_there}
 use Rattle.mls_tree.proofs.Ways.{above, above-zero, above-from_Reaches, first_step, parent_cases, Reaches-from_within, within-from_Reaches}
 
-module _ (parent : FinMap nat_cmp ℕ) (active : ℕ → Bool) (next : ℕ) (tree : IsTree parent active next) where
+module _ (parent : FinMap nat_cmp ℕ) (active : ℕ → Bool) (tree : IsTree parent active) where
   -- what is active in a tree is the root, or has a parent
   pub is_active-tree : (o : ℕ) → active o ≡ is_active parent o
   is_active-tree o = from (cases_Bool (active o)) (parent_cases (map.get parent o)) where
@@ -35,7 +35,7 @@ module _ (parent : FinMap nat_cmp ℕ) (active : ℕ → Bool) (next : ℕ) (tre
 
   pub inferior_from_Reaches : (o a : ℕ) → IsTrue (active o) → Reaches parent o a → is_inferior parent o a ≡ true
   unfolding is_inferior
-  inferior_from_Reaches o a is way = and_from (is_active parent o) (reaches_within parent MAX_OBJECTS o a) (sym (is_active-tree o) ∙ is) (within-from_Reaches parent active next tree o a is way)
+  inferior_from_Reaches o a is way = and_from (is_active parent o) (reaches_within parent MAX_OBJECTS o a) (sym (is_active-tree o) ∙ is) (within-from_Reaches parent active tree o a is way)
 
   pub is_inferior-Reaches : (o a : ℕ) → IsTrue (is_inferior parent o a) ↔ (IsTrue (active o) × Reaches parent o a)
   is_inferior-Reaches o a = (Reaches-from_inferior o a, λ h. inferior_from_Reaches o a h.0 h.1)
@@ -48,8 +48,11 @@ module _ (parent : FinMap nat_cmp ℕ) (active : ℕ → Bool) (next : ℕ) (tre
   pub inferior_itself : (o : ℕ) → IsTrue (active o) → is_inferior parent o o ≡ true
   inferior_itself o is = inferior_from_Reaches o o is here
 
-  pub inferior_below_next : (o a : ℕ) → is_inferior parent o a ≡ true → o < next
-  inferior_below_next o a is = tree.below_next o (Reaches-from_inferior o a is).0
+  pub inferior_active : (o a : ℕ) → is_inferior parent o a ≡ true → IsTrue (active o)
+  inferior_active o a is = (Reaches-from_inferior o a is).0
+
+  pub inferior_small : (o a : ℕ) → is_inferior parent o a ≡ true → o < MAX_OBJECTS
+  inferior_small o a is = tree.below o (inferior_active o a is)
 
   -- the root is no inferior of another
   root_stays : (a : ℕ) → (a ≡ 0 → ⊥) → is_inferior parent 0 a ≡ false
@@ -79,7 +82,7 @@ module _ (parent : FinMap nat_cmp ℕ) (active : ℕ → Bool) (next : ℕ) (tre
         up (at_kept parent stays o kept ∙ step) (Reaches-kept (stays_above o p step kept) rest)
 
     -- A tree stays one without the inferiors of an object other than the root.
-    pub IsTree-retain : (left : ℕ → Bool) → ((o : ℕ) → left o ≡ (active o && stays o)) → IsTree (map.retain_keys parent stays) left next
+    pub IsTree-retain : (left : ℕ → Bool) → ((o : ℕ) → left o ≡ (active o && stays o)) → IsTree (map.retain_keys parent stays) left
     IsTree-retain left is = record {
       root_active = is 0 ∙ and_from (active 0) (stays 0) tree.root_active (ap not (root_stays a other));
       root_has_no_parent = get-kept parent stays 0 ∙ none_either (stays 0) (map.get parent 0) tree.root_has_no_parent;
@@ -88,8 +91,7 @@ module _ (parent : FinMap nat_cmp ℕ) (active : ℕ → Bool) (next : ℕ) (tre
           let step = was_there parent stays o p h in
           let both = tree.children_active o p step.1 in
           (is o ∙ and_from (active o) (stays o) both.0 step.0, is p ∙ and_from (active p) (stays p) both.1 (stays_above o p step.1 step.0));
-      below_next = λ o h. tree.below_next o (was o h).0;
-      few = tree.few;
+      below = λ o h. tree.below o (was o h).0;
     } where
       was : (o : ℕ) → IsTrue (left o) → (active o ≡ true) × (stays o ≡ true)
       was o h = and_parts (active o) (stays o) (sym (is o) ∙ h)
@@ -99,11 +101,11 @@ module _ (parent : FinMap nat_cmp ℕ) (active : ℕ → Bool) (next : ℕ) (tre
       none_either false e h = refl
 
 -- what is active without the inferiors of an object other than the root
-pub is_active-retain : (parent : FinMap nat_cmp ℕ) (next a : ℕ) → IsTree parent (is_active parent) next → (a ≡ 0 → ⊥) → (o : ℕ) → is_active (map.retain_keys parent (λ x. not (is_inferior parent x a))) o ≡ (is_active parent o && not (is_inferior parent o a))
-is_active-retain parent next a tree other o =
+pub is_active-retain : (parent : FinMap nat_cmp ℕ) (a : ℕ) → IsTree parent (is_active parent) → (a ≡ 0 → ⊥) → (o : ℕ) → is_active (map.retain_keys parent (λ x. not (is_inferior parent x a))) o ≡ (is_active parent o && not (is_inferior parent o a))
+is_active-retain parent a tree other o =
     ap (λ b. eqb o 0 || b) (has-kept parent (λ x. not (is_inferior parent x a)) o)
     ∙ grouped (eqb o 0) (map.contains_key parent o) (not (is_inferior parent o a)) (λ root.
-    ap not (ap (λ q. is_inferior parent q a) (eqb-true o 0 root) ∙ root_stays parent (is_active parent) next tree a other)) where
+    ap not (ap (λ q. is_inferior parent q a) (eqb-true o 0 root) ∙ root_stays parent (is_active parent) tree a other)) where
       grouped : (r c s : Bool) → (r ≡ true → s ≡ true) → (r || (c && s)) ≡ ((r || c) && s)
       grouped true c s stays = sym (stays refl)
       grouped false c s stays = refl

@@ -1,88 +1,144 @@
 -- The fields of a tree: that each operation keeps them in agreement.
-use Rattle.std.proofs.Common.{◌≡◌, ℕ, ◌+◌, ◌<◌, ◌≤◌, ◌⊎◌, inl, inr, Bool, true, false, cond, not, ◌&&◌, ◌||◌, eqb, IsTrue, List, [], ◌∷◌, ◌++◌, length, take, filter, get_or, set, Option, Some, None, IfSome, IfNone, refl, sym, ap, subst, ◌∙◌, arith, length-append, length-set}
+use Rattle.std.proofs.Common.{◌≡◌, ℕ, ◌+◌, ◌<◌, ◌≤◌, ◌⊎◌, inl, inr, Bool, true, false, cond, not, ◌&&◌, ◌||◌, eqb, nat_eq, IsTrue, List, [], ◌∷◌, ◌++◌, length, take, filter, get_or, set, Option, Some, None, is_some, IfSome, IfNone, refl, sym, ap, subst, ◌∙◌, arith, length-append, length-set}
 use Rattle.std.proofs.Math.Bool.{and-true, and-false}
-use Rattle.std.proofs.lemmas.Bool.{cases_Bool, cases_eq, eqb-true, eq-eqb, ne_eqb}
-use Rattle.std.proofs.lemmas.List.{append-nil, get_or_default}
+use Rattle.std.proofs.lemmas.Bool.{cases_Bool, cases_eq, eqb-true, eq-eqb, ne_eqb, and_parts}
+use Rattle.std.proofs.lemmas.Bool.Decides.{nat_tests}
+use Rattle.std.proofs.lemmas.List.{get_or_default}
 use Rattle.std.proofs.lemmas.List.Elements.{filter_agree}
-use Rattle.std.proofs.lemmas.List.Folds.{list_any_more}
-use Rattle.std.specs.Cmp.{nat_cmp_total}
+use Rattle.std.proofs.lemmas.List.Folds.{list_any_more, list_any_at}
+use Rattle.std.specs.Cmp.{nat_cmp_total, unsigned_tied}
 use Rattle.std.specs.List.{range_with_len, list_any}
 use Rattle.std.specs.List.Sorted.{IsStrictlyIncreasing}
 use Rattle.std.specs.Ordering.{nat_cmp}
 use Rattle.std.specs.FinMap as map
 use Rattle.std.specs.FinMap.{FinMap, nat_cmp-IsAntisymmetric}
+use Rattle.std.specs.FinSet as finset
+use Rattle.std.specs.FinSet.{FinSet}
 use Rattle.mls_tables.specs.declared.limits.TheConstants.{MAX_OBJECTS}
+use Rattle.mls_tables.specs.Rows.{listed, Entered, IsRows}
 use Rattle.mls_facts.specs.Numbered.{holds_of}
-use Rattle.mls_facts.proofs.Entries.{get-kept}
+use Rattle.mls_facts.specs.Least.{least_failing}
+use Rattle.mls_facts.proofs.Entries.{get-kept, get-inserted}
 use Rattle.mls_facts.proofs.Filters.{filter-twice, filter_all}
-use Rattle.mls_facts.proofs.Places.{get_or-set}
+use Rattle.mls_facts.specs.Places.{placed}
+use Rattle.mls_facts.proofs.Places.{get_or-set, length-placed}
 use Rattle.mls_facts.proofs.Numbered.{numbered-none, numbered-push, get-numbered-option}
 use Rattle.mls_facts.proofs.Ranges.{filter_range_none}
-use Rattle.mls_tree.specs.Tree.{IsTree, is_active, is_child, is_inferior, children, inferiors}
-use Rattle.mls_tree.specs.Kept.{parents_of, hierarchy_of, IsKept, stays_listed}
-use Rattle.mls_tree.proofs.Grown.{IsTree-root, IsTree-insert, is_active-insert}
-use Rattle.mls_tree.proofs.Inferiors.{IsTree-retain, is_active-retain, inferior_below}
-use Rattle.mls_tree.proofs.Listed.{children-insert, list_any-inferiors, parent_from_child, IsStrictlyIncreasing-children}
-use Rattle.mls_tree.proofs.Laws.{inferiors_below}
+use Rattle.mls_tree.specs.Tree.{IsTree, HasNext, is_active, is_child, is_inferior, children, inferiors, next_number}
+use Rattle.mls_tree.specs.declared.profile.Profile.{Profile}
+use Rattle.mls_tree.specs.declared.profile.Profile.TheVariants.{One, Two}
+use Rattle.mls_tree.specs.Kept.{parents_of, IsKept, stays_listed}
+use Rattle.mls_tree.proofs.Grown.{nobody, root_alone, no_parent, IsTree-root, IsTree-insert, is_active-insert}
+use Rattle.mls_tree.proofs.Inferiors.{IsTree-retain, is_active-retain, inferior_below, inferior_active}
+use Rattle.mls_tree.proofs.Listed.{child_insert, list_any-inferiors, parent_from_child, IsStrictlyIncreasing-children}
+use Rattle.mls_tree.proofs.Next.{HasNext-above, next-root}
 
 -- the list of the root alone
 pub parents_of-root : parents_of (None ∷ []) ≡ map.empty
 parents_of-root = numbered-none (λ parent. parent) None refl
 
-no_child : (o : ℕ) → children (hierarchy_of (None ∷ [])) o ≡ []
-unfolding children
+no_child : (o : ℕ) → children (parents_of (None ∷ [])) o ≡ []
+unfolding listed
 no_child o =
-    filter_range_none (λ c. is_child (parents_of (None ∷ [])) c o) 0 1 (λ c low high. ap (holds_of (λ p. eqb p o)) (ap (λ m. map.get m c) parents_of-root ∙ map.get-empty nat_cmp c))
+    filter_range_none (λ c. is_child (parents_of (None ∷ [])) c o) 0 MAX_OBJECTS (λ c low high. ap (holds_of (λ p. eqb p o)) (ap (λ m. map.get m c) parents_of-root ∙ map.get-empty nat_cmp c))
 
 -- the fields of the tree of the root alone
-pub IsKept-root : (lists : List (List ℕ)) → 0 < length lists → ((o : ℕ) → get_or lists o [] ≡ []) → IsKept (None ∷ []) lists
-IsKept-root lists some empty = record {
-  tree = subst (λ m. IsTree m (is_active m) 1) (sym parents_of-root) IsTree-root;
+pub IsKept-root : (lists : List (List ℕ)) (numbers : FinSet nat_cmp) → 0 < length lists → ((o : ℕ) → get_or lists o [] ≡ []) → numbers ≡ finset.insert finset.empty 0 → IsKept (None ∷ []) lists numbers
+IsKept-root lists numbers some empty are = record {
+  tree = subst (λ m. IsTree m (is_active m)) (sym parents_of-root) IsTree-root;
+  few = omega arith;
+  below = λ o is. let at : o ≡ 0 = root_alone o (ap (λ m. is_active m o) (sym parents_of-root) ∙ is) in omega arith;
   as_many = omega arith;
-  listed = λ o. empty o ∙ sym (no_child o);
-}
+  rows = λ o. empty o ∙ sym (no_child o);
+  active = λ o. ap (λ s. finset.contains s o) are ∙ in_root o ∙ ap (λ m. is_active m o) (sym parents_of-root);
+} where
+  none : FinSet nat_cmp
+  none = finset.empty
+
+  in_root : (o : ℕ) → finset.contains (finset.insert none 0) o ≡ is_active nobody o
+  in_root o = finset.contains-insert nat_cmp_total none 0 o ∙ (λ i. unsigned_tied o 0 i || finset.contains-empty nat_cmp o i)
+      ∙ ap (λ b. nat_eq o 0 || b) (sym (ap is_some (map.get-empty nat_cmp o)))
+
+-- the next number of what is kept
+pub HasNext-kept : (profile : Profile) (parents : List (Option ℕ)) (lists : List (List ℕ)) (numbers : FinSet nat_cmp) → IsKept parents lists numbers
+    → HasNext profile (is_active (parents_of parents)) (next_number profile (length parents) (is_active (parents_of parents)))
+HasNext-kept profile parents lists numbers kept = HasNext-above profile (is_active (parents_of parents)) (length parents) kept.few kept.below
 
 -- the lists of children ascend, those too that are emptied
-pub cleared_ascend : (parents : List (Option ℕ)) (lists : List (List ℕ)) → IsKept parents lists → (b : Bool) (q : ℕ) → IsStrictlyIncreasing (cond b [] (get_or lists q []))
-cleared_ascend parents lists kept true q = λ j within. absurd (omega arith)
-cleared_ascend parents lists kept false q = subst IsStrictlyIncreasing (sym (kept.listed q)) (IsStrictlyIncreasing-children (hierarchy_of parents) q)
+pub cleared_ascend : (parents : List (Option ℕ)) (lists : List (List ℕ)) → IsRows (λ o c. is_child (parents_of parents) c o) MAX_OBJECTS lists → (b : Bool) (q : ℕ) → IsStrictlyIncreasing (cond b [] (get_or lists q []))
+cleared_ascend parents lists rows true q = λ j within. absurd (omega arith)
+cleared_ascend parents lists rows false q = subst IsStrictlyIncreasing (sym (rows q)) (IsStrictlyIncreasing-children (parents_of parents) q)
 
 -- what is so of each number is so of the one that is there
 pub of_some : (P : ℕ → Type 0) → ((p : ℕ) → P p) → (e : Option ℕ) → IfSome e P
 of_some P all None = tt
 of_some P all (Some p) = all p
 
--- what is read of the lists after an object is added at the end of one
-pub get_or-pushed : (lists : List (List ℕ)) (p x o : ℕ) → p < length lists → get_or (set lists p (get_or lists p [] ++ x ∷ [])) o [] ≡ get_or lists o [] ++ cond (eqb o p) (x ∷ []) []
-get_or-pushed lists p x o within = get_or-set lists p (get_or lists p [] ++ x ∷ []) o [] within ∙ from (cases_Bool (eqb o p)) where
-  from : (eqb o p ≡ true) ⊎ (eqb o p ≡ false) → cond (eqb o p) (get_or lists p [] ++ x ∷ []) (get_or lists o []) ≡ get_or lists o [] ++ cond (eqb o p) (x ∷ []) []
-  from (inl same) = rw same (ap (λ n. get_or lists n [] ++ x ∷ []) (sym (eqb-true o p same)))
-  from (inr other) = rw other (sym (append-nil (get_or lists o [])))
+-- to place a parent is to enter it
+pub parents_of-placed : (parents : List (Option ℕ)) (n p : ℕ) → n ≤ length parents → parents_of (placed parents n (Some p)) ≡ map.insert (parents_of parents) n p
+parents_of-placed parents n p within = from (cases_Bool (eqb n (length parents))) where
+  from : (eqb n (length parents) ≡ true) ⊎ (eqb n (length parents) ≡ false) → parents_of (placed parents n (Some p)) ≡ map.insert (parents_of parents) n p
+  from (inl end) =
+      ap (λ b. parents_of (cond b (parents ++ Some p ∷ []) (set parents n (Some p)))) end
+      ∙ numbered-push (λ parent. parent) parents (Some p) p refl ∙ ap (λ k. map.insert (parents_of parents) k p) (sym (eqb-true n (length parents) end))
+  from (inr inside) =
+      let low : n < length parents = grind (arith, nat_tests, inside, within) in
+      ap (λ b. parents_of (cond b (parents ++ Some p ∷ []) (set parents n (Some p)))) inside
+      ∙ map.same_map nat_cmp_total nat_cmp-IsAntisymmetric _ _ (λ q.
+      get-numbered-option (set parents n (Some p)) q ∙ get_or-set parents n (Some p) q None low
+      ∙ ap (cond (eqb q n) (Some p)) (sym (get-numbered-option parents q)) ∙ sym (get-inserted (parents_of parents) n p q))
 
--- the lists may be more than the objects
-pub IsKept-spare : (parents : List (Option ℕ)) (lists after : List (List ℕ)) → IsKept parents lists → length lists ≤ length after → ((o : ℕ) → get_or after o [] ≡ get_or lists o []) → IsKept parents after
-IsKept-spare parents lists after kept longer same = record {
-  tree = kept.tree;
-  as_many = let few : length parents ≤ length lists = kept.as_many in omega arith;
-  listed = λ o. same o ∙ kept.listed o;
-}
+module _ (parents : List (Option ℕ)) (lists : List (List ℕ)) (numbers : FinSet nat_cmp) (kept : IsKept parents lists numbers) (n p : ℕ) where
+  abbrev now : FinMap nat_cmp ℕ
+  now = parents_of parents
 
--- to add a parent at the end is to enter it at the next number
-pub parents_of-push : (parents : List (Option ℕ)) (p : ℕ) → parents_of (parents ++ Some p ∷ []) ≡ map.insert (parents_of parents) (length parents) p
-parents_of-push parents p = numbered-push (λ parent. parent) parents (Some p) p refl
+  -- the fields with one object more
+  pub IsKept-placed : n ≤ length parents → n < MAX_OBJECTS → is_active now n ≡ false → IsTrue (is_active now p)
+      → (spare after : List (List ℕ)) → n < length after → length lists ≤ length after → ((o : ℕ) → get_or spare o [] ≡ get_or lists o []) → Entered p n spare after
+      → (more : FinSet nat_cmp) → more ≡ finset.insert numbers n
+      → IsKept (placed parents n (Some p)) after more
+  IsKept-placed place room free above spare after there longer same entered more grown = record {
+    tree = subst (λ m. IsTree m (is_active m)) (sym map_is) (IsTree-insert now (is_active now) n p kept.tree free (is_active (map.insert now n p)) (is_active-insert now n p) above room);
+    few = few;
+    below = λ o is. low o (sym (is_active-insert now n p o) ∙ ap (λ m. is_active m o) (sym map_is) ∙ is) (cases_eq o n);
+    as_many = many;
+    rows = λ o. entered.told (λ q c. is_child now c q) MAX_OBJECTS room (λ q. same q ∙ kept.rows q) o
+        ∙ ap (λ r. listed r MAX_OBJECTS) (λ i c. (sym (child_insert now n p c o none) ∙ ap (λ m. is_child m c o) (sym map_is)) i);
+    active = λ o.
+        ap (λ s. finset.contains s o) grown ∙ finset.contains-insert nat_cmp_total numbers n o
+        ∙ (λ i. unsigned_tied o n i || kept.active o i) ∙ sym (is_active-insert now n p o) ∙ ap (λ m. is_active m o) (sym map_is);
+  } where
+    map_is : parents_of (placed parents n (Some p)) ≡ map.insert now n p
+    map_is = parents_of-placed parents n p place
 
--- the fields with one object more
-pub IsKept-push : (parents : List (Option ℕ)) (lists after : List (List ℕ)) (p : ℕ) → IsKept parents lists → IsTrue (is_active (parents_of parents) p) → length parents < MAX_OBJECTS
-    → length parents < length after → ((o : ℕ) → get_or after o [] ≡ get_or lists o [] ++ cond (eqb o p) (length parents ∷ []) []) → IsKept (parents ++ Some p ∷ []) after
-IsKept-push parents lists after p kept below room longer same =
-    let many : length (parents ++ Some p ∷ []) ≡ length parents + 1 = length-append parents (Some p ∷ []) in
-    record {
-      tree = rw (parents_of-push parents p, many) (IsTree-insert (parents_of parents) (is_active (parents_of parents)) (length parents) p kept.tree _ (is_active-insert (parents_of parents) (length parents) p) below room);
-      as_many = omega arith;
-      listed = λ o.
-          same o ∙ ap (λ l. l ++ cond (eqb o p) (length parents ∷ []) []) (kept.listed o) ∙ sym (children-insert (hierarchy_of parents) p o)
-          ∙ sym (λ i. children (record { parent = parents_of-push parents p i; next = many i }) o);
-    }
+    sizes : (length parents ≤ length (placed parents n (Some p))) × (n < length (placed parents n (Some p))) × (length (placed parents n (Some p)) ≡ cond (eqb n (length parents)) (length parents + 1) (length parents))
+    sizes = length-placed parents n (Some p) place
+
+    none : map.get now n ≡ None
+    none = no_parent now n (λ r is. let no : true ≡ false = sym (kept.tree.children_active n r is).0 ∙ free in cc)
+
+    sized : (b : Bool) → eqb n (length parents) ≡ b → (length (placed parents n (Some p)) ≤ MAX_OBJECTS) × (length (placed parents n (Some p)) ≤ length after)
+    sized true end =
+        let long : length (placed parents n (Some p)) ≡ length parents + 1 = sizes.2 ∙ ap (λ b. cond b (length parents + 1) (length parents)) end in
+        let at : n ≡ length parents = eqb-true n (length parents) end in
+        (omega (arith, long, at), omega (arith, long, at))
+    sized false inside =
+        let long : length (placed parents n (Some p)) ≡ length parents = sizes.2 ∙ ap (λ b. cond b (length parents + 1) (length parents)) inside in
+        let most : length parents ≤ MAX_OBJECTS = kept.few in
+        let lists_many : length parents ≤ length lists = kept.as_many in
+        (omega (arith, long), omega (arith, long))
+
+    few : length (placed parents n (Some p)) ≤ MAX_OBJECTS
+    few = (sized (eqb n (length parents)) refl).0
+
+    many : length (placed parents n (Some p)) ≤ length after
+    many = (sized (eqb n (length parents)) refl).1
+
+    low : (o : ℕ) → (nat_eq o n || is_active now o) ≡ true → (o ≡ n) ⊎ (o ≡ n → ⊥) → o < length (placed parents n (Some p))
+    low o is (inl same) = let l : n < length (placed parents n (Some p)) = sizes.1 in omega (arith, l, same)
+    low o is (inr other) =
+        let old : o < length parents = kept.below o (sym (ap (λ b. b || is_active now o) (ne_eqb o n other)) ∙ is) in
+        let l : length parents ≤ length (placed parents n (Some p)) = sizes.0 in omega (arith, l, old)
 
 not_both : (m e r x : Bool) → (e ≡ true → r ≡ x) → (not (m && r) && not (e && x)) ≡ not ((m || e) && r)
 not_both true true true true same = refl
@@ -125,14 +181,17 @@ discarded lists p x q within =
           (λ i. cond (ne_eqb q p other i) (filter others (get_or lists p [])) (get_or lists q []))
           ∙ sym (filter_all _ (get_or lists q []) (λ c. ap (λ b. not (eqb c x && b)) (ne_eqb p q (λ same. other (sym same))) ∙ ap not (and-false (eqb c x))))
 
-module _ (parents : List (Option ℕ)) (group : List ℕ) (o : ℕ) (tree : IsTree (parents_of parents) (is_active (parents_of parents)) (length parents)) (all : group ≡ inferiors (hierarchy_of parents) o) where
+module _ (parents : List (Option ℕ)) (group : List ℕ) (o : ℕ) (tree : IsTree (parents_of parents) (is_active (parents_of parents))) (all : group ≡ inferiors (parents_of parents) o) where
   -- the group has just the inferiors
   in_group : (x : ℕ) → list_any (eqb x) group ≡ is_inferior (parents_of parents) x o
-  in_group x = ap (list_any (eqb x)) all ∙ list_any-inferiors (hierarchy_of parents) tree x o
+  in_group x = ap (list_any (eqb x)) all ∙ list_any-inferiors (parents_of parents) tree x o
 
-  -- the number of each of the group was given out
-  pub group_below : (k d : ℕ) → k < length group → get_or group k d < length parents
-  group_below k d within = rw all (inferiors_below (hierarchy_of parents) o tree k d (rw all at within))
+  -- each of the group is active
+  pub group_active : (k d : ℕ) → k < length group → is_active (parents_of parents) (get_or group k d) ≡ true
+  group_active k d within =
+      let x : ℕ = get_or group k d in
+      let there : list_any (eqb x) group ≡ true = list_any_at (eqb x) group k d within (eq-eqb x x refl) in
+      inferior_active (parents_of parents) (is_active (parents_of parents)) tree x o (sym (in_group x) ∙ there)
 
   module _ (after : List (Option ℕ)) (many : length after ≡ length parents) (forgot : (q : ℕ) → get_or after q None ≡ cond (list_any (eqb q) group) None (get_or parents q None)) where
     turned : (b : Bool) (e : Option ℕ) → cond b None e ≡ cond (not b) e None
@@ -146,8 +205,9 @@ module _ (parents : List (Option ℕ)) (group : List ℕ) (o : ℕ) (tree : IsTr
         ∙ turned (is_inferior (parents_of parents) q o) (map.get (parents_of parents) q)
         ∙ sym (get-kept (parents_of parents) (λ x. not (is_inferior (parents_of parents) x o)) q))
 
-    module _ (lists left : List (List ℕ)) (kept : IsKept parents lists) (other : o ≡ 0 → ⊥) (longer : length left ≡ length lists)
-        (discards : (q : ℕ) → get_or left q [] ≡ filter (stays_listed parents group q) (cond (list_any (eqb q) group) [] (get_or lists q []))) where
+    module _ (lists left : List (List ℕ)) (numbers fewer : FinSet nat_cmp) (kept : IsKept parents lists numbers) (other : o ≡ 0 → ⊥) (longer : length left ≡ length lists)
+        (discards : (q : ℕ) → get_or left q [] ≡ filter (stays_listed parents group q) (cond (list_any (eqb q) group) [] (get_or lists q [])))
+        (frees : (q : ℕ) → finset.contains fewer q ≡ (finset.contains numbers q && not (list_any (eqb q) group))) where
       abbrev m : FinMap nat_cmp ℕ
       m = parents_of parents
 
@@ -162,10 +222,10 @@ module _ (parents : List (Option ℕ)) (group : List ℕ) (o : ℕ) (tree : IsTr
         from false e = sym (and-false (holds_of (λ p. eqb p q) e))
 
       -- the children of an object that stays
-      kept_children : (q : ℕ) → filter (stays_listed parents group q) (children (hierarchy_of parents) q) ≡ children (record { parent = map.retain_keys m stays; next = length parents }) q
-      unfolding children
+      kept_children : (q : ℕ) → filter (stays_listed parents group q) (children m q) ≡ children (map.retain_keys m stays) q
+      unfolding listed
       kept_children q =
-          filter-twice (stays_listed parents group q) (λ c. is_child m c q) (range_with_len 0 (length parents)) ∙ filter_agree _ _ at (range_with_len 0 (length parents)) where
+          filter-twice (stays_listed parents group q) (λ c. is_child m c q) (range_with_len 0 MAX_OBJECTS) ∙ filter_agree _ _ at (range_with_len 0 MAX_OBJECTS) where
             merged : (a b : Bool) → (a && not (b && a)) ≡ (a && not b)
             merged true true = refl
             merged true false = refl
@@ -177,27 +237,46 @@ module _ (parents : List (Option ℕ)) (group : List ℕ) (o : ℕ) (tree : IsTr
                 ∙ merged (is_child m c q) (is_inferior m c o) ∙ sym (child_left c q)
 
       -- an object of the group has no child that stays
-      group_children : (q : ℕ) → is_inferior m q o ≡ true → children (record { parent = map.retain_keys m stays; next = length parents }) q ≡ []
-      unfolding children
-      group_children q is = filter_range_none _ 0 (length parents) (λ c low high. child_left c q ∙ from c (cases_Bool (is_child m c q))) where
+      group_children : (q : ℕ) → is_inferior m q o ≡ true → children (map.retain_keys m stays) q ≡ []
+      unfolding listed
+      group_children q is = filter_range_none _ 0 MAX_OBJECTS (λ c low high. child_left c q ∙ from c (cases_Bool (is_child m c q))) where
         from : (c : ℕ) → (is_child m c q ≡ true) ⊎ (is_child m c q ≡ false) → (is_child m c q && stays c) ≡ false
         from c (inl below) =
-            (λ i. below i && not (inferior_below m (is_active m) (length parents) tree c q o (parent_from_child m c q below) is i))
+            (λ i. below i && not (inferior_below m (is_active m) tree c q o (parent_from_child m c q below) is i))
         from c (inr out) = ap (λ b. b && stays c) out
 
-      listed_left : (q : ℕ) → get_or left q [] ≡ children (record { parent = map.retain_keys m stays; next = length parents }) q
-      listed_left q = discards q ∙ from (cases_Bool (list_any (eqb q) group)) where
-        from : (list_any (eqb q) group ≡ true) ⊎ (list_any (eqb q) group ≡ false) → filter (stays_listed parents group q) (cond (list_any (eqb q) group) [] (get_or lists q [])) ≡ children (record { parent = map.retain_keys m stays; next = length parents }) q
+      rows_left : (q : ℕ) → get_or left q [] ≡ children (map.retain_keys m stays) q
+      rows_left q = discards q ∙ from (cases_Bool (list_any (eqb q) group)) where
+        from : (list_any (eqb q) group ≡ true) ⊎ (list_any (eqb q) group ≡ false) → filter (stays_listed parents group q) (cond (list_any (eqb q) group) [] (get_or lists q [])) ≡ children (map.retain_keys m stays) q
         from (inl there) = ap (λ b. filter (stays_listed parents group q) (cond b [] (get_or lists q []))) there ∙ sym (group_children q (sym (in_group q) ∙ there))
-        from (inr out) = (λ i. filter (stays_listed parents group q) (cond (out i) [] (kept.listed q i))) ∙ kept_children q
+        from (inr out) = (λ i. filter (stays_listed parents group q) (cond (out i) [] (kept.rows q i))) ∙ kept_children q
+
+      left_active : (q : ℕ) → is_active (map.retain_keys m stays) q ≡ (is_active m q && stays q)
+      left_active q = is_active-retain m o tree other q
 
       -- the fields without the group
-      pub IsKept-retain : IsKept after left
+      pub IsKept-retain : IsKept after left fewer
       IsKept-retain = record {
-        tree = rw (parents_of-retain, many) (IsTree-retain m (is_active m) (length parents) tree o other (is_active (map.retain_keys m stays)) (is_active-retain m (length parents) o tree other));
-        as_many = let few : length parents ≤ length lists = kept.as_many in omega arith;
-        listed = λ q. listed_left q ∙ sym (λ i. children (record { parent = parents_of-retain i; next = many i }) q);
+        tree = rw parents_of-retain (IsTree-retain m (is_active m) tree o other (is_active (map.retain_keys m stays)) left_active);
+        few = let most : length parents ≤ MAX_OBJECTS = kept.few in omega (arith, many);
+        below = λ q is. let low : q < length parents = kept.below q (and_parts (is_active m q) (stays q) (sym (left_active q) ∙ ap (λ l. is_active l q) (sym parents_of-retain) ∙ is)).0 in omega (arith, many, low);
+        as_many = let few : length parents ≤ length lists = kept.as_many in omega (arith, many, longer);
+        rows = λ q. rows_left q ∙ ap (λ l. children l q) (sym parents_of-retain);
+        active = λ q. frees q ∙ (λ i. kept.active q i && not (in_group q i)) ∙ sym (left_active q) ∙ ap (λ l. is_active l q) (sym parents_of-retain);
       }
+
+-- the next number after a parent is placed at it
+pub placed_next : (profile : Profile) (parents : List (Option ℕ)) (n p : ℕ) → n ≡ next_number profile (length parents) (is_active (parents_of parents)) → n ≤ length parents
+    → next_number profile (length (placed parents n (Some p))) (is_active (parents_of (placed parents n (Some p)))) ≡ next_number profile (n + 1) (is_active (map.insert (parents_of parents) n p))
+placed_next One parents n p is within =
+    (length-placed parents n (Some p) within).2 ∙ ap (λ b. cond b (length parents + 1) (length parents)) (eq-eqb n (length parents) is) ∙ ap (λ k. k + 1) (sym is)
+placed_next Two parents n p is within = ap (λ m. least_failing (is_active m) MAX_OBJECTS 0) (parents_of-placed parents n p within)
+
+-- the next number after some parents were taken away
+pub removed_next : (profile : Profile) (parents after : List (Option ℕ)) (m : FinMap nat_cmp ℕ) → length after ≡ length parents → parents_of after ≡ m
+    → next_number profile (length after) (is_active (parents_of after)) ≡ next_number profile (next_number profile (length parents) (is_active (parents_of parents))) (is_active m)
+removed_next One parents after m many is = many
+removed_next Two parents after m many is = ap (λ l. least_failing (is_active l) MAX_OBJECTS 0) is
 
 -- a parent that stands in the list has a list of children
 pub parent_within : (parents : List (Option ℕ)) (lists now : List (List ℕ)) (n : ℕ) (parent : Option ℕ) → ((x p : ℕ) → get_or parents x None ≡ Some p → p < length lists)

@@ -1,3 +1,5 @@
+pub mod Next
+pub mod Words
 pub mod Grown
 pub mod Ways
 pub mod Inferiors

@@ -95,7 +95,7 @@ module _ (parent : FinMap nat_cmp ℕ) where
       let fewer : k ≤ n = omega arith in
       or_right (eqb o a) _ (ap (holds_of (λ p. reaches_within parent n p a)) step.1 ∙ within-from_above k n step.0 a fewer step.2)
 
-module _ (parent : FinMap nat_cmp ℕ) (active : ℕ → Bool) (next : ℕ) (tree : IsTree parent active next) where
+module _ (parent : FinMap nat_cmp ℕ) (active : ℕ → Bool) (tree : IsTree parent active) where
   -- nothing is above the root
   above_root : (n q : ℕ) → above parent n 0 ≡ Some q → n ≡ 0
   above_root zero q is = refl
@@ -152,10 +152,10 @@ module _ (parent : FinMap nat_cmp ℕ) (active : ℕ → Bool) (next : ℕ) (tre
       )
 
   -- the root is met after at most as many steps as there are numbers
-  height : (n o : ℕ) → IsTrue (active o) → above parent n o ≡ Some 0 → n ≤ next
+  height : (n o : ℕ) → IsTrue (active o) → above parent n o ≡ Some 0 → n ≤ MAX_OBJECTS
   height n o is top =
-      let few : length (way parent n o) ≤ next =
-      length-le_from_distinct_below (way parent n o) next (distinct n o is top) (λ q there. let at = met n o q there in tree.below_next q (active_above at.0 o q is at.2)) in
+      let few : length (way parent n o) ≤ MAX_OBJECTS =
+      length-le_from_distinct_below (way parent n o) MAX_OBJECTS (distinct n o is top) (λ q there. let at = met n o q there in tree.below q (active_above at.0 o q is at.2)) in
       let long : length (way parent n o) ≡ n = length-way n o 0 top in
       omega arith
 
@@ -164,9 +164,7 @@ module _ (parent : FinMap nat_cmp ℕ) (active : ℕ → Bool) (next : ℕ) (tre
   within-from_Reaches o a is way_up =
       let at = above-from_Reaches parent way_up in
       let top = above-from_Reaches parent (tree.reaches_root o is) in
-      let high : top.0 ≤ next = height top.0 o is top.1 in
-      let few : next ≤ MAX_OBJECTS = tree.few in
-      from at.0 at.1 top.0 top.1 (cases_lt top.0 at.0) (omega arith) where
+      from at.0 at.1 top.0 top.1 (cases_lt top.0 at.0) (height top.0 o is top.1) where
         from : (k : ℕ) → above parent k o ≡ Some a → (n : ℕ) → above parent n o ≡ Some 0 → (n < k) ⊎ (k ≤ n) → n ≤ MAX_OBJECTS → reaches_within parent MAX_OBJECTS o a ≡ true
         from k at n top (inl past) few =
             let total : n + (k - n) ≡ k = omega arith in

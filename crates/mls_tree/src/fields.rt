@@ -1,11 +1,17 @@
 //! Steps on what a tree is kept as: a list of parents, and a list of children for each object.
-ghost use Rattle.std.specs.Prelude.{◌≡◌, ℕ, ◌<◌, ◌≤◌, ◌==◌, ◌++◌, [], ◌∷◌, not, Some, None, IfSome, IfNone, if◌then◌else◌, All, length, filter, slice_index, slice_index_or, slice_set, vec_len, IfOk, OnOk, OnErr};
+ghost use Rattle.std.specs.Prelude.{◌≡◌, ℕ, ◌<◌, ◌≤◌, ◌==◌, ◌&&◌, ◌++◌, [], ◌∷◌, not, Some, None, IfSome, IfNone};
+ghost use Rattle.std.specs.Prelude.{if◌then◌else◌, All, length, filter, slice_index, slice_index_or, slice_set};
+ghost use Rattle.std.specs.Prelude.{vec_len, IfOk, OnOk, OnErr};
+ghost use Rattle.std.specs.FinSet as set;
 ghost use Rattle.std.specs.List.{list_any};
 ghost use Rattle.std.specs.List.Sorted.{IsStrictlyIncreasing};
 ghost use Rattle.mls_tables.specs.declared.limits.TheConstants.{MAX_OBJECTS};
+ghost use Rattle.mls_facts.specs.Places.{placed};
+ghost use Rattle.mls_tables.specs.Rows.{Entered};
 ghost use Rattle.mls_tree.specs.Kept.{stays_listed};
 
-use mls_tables::{Lists, ObjectId};
+use crate::numbers::Numbers;
+use mls_tables::{Lists, ObjectId, put_at};
 use std::alloc::{AllocError, Allocator};
 
 /// The parents in the tree of the root alone: the root has none.
@@ -20,7 +26,19 @@ pub(crate) fn root_alone<A: Allocator>(alloc: A) -> Result<Vec<Option<ObjectId>,
     Ok(parents)
 }
 
-/// Adds the next object below its parent: to the parents, and to the parent's list of children.
+/// The active numbers in the tree of the root alone.
+///
+/// # Errors
+/// Where allocation fails.
+pub(crate) fn root_active<A: Allocator>(alloc: A) -> Result<Numbers<A>, AllocError>
+    ensures { IfOk result (λ numbers. numbers ≡ set.insert set.empty 0) }
+{
+    let mut numbers = Numbers::new(alloc)?;
+    numbers.insert(0);
+    Ok(numbers)
+}
+
+/// Adds an object below its parent: to the parents, and in its place to the parent's list of children.
 ///
 /// # Errors
 /// Where allocation fails. Parents and lists are then unchanged.
@@ -30,16 +48,18 @@ pub(crate) fn enter<A: Allocator>(
     parent: ObjectId,
     next: u16,
 ) -> Result<(), AllocError>
+    requires place { next ≤ vec_len parents.old }
     requires list { parent < length lists.old.lists }
     requires few { length (slice_index_or lists.old.lists parent []) ≤ MAX_OBJECTS }
-    ensures parents { OnOk result (parents.new.items ≡ parents.old.items ++ Some parent ∷ []) }
-    ensures lists { OnOk result (lists.new.lists ≡ slice_set lists.old.lists parent (slice_index_or lists.old.lists parent [] ++ next ∷ [])) }
+    ensures parents { OnOk result (parents.new.items ≡ placed parents.old.items next (Some parent)) }
+    ensures many { length lists.new.lists ≡ length lists.old.lists }
+    ensures lists { OnOk result (Entered parent next lists.old.lists lists.new.lists) }
     ensures same_parents { OnErr result (parents.new.items ≡ parents.old.items) }
     ensures same_lists { OnErr result (lists.new.lists ≡ lists.old.lists) }
 {
     parents.reserve(1)?;
-    lists.push(parent.number() as usize, ObjectId::new(next))?;
-    parents.push_reserved(Some(parent));
+    lists.insert(parent.number() as usize, ObjectId::new(next))?;
+    put_at(parents, next as usize, Some(parent));
     Ok(())
 }
 
@@ -54,7 +74,8 @@ pub(crate) fn add_children<A: Allocator, B: Allocator>(
 ) -> Result<(), AllocError>
     requires place { at < vec_len group.old }
     requires listed { slice_index group.old.items at < length lists.now.lists }
-    ensures { OnOk result (group.new.items ≡ group.old.items ++ slice_index_or lists.now.lists (slice_index group.old.items at) []) }
+    ensures { OnOk result
+        (group.new.items ≡ group.old.items ++ slice_index_or lists.now.lists (slice_index group.old.items at) []) }
 {
     let below = lists.list(group[at].number() as usize);
     group.extend_from_slice(below)?;
@@ -81,7 +102,9 @@ pub(crate) fn discard_one<A: Allocator>(
 )
     requires list { IfSome parent (λ p. p < length lists.old.lists) }
     requires ascends { IfSome parent (λ p. IsStrictlyIncreasing (slice_index_or lists.old.lists p [])) }
-    ensures listed { IfSome parent (λ p. lists.new.lists ≡ slice_set lists.old.lists p (filter (λ y. not (y == o)) (slice_index_or lists.old.lists p []))) }
+    ensures listed { IfSome parent
+        (λ p. lists.new.lists
+        ≡ slice_set lists.old.lists p (filter (λ y. not (y == o)) (slice_index_or lists.old.lists p []))) }
     ensures root { IfNone parent (lists.new.lists ≡ lists.old.lists) }
 {
     match parent {
@@ -100,7 +123,9 @@ pub(crate) fn discard_each<A: Allocator>(
     requires listed { (x p : ℕ) → slice_index_or parents.now x None ≡ Some p → p < length lists.old.lists }
     requires ascend { (q : ℕ) → IsStrictlyIncreasing (slice_index_or lists.old.lists q []) }
     ensures many { length lists.new.lists ≡ length lists.old.lists }
-    ensures left { (q : ℕ) → slice_index_or lists.new.lists q [] ≡ filter (stays_listed parents.now group.now q) (slice_index_or lists.old.lists q []) }
+    ensures left { (q : ℕ)
+        → slice_index_or lists.new.lists q []
+        ≡ filter (stays_listed parents.now group.now q) (slice_index_or lists.old.lists q []) }
 {
     for o in group {
         let parent = parents[o.number() as usize];
@@ -116,5 +141,16 @@ pub(crate) fn forget_each(parents: &mut [Option<ObjectId>], group: &[ObjectId])
 {
     for o in group {
         parents[o.number() as usize] = None;
+    }
+}
+
+/// Takes the objects out of a set of numbers.
+pub(crate) fn free_each<A: Allocator>(numbers: &mut Numbers<A>, group: &[ObjectId])
+    requires { All (λ x. x < MAX_OBJECTS) group.now }
+    ensures { (q : ℕ)
+        → set.contains numbers.new q ≡ (set.contains numbers.old q && not (list_any (λ x. q == x) group.now)) }
+{
+    for o in group {
+        numbers.remove(o.number());
     }
 }

@@ -2,8 +2,11 @@
 #![tactic(auto)]
 
 mod fields;
+mod numbers;
+mod profile;
 mod reach;
 mod tree;
 
+pub use profile::Profile;
 pub use reach::inferiors_reach;
 pub use tree::{Tree, TreeFault};

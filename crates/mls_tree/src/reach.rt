@@ -7,6 +7,6 @@ ghost use Rattle.mls_tree.specs.Tree.{IsTree, Reaches, is_active, is_inferior};
 /// In a tree an object is an inferior of another exactly where it is active and reaches it by parent
 /// steps.
 pub fn inferiors_reach()
-    ensures { (parent : FinMap nat_cmp ℕ) (next : ℕ) → IsTree parent (is_active parent) next → (o a : ℕ) →
+    ensures { (parent : FinMap nat_cmp ℕ) → IsTree parent (is_active parent) → (o a : ℕ) →
         (IsTrue (is_inferior parent o a) ↔ (IsTrue (is_active parent o) × Reaches parent o a)) }
 {}

@@ -1,11 +1,13 @@
-//! The tree, kept as the parent of each object number that was given out.
-ghost use Rattle.std.specs.Prelude.{◌≡◌, ℕ, ◌+◌, ◌↔◌, ◌≢◌, not, IsTrue, IfOk, OnOk, OnErr, IsErrOf};
+//! The tree, kept as the parent of each object number that was ever used.
+ghost use Rattle.std.specs.Prelude.{◌≡◌, ℕ, ◌+◌, ◌<◌, ◌≤◌, ◌↔◌, ◌≢◌, not, IsTrue, IfOk, OnOk, OnErr, IsErrOf};
 ghost use Rattle.std.specs.FinMap as map;
 ghost use Rattle.mls_tables.specs.declared.limits.TheConstants.{MAX_OBJECTS};
-ghost use Rattle.mls_tree.specs.Tree.{is_active, IsTree, is_inferior, children, inferiors};
+ghost use Rattle.mls_tree.specs.Tree.{is_active, IsTree, HasNext, with_parents, is_inferior, children, inferiors};
 ghost use Rattle.mls_tree.specs.declared.tree.TreeFault.TheVariants.{Full, Memory};
 
 use crate::fields;
+use crate::numbers::Numbers;
+use crate::profile::Profile;
 use mls_tables::{Lists, MAX_OBJECTS, ObjectId};
 use std::alloc::{AllocError, Allocator, Global};
 use std::marker::Model;
@@ -13,7 +15,7 @@ use std::marker::Model;
 /// Why an object was not added. The tree is then unchanged.
 #[derive(Clone, Copy, Debug, PartialEq, Eq)]
 pub enum TreeFault {
-    /// Each of the 4,096 object numbers was given out.
+    /// There is no next number: in profile 1 each of the 4,096 was given out, in profile 2 each is active.
     Full,
     /// Allocation failed.
     Memory,
@@ -28,12 +30,14 @@ impl From<AllocError> for TreeFault {
 }
 
 /// The tree of objects. The root is object 0, each other active object has an active parent, and by
-/// parent steps reaches the root. Numbers are given out in order, at most 4,096 of them, and none
-/// is given out twice.
+/// parent steps reaches the root. There are 4,096 numbers; the profile says whether one is used again.
 #[derive(Drop)]
 pub struct Tree<A: Allocator = Global> {
+    profile: Profile,
+    /// A place for each number that was ever used.
     parents: Vec<Option<ObjectId>, A>,
     children: Lists<ObjectId, A>,
+    active: Numbers<A>,
 }
 
 impl<A: Allocator> Model for Tree<A> {
@@ -44,16 +48,44 @@ impl<A: Allocator> Model for Tree<A> {
 
     ghost coded = { hierarchy_code };
 
-    ghost view = { λ a. hierarchy_of a.parents.items };
+    ghost view = { λ a. hierarchy_of a.profile a.parents.items };
 
-    ghost invariant = { λ a. IsKept a.parents.items a.children.lists };
+    ghost invariant = { λ a. IsKept a.parents.items a.children.lists a.active };
 }
 
 impl<A: Allocator> Tree<A> {
-    /// The least number that no object had yet: at most 4,096.
+    /// Whether numbers are used again.
+    pub fn profile(&self) -> Profile
+        ensures { result ≡ self.now.profile }
+    {
+        self.profile
+    }
+
+    /// The number that the next object will have, 4,096 where there is none: in profile 1 the least that no object had
+    /// yet, in profile 2 the least that isn't active.
     pub fn next(&self) -> u16
         ensures number { result ≡ self.now.next }
-        ensures tree { IsTree self.now.parent (is_active self.now.parent) self.now.next }
+        ensures tree { IsTree self.now.parent (is_active self.now.parent) }
+        ensures right { HasNext self.now.profile (is_active self.now.parent) self.now.next }
+    {
+        match self.profile {
+            Profile::One => self.parents.len() as u16,
+            Profile::Two => self.active.least_free(),
+        }
+    }
+
+    /// That the active objects are a tree and the next number is that of the profile, which is so of every tree.
+    pub fn agrees(&self)
+        ensures tree { IsTree self.now.parent (is_active self.now.parent) }
+        ensures right { HasNext self.now.profile (is_active self.now.parent) self.now.next }
+    {
+        let _ = self.next();
+    }
+
+    /// A number above all that are active: how many were ever used.
+    pub fn places(&self) -> u16
+        ensures active { (o : ℕ) → IsTrue (is_active self.now.parent o) → o < result }
+        ensures few { result ≤ MAX_OBJECTS }
     {
         self.parents.len() as u16
     }
@@ -78,7 +110,7 @@ impl<A: Allocator> Tree<A> {
     /// The children of an active object, ascending.
     pub fn children(&self, o: ObjectId) -> &[ObjectId]
         requires { IsTrue (is_active self.now.parent o) }
-        ensures { result.now ≡ children self.now o }
+        ensures { result.now ≡ children self.now.parent o }
     {
         self.children.list(o.number() as usize)
     }
@@ -86,15 +118,12 @@ impl<A: Allocator> Tree<A> {
     /// Adds an object below an active one, and returns its number, which is the next.
     ///
     /// # Errors
-    /// `Full` where all numbers were given out, `Memory` where allocation fails. The tree is then
-    /// unchanged.
+    /// `Full` where there is no next number, `Memory` where allocation fails. The tree is then unchanged.
     pub fn add(&mut self, parent: ObjectId) -> Result<ObjectId, TreeFault>
         requires { IsTrue (is_active self.old.parent parent) }
         ensures number { IfOk result (λ o. o ≡ self.old.next) }
-        ensures ok { OnOk result (self.new ≡ record {
-          parent = map.insert self.old.parent self.old.next parent;
-          next = self.old.next + 1;
-        }) }
+        ensures ok { OnOk result (self.new ≡
+            with_parents self.old (map.insert self.old.parent self.old.next parent) (self.old.next + 1)) }
         ensures full { IsErrOf result Full ↔ (self.old.next ≡ MAX_OBJECTS) }
         ensures err { OnErr result (self.new ≡ self.old) }
     {
@@ -104,6 +133,7 @@ impl<A: Allocator> Tree<A> {
         }
         self.children.spare_list(next as usize)?;
         fields::enter(&mut self.parents, &mut self.children, parent, next)?;
+        self.active.insert(next);
         Ok(ObjectId::new(next))
     }
 
@@ -113,7 +143,7 @@ impl<A: Allocator> Tree<A> {
     /// Where allocation fails.
     pub fn inferiors(&self, alloc: A, o: ObjectId) -> Result<Vec<ObjectId, A>, AllocError>
         requires { IsTrue (is_active self.now.parent o) }
-        ensures { IfOk result (λ group. group.items ≡ inferiors self.now o) }
+        ensures { IfOk result (λ group. group.items ≡ inferiors self.now.parent o) }
     {
         let mut group = Vec::new(alloc);
         self.list_inferiors(o, &mut group)?;
@@ -130,7 +160,7 @@ impl<A: Allocator> Tree<A> {
         group: &mut Vec<ObjectId, B>,
     ) -> Result<(), AllocError>
         requires { IsTrue (is_active self.now.parent o) }
-        ensures { OnOk result (group.new.items ≡ inferiors self.now o) }
+        ensures { OnOk result (group.new.items ≡ inferiors self.now.parent o) }
     {
         group.clear();
         group.push(o)?;
@@ -143,17 +173,19 @@ impl<A: Allocator> Tree<A> {
         Ok(())
     }
 
-    /// Takes out the inferiors of an active object that isn't the root. Their numbers aren't given
-    /// out again.
+    /// Takes out the inferiors of an active object that isn't the root. In profile 1 their numbers aren't given out
+    /// again, in profile 2 they are.
     pub fn remove_group(&mut self, group: &[ObjectId])
-        requires { (o : ℕ) × IsTrue (is_active self.old.parent o) × (o ≢ 0) × (group.now ≡ inferiors self.old o) }
-        ensures { (o : ℕ) → group.now ≡ inferiors self.old o → self.new ≡ record self.old {
-          parent = map.retain_keys self.old.parent (λ x. not (is_inferior self.old.parent x o));
-        } }
+        requires { (o : ℕ) × IsTrue (is_active self.old.parent o) × (o ≢ 0)
+            × (group.now ≡ inferiors self.old.parent o) }
+        ensures { (o : ℕ) → group.now ≡ inferiors self.old.parent o → self.new ≡
+            with_parents self.old
+            (map.retain_keys self.old.parent (λ x. not (is_inferior self.old.parent x o))) self.old.next }
     {
         fields::clear_each(&mut self.children, group);
         fields::discard_each(&mut self.children, &self.parents, group);
         fields::forget_each(&mut self.parents, group);
+        fields::free_each(&mut self.active, group);
     }
 }
 
@@ -162,13 +194,19 @@ impl<A: Allocator + Clone> Tree<A> {
     ///
     /// # Errors
     /// Where allocation fails.
-    pub fn new(alloc: A) -> Result<Tree<A>, AllocError>
-        ensures { IfOk result (λ t. t ≡ record { parent = map.empty; next = 1 }) }
+    pub fn new(alloc: A, profile: Profile) -> Result<Tree<A>, AllocError>
+        ensures { IfOk result (λ t. t ≡ record { profile = profile; parent = map.empty; next = 1 }) }
     {
         let parents = fields::root_alone(alloc.clone()?)?;
+        let active = fields::root_active(alloc.clone()?)?;
         let mut children = Lists::new(alloc)?;
         children.spare_list(0)?;
-        Ok(Tree { parents, children })
+        Ok(Tree {
+            profile,
+            parents,
+            children,
+            active,
+        })
     }
 
     /// A copy of the tree.
@@ -179,7 +217,13 @@ impl<A: Allocator + Clone> Tree<A> {
         ensures { IfOk result (λ t. t ≡ self.now) }
     {
         let parents = Vec::from_slice(alloc.clone()?, &self.parents)?;
+        let active = self.active.duplicate(alloc.clone()?)?;
         let children = self.children.duplicate(alloc)?;
-        Ok(Tree { parents, children })
+        Ok(Tree {
+            profile: self.profile,
+            parents,
+            children,
+            active,
+        })
     }
 }

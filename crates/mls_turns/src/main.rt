@@ -1,4 +1,5 @@
-//! A program that has threads take turns at one monitor, through the gate or under a mutex, for `bench/gate_turns.sh` to time.
+//! A program that has threads take turns at one monitor, through the gate or under a mutex, for `bench/gate_turns.sh`
+//! to time.
 #![tactic(auto)]
 
 mod turns;
@@ -79,7 +80,8 @@ fn number(words: &[String], place: usize) -> u64 {
     }
 }
 
-/// Does the job that the words name: gate or mutex, then how many threads, turns each, and rounds of work between two turns.
+/// Does the job that the words name: gate or mutex, then how many threads, turns each, and rounds of work between two
+/// turns.
 fn run<R: Threads + Wait + Sync>(
     rt: &R,
     alloc: Global,

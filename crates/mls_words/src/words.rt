@@ -43,7 +43,8 @@ const CHECK_ABOUT: &str =
 const CHECK_EXAMPLE: &str = "Example: mls check examples/office.json";
 
 const RUN_ABOUT: &str =
-    "Runs scripts over a start file and prints their answers, how many entries the journal has, and that the state is secure";
+    "Runs scripts over a start file and prints their answers, how many entries the journal has, and that the state is \
+    secure";
 
 const RUN_EXAMPLE: &str =
     "Example: mls run --journal office.journal examples/office.json examples/office.script";

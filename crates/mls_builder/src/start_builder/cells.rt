@@ -1,10 +1,10 @@
-//! The permitted triples of a start, each once.
+//! Lists of triples: each once, in the order of triples, and a look at one.
 ghost use Rattle.std.specs.Prelude.{◌≡◌, length};
 ghost use Rattle.std.specs.FinSet as set;
+ghost use Rattle.std.specs.List.Sorted.{IsStrictlySortedBy};
 ghost use Rattle.mls_tables.specs.Mode.{mode_number};
 ghost use Rattle.mls_tables.specs.Triples.{triple_cmp};
 
-use crate::start_builder::StartBuilder;
 use mls_tables::{Mode, ObjectId, SubjectId};
 use std::alloc::Allocator;
 
@@ -17,22 +17,24 @@ fn place(cell: &(SubjectId, ObjectId, Mode)) -> (u16, (u16, u8))
     (cell.0.number(), (cell.1.number(), cell.2 as u8))
 }
 
-/// Leaves each triple once.
-fn drop_repeats<A: Allocator>(cells: &mut Vec<(SubjectId, ObjectId, Mode), A>)
+/// Leaves each triple once, in ascending order.
+pub(crate) fn drop_repeats<A: Allocator>(cells: &mut Vec<(SubjectId, ObjectId, Mode), A>)
     ensures same { set.from_list {R = triple_cmp} cells.new.items ≡ set.from_list cells.old.items }
     ensures count { length cells.new.items ≡ set.len (set.from_list {R = triple_cmp} cells.old.items) }
+    ensures ascending { IsStrictlySortedBy triple_cmp cells.new.items }
 {
     cells.sort_unstable_by_key(|cell| place(cell));
     cells.dedup_by_key(|cell| place(cell));
 }
 
-impl<A: Allocator> StartBuilder<A> {
-    /// How many triples are permitted. From then on the builder keeps each of them once.
-    pub(crate) fn count_cells(&mut self) -> usize
-        ensures count { result ≡ set.len self.old.cells }
-        ensures same { self.new ≡ self.old }
-    {
-        drop_repeats(&mut self.cells);
-        self.cells.len()
-    }
+/// Whether a triple is in a list that ascends.
+pub(crate) fn has_triple(
+    cells: &[(SubjectId, ObjectId, Mode)],
+    triple: &(SubjectId, ObjectId, Mode),
+) -> bool
+    requires { IsStrictlySortedBy triple_cmp cells.now }
+    ensures { result ≡ set.contains (set.from_list {R = triple_cmp} cells.now) triple.now }
+{
+    let at = place(triple);
+    cells.binary_search_by_key(&at, |cell| place(cell)).is_ok()
 }

@@ -1,11 +1,13 @@
 //! What is looked at of the rows of a start to tell what is wrong with them.
-ghost use Rattle.std.specs.Prelude.{◌≡◌, ◌&&◌, ◌∷◌, length, map, slice_get};
+ghost use Rattle.std.specs.Prelude.{◌≡◌, IsTrue, IfSome, IfNone, Some, length, slice_get};
 ghost use Rattle.std.specs.FinSet as set;
 ghost use Rattle.std.specs.List.{list_all};
 ghost use Rattle.mls_facts.specs.Each.{each};
 ghost use Rattle.mls_tables.specs.Triples.{triple_cmp};
-ghost use Rattle.mls_builder.specs.Rows.{labels_of, object_count};
-ghost use Rattle.mls_builder.specs.StartFaults.{start_fault, subject_within, labels_within, labels_fit, parents_before, current_fits, parent_labels, security_fits, integrity_fits, is_cell};
+ghost use Rattle.mls_builder.specs.Rows.{all_labels};
+ghost use Rattle.mls_builder.specs.StartFaults.{start_fault, subject_within, labels_within, labels_fit, parents_before};
+ghost use Rattle.mls_builder.specs.StartFaults.{current_fits, security_fits, integrity_fits, is_cell};
+ghost use Rattle.mls_builder.specs.StartFaults.{access_fault, has_known_accesses};
 
 use crate::object_row::ObjectRow;
 use crate::start_builder::StartBuilder;
@@ -77,18 +79,18 @@ fn are_currents_below(subjects: &[Subject]) -> bool
     subjects.iter().all(|s| is_current_below(s))
 }
 
-/// The labels of an object's parent, where there is such an object.
-fn labels_of_parent(
+/// The labels of an object, where it is the root or one of those below it.
+pub(crate) fn labels_at(
     root: ObjectLabels,
     objects: &[ObjectRow],
-    o: &ObjectRow,
+    o: ObjectId,
 ) -> Option<ObjectLabels>
-    ensures { result ≡ parent_labels (root ∷ map (λ row. row.labels) objects.now) o.now }
+    ensures { result ≡ slice_get (all_labels root objects.now) o }
 {
-    match o.parent.number().checked_sub(1) {
+    match o.number().checked_sub(1) {
         None => Some(root),
         Some(at) => match objects.get(at as usize) {
-            Some(parent) => Some(parent.labels),
+            Some(row) => Some(row.labels),
             None => None,
         },
     }
@@ -96,9 +98,9 @@ fn labels_of_parent(
 
 /// Whether an object's security label dominates its parent's.
 fn is_compatible(root: ObjectLabels, objects: &[ObjectRow], o: &ObjectRow) -> bool
-    ensures { result ≡ security_fits (root ∷ map (λ row. row.labels) objects.now) o.now }
+    ensures { result ≡ security_fits (all_labels root objects.now) o.now }
 {
-    match labels_of_parent(root, objects, o) {
+    match labels_at(root, objects, o.parent) {
         Some(parent) => o.labels.security.dominates(&parent.security),
         None => false,
     }
@@ -106,9 +108,9 @@ fn is_compatible(root: ObjectLabels, objects: &[ObjectRow], o: &ObjectRow) -> bo
 
 /// Whether the integrity label of an object's parent dominates the object's.
 fn is_integrity_below(root: ObjectLabels, objects: &[ObjectRow], o: &ObjectRow) -> bool
-    ensures { result ≡ integrity_fits (root ∷ map (λ row. row.labels) objects.now) o.now }
+    ensures { result ≡ integrity_fits (all_labels root objects.now) o.now }
 {
-    match labels_of_parent(root, objects, o) {
+    match labels_at(root, objects, o.parent) {
         Some(parent) => parent.integrity.dominates(&o.labels.integrity),
         None => false,
     }
@@ -116,14 +118,14 @@ fn is_integrity_below(root: ObjectLabels, objects: &[ObjectRow], o: &ObjectRow) 
 
 /// Whether each object's security label dominates its parent's.
 fn are_compatible(root: ObjectLabels, objects: &[ObjectRow]) -> bool
-    ensures { result ≡ list_all (security_fits (root ∷ map (λ row. row.labels) objects.now)) objects.now }
+    ensures { result ≡ list_all (security_fits (all_labels root objects.now)) objects.now }
 {
     objects.iter().all(|o| is_compatible(root, objects, o))
 }
 
 /// Whether the integrity label of each object's parent dominates the object's.
 fn are_integrities_below(root: ObjectLabels, objects: &[ObjectRow]) -> bool
-    ensures { result ≡ list_all (integrity_fits (root ∷ map (λ row. row.labels) objects.now)) objects.now }
+    ensures { result ≡ list_all (integrity_fits (all_labels root objects.now)) objects.now }
 {
     objects.iter().all(|o| is_integrity_below(root, objects, o))
 }
@@ -161,9 +163,11 @@ impl<A: Allocator> StartBuilder<A> {
             && are_objects_within(security, integrity, &self.objects)
     }
 
-    /// The first fault that applies to what was given.
+    /// The first fault that applies to what was given, except that accesses aren't secure.
     pub(crate) fn fault(&self) -> Option<StartFault>
-        ensures { result ≡ start_fault self.now }
+        ensures fault { IfSome result (λ fault. start_fault self.now ≡ Some fault) }
+        ensures cells { IfNone result (IsTrue (has_known_accesses self.now)) }
+        ensures none { IfNone result (start_fault self.now ≡ access_fault self.now) }
     {
         let (subjects, objects) = (self.subjects.len(), self.objects.len());
         if subjects == 0 {
@@ -183,6 +187,8 @@ impl<A: Allocator> StartBuilder<A> {
         } else if !are_integrities_below(self.root, &self.objects) {
             Some(StartFault::IntegrityAboveParent)
         } else if !are_cells(subjects, objects + 1, &self.cells) {
+            Some(StartFault::NoSuchCell)
+        } else if !are_cells(subjects, objects + 1, &self.accesses) {
             Some(StartFault::NoSuchCell)
         } else {
             None

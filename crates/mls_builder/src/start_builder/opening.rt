@@ -1,8 +1,9 @@
 //! The state of the rows of a start.
-ghost use Rattle.std.specs.Prelude.{◌≡◌, ℕ, ◌<◌, ◌≤◌, ◌+◌, IsTrue, None, IfOk, OnOk, length};
+ghost use Rattle.std.specs.Prelude.{◌≡◌, ℕ, nat_lt, ◌≤◌, ◌+◌, IsTrue, None, IfOk, OnOk, All, length};
 ghost use Rattle.mls_tables.specs.declared.limits.TheConstants.{MAX_SUBJECTS, MAX_OBJECTS};
 ghost use Rattle.mls_state.specs.State.{is_active};
-ghost use Rattle.mls_builder.specs.Growing.{with_rows};
+ghost use Rattle.mls_state.specs.Properties.{is_known};
+ghost use Rattle.mls_builder.specs.Growing.{with_rows, with_cells_and_accesses};
 ghost use Rattle.mls_builder.specs.Rows.{opening, object_count};
 ghost use Rattle.mls_builder.specs.StartFaults.{parents_before, start_fault};
 
@@ -10,19 +11,36 @@ use crate::object_row::ObjectRow;
 use crate::start_builder::StartBuilder;
 use mls_labels::Bounds;
 use mls_state::State;
+use mls_tables::{Mode, ObjectId, SubjectId};
+use mls_tree::Profile;
 use std::alloc::{AllocError, Allocator};
 
 /// Adds some objects, each below one that is there when its turn comes.
-#[tactic(auto, using(crate::proofs::Opening::rows_left, crate::proofs::Opening::parents_left, crate::proofs::Opening::active_row))]
+#[tactic(auto, using(crate::proofs::Opening::rows_left, crate::proofs::Opening::parents_left))]
 fn add_objects<A: Allocator>(state: &mut State<A>, objects: &[ObjectRow]) -> Result<(), AllocError>
     requires room { state.old.next + length objects.now ≤ MAX_OBJECTS }
-    requires active { (o : ℕ) → o < state.old.next → IsTrue (is_active state.old o) }
+    requires active { (o : ℕ) → is_active state.old o ≡ nat_lt o state.old.next }
     requires parents { IsTrue (parents_before state.old.next objects.now) }
     ensures { OnOk result (state.new ≡ with_rows state.old objects.now) }
 {
     for object in objects {
         state.add_object(object.parent, object.labels)?;
     }
+    Ok(())
+}
+
+/// Puts some triples into the matrix and some into the current accesses.
+fn put_triples<A: Allocator>(
+    state: &mut State<A>,
+    cells: &[(SubjectId, ObjectId, Mode)],
+    accesses: &[(SubjectId, ObjectId, Mode)],
+) -> Result<(), AllocError>
+    requires cells { All (λ t. IsTrue (is_known state.old t)) cells.now }
+    requires accesses { All (λ t. IsTrue (is_known state.old t)) accesses.now }
+    ensures { OnOk result (state.new ≡ with_cells_and_accesses state.old cells.now accesses.now) }
+{
+    state.give_all(cells);
+    state.access_all(accesses)?;
     Ok(())
 }
 
@@ -41,6 +59,13 @@ impl<A: Allocator> StartBuilder<A> {
         ensures { result ≡ object_count self.now }
     {
         self.objects.len() as u16 + 1
+    }
+
+    /// Whether object numbers are used again.
+    pub(crate) fn profile(&self) -> Profile
+        ensures { result ≡ self.now.profile }
+    {
+        self.profile
     }
 
     /// The bounds of the security labels.
@@ -70,9 +95,10 @@ impl<A: Allocator + Clone> StartBuilder<A> {
             self.root,
             self.security,
             self.integrity,
+            self.profile,
         )?;
         add_objects(&mut state, &self.objects)?;
-        state.permit_all(&self.cells);
+        put_triples(&mut state, &self.cells, &self.accesses)?;
         Ok(state)
     }
 }

@@ -32,10 +32,12 @@ impl<'a> Feed for ScriptFeed<'a> {
         self.stage
     }
 
-    /// What the next line asks that asks something. The answers to the lines before it are kept. Nothing comes at the end of the script,
-    /// or once an allocation failed.
+    /// What the next line asks that asks something. The answers to the lines before it are kept. Nothing comes at the
+    /// end of the script, or once an allocation failed.
     fn next(&mut self) -> Option<Ask>
-        ensures some { IfSome result (λ _. (length self.new.rest < length self.old.rest) × (self.new.stage ≡ stage.Waiting) × (length self.new.asked ≡ 1)) }
+        ensures some { IfSome result
+            (λ _. (length self.new.rest < length self.old.rest) × (self.new.stage ≡ stage.Waiting)
+            × (length self.new.asked ≡ 1)) }
         ensures none { IfNone result ((length self.new.rest ≤ length self.old.rest) × (self.new.stage ≡ stage.Done)) }
         ensures given { Gives self.old result self.new }
         ensures failed { self.new.failed ≡ true → result ≡ None }
@@ -54,9 +56,12 @@ impl<'a> Feed for ScriptFeed<'a> {
         }
     }
 
-    /// What the next line asks that asks something, where no fault stands before it, nor a line that binds a variable: these wait for their turn.
+    /// What the next line asks that asks something, where no fault stands before it, nor a line that binds a variable:
+    /// these wait for their turn.
     fn ahead(&mut self) -> Option<Ask>
-        ensures some { IfSome result (λ ask. (length self.new.rest < length self.old.rest) × (self.new.stage ≡ stage.Waiting) × (length self.new.asked ≡ length self.old.asked + 1) × GivesAhead self.old ask self.new) }
+        ensures some { IfSome result
+            (λ ask. (length self.new.rest < length self.old.rest) × (self.new.stage ≡ stage.Waiting)
+            × (length self.new.asked ≡ length self.old.asked + 1) × GivesAhead self.old ask self.new) }
         ensures none { IfNone result (self.new ≡ self.old) }
     {
         if self.stage != Stage::Waiting || self.room.is_some() {
@@ -82,7 +87,8 @@ impl<'a> Feed for ScriptFeed<'a> {
     fn told(&mut self, answer: &Told)
         ensures left { length self.new.rest ≤ length self.old.rest }
         ensures ready { length self.old.asked ≤ 1 → self.new.stage ≡ stage.Ready }
-        ensures waits { 1 < length self.old.asked → (self.new.stage ≡ stage.Waiting) × (length self.new.asked + 1 ≡ length self.old.asked) }
+        ensures waits { 1 < length self.old.asked → (self.new.stage ≡ stage.Waiting)
+            × (length self.new.asked + 1 ≡ length self.old.asked) }
         ensures heard { Takes self.old answer.now self.new }
     {
         let heard = hear(self.asked.pop_front(), answer);

@@ -1,5 +1,6 @@
 //! What a session asks of the monitor: an entry, or whether a triple is a current access; waiting for the gate, or not.
-ghost use Rattle.std.specs.Prelude.{◌≡◌, ◌≢◌, ◌<◌, ◌≤◌, ◌∷◌, [], length, take, vec_len, vec_capacity, IfOk, IfErr, IsOk, OnOk, OnErr};
+ghost use Rattle.std.specs.Prelude.{◌≡◌, ◌≢◌, ◌<◌, ◌≤◌, ◌∷◌, [], length, take, vec_len, vec_capacity, IfOk, IfErr};
+ghost use Rattle.std.specs.Prelude.{IsOk, OnOk, OnErr};
 ghost use Rattle.std.specs.FinSet as set;
 ghost use Rattle.mls_monitor.specs.Journal.{fold};
 ghost use Rattle.mls_sessions.specs.Rule.{begun};
@@ -18,12 +19,12 @@ use std::alloc::AllocError;
 use std::sync::Wait;
 
 impl Session {
-    /// Waits for the gate, and makes one entry with this session's number: the history grows by what others added, and ends
-    /// with it.
+    /// Waits for the gate, and makes one entry with this session's number: the history grows by what others added, and
+    /// ends with it.
     ///
     /// # Errors
-    /// `AllocError` where an allocation failed; the session is then as before, the journal has no entry more, and the gate is
-    /// free.
+    /// `AllocError` where an allocation failed; the session is then as before, the journal has no entry more, and the
+    /// gate is free.
     pub fn submit<R: Wait>(
         &mut self,
         office: &Office,
@@ -52,8 +53,8 @@ impl Session {
     /// As [`submit`](Session::submit), but it doesn't wait.
     ///
     /// # Errors
-    /// `Busy` where another session held the gate, else `Memory` where an allocation failed; the session is then as before,
-    /// and the journal has no entry more. An office of one session is never busy.
+    /// `Busy` where another session held the gate, else `Memory` where an allocation failed; the session is then as
+    /// before, and the journal has no entry more. An office of one session is never busy.
     pub fn try_submit(&mut self, office: &Office, request: Request) -> Result<Entry, TryFault>
         requires { IsOf office.now self.old }
         ensures office { IsOf office.now self.new }
@@ -80,8 +81,9 @@ impl Session {
         }
     }
 
-    /// Waits for the gate, and returns whether the triple is a current access; false where it names an unknown subject or an
-    /// object that isn't active. The history grows by what others added, and the answer is that of the state which it led to.
+    /// Waits for the gate, and returns whether the triple is a current access; false where it names an unknown subject
+    /// or an object that isn't active. The history grows by what others added, and the answer is that of the state
+    /// which it led to.
     pub fn check<R: Wait>(
         &mut self,
         office: &Office,
@@ -94,7 +96,8 @@ impl Session {
         ensures office { IsOf office.now self.new }
         ensures number { number_of self.new.view ≡ number_of self.old.view }
         ensures seen { Sees office.now.charter self.old.view self.new.view }
-        ensures answer { let b = (fold (begun office.now.charter) (history self.new.view)).accesses in result ≡ set.contains b (s, o, x) }
+        ensures answer { let b = (fold (begun office.now.charter) (history self.new.view)).accesses in result
+            ≡ set.contains b (s, o, x) }
     {
         let gate = &office.table.shared;
         let number = self.number();
@@ -105,7 +108,8 @@ impl Session {
     /// As [`check`](Session::check), but it doesn't wait.
     ///
     /// # Errors
-    /// `Busy` where another session held the gate; the session is then as before. An office of one session is never busy.
+    /// `Busy` where another session held the gate; the session is then as before. An office of one session is never
+    /// busy.
     pub fn try_check(
         &mut self,
         office: &Office,
@@ -117,7 +121,9 @@ impl Session {
         ensures office { IsOf office.now self.new }
         ensures number { number_of self.new.view ≡ number_of self.old.view }
         ensures seen { IfOk result (λ _. Sees office.now.charter self.old.view self.new.view) }
-        ensures answer { let b = (fold (begun office.now.charter) (history self.new.view)).accesses in IfOk result (λ is_held. is_held ≡ set.contains b (s, o, x)) }
+        ensures answer { let b =
+            (fold (begun office.now.charter) (history self.new.view)).accesses in IfOk result
+            (λ is_held. is_held ≡ set.contains b (s, o, x)) }
         ensures busy { OnErr result (self.new ≡ self.old) }
         ensures alone { office.now.charter.count ≡ 1 → IsOk result }
     {
@@ -143,7 +149,8 @@ impl Session {
         requires { IsOf office.now self.old }
         ensures office { IsOf office.now self.new }
         ensures number { number_of self.new.view ≡ number_of self.old.view }
-        ensures ok { IfOk result (λ answer. Learns office.now.charter self.old.view (ask ∷ []) (answer ∷ []) self.new.view) }
+        ensures ok { IfOk result
+            (λ answer. Learns office.now.charter self.old.view (ask ∷ []) (answer ∷ []) self.new.view) }
         ensures err { OnErr result (self.new ≡ self.old) }
     {
         match ask {
@@ -170,7 +177,8 @@ impl Session {
         requires room { (answers.old.items ≡ []) × (length asks.now ≤ vec_capacity answers.old) }
         ensures office { IsOf office.now self.new }
         ensures number { number_of self.new.view ≡ number_of self.old.view }
-        ensures learns { Learns office.now.charter self.old.view (take (vec_len answers.new) asks.now) answers.new.items self.new.view }
+        ensures learns { Learns office.now.charter self.old.view
+            (take (vec_len answers.new) asks.now) answers.new.items self.new.view }
         ensures ok { OnOk result (vec_len answers.new ≡ length asks.now) }
         ensures err { OnErr result (vec_len answers.new < length asks.now) }
         ensures room { vec_capacity answers.old ≤ vec_capacity answers.new }

@@ -1,5 +1,6 @@
-//! The changes that rules make of a state, each of one part. They keep the tables in agreement and the objects a tree, and
-//! don't ask whether a change may be made. A monitor lends its state for reading alone, so that nobody else calls them.
+//! The changes that rules make of a state, each of one part. They keep the tables in agreement and the objects a tree,
+//! and don't ask whether a change may be made. A monitor lends its state for reading alone, so that nobody else calls
+//! them.
 ghost use Rattle.std.specs.Prelude.{◌≡◌, IsTrue, IfOk, OnOk, OnErr, not};
 ghost use Rattle.std.specs.FinSet as set;
 ghost use Rattle.mls_state.specs.State.{is_subject, is_active};
@@ -41,8 +42,8 @@ impl<A: Allocator> State<A> {
 
     /// Takes a triple out of the matrix and out of the current accesses: what a rescind changes. It doesn't ask who
     /// controls the object.
-    #[tactic(auto, using(crate::proofs::Tables::access_row, crate::proofs::Tables::access_column, crate::proofs::Tables::matrix_row, crate::proofs::Tables::matrix_column, crate::proofs::Changes::agrees_forbidden))]
-    pub fn forbid(&mut self, s: SubjectId, o: ObjectId, x: Mode)
+    #[tactic(auto, using(crate::proofs::Tables::access_row, crate::proofs::Tables::access_column, crate::proofs::Tables::matrix_row, crate::proofs::Tables::matrix_column, crate::proofs::Changes::agrees_rescinded))]
+    pub fn rescind(&mut self, s: SubjectId, o: ObjectId, x: Mode)
         requires subject { IsTrue (is_subject self.old s) }
         requires object { IsTrue (is_active self.old o) }
         ensures { self.new ≡ record self.old {

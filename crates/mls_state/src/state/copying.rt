@@ -1,16 +1,14 @@
 //! The first state of some subjects and the root, and copies of states.
 ghost use Rattle.std.specs.Prelude.{◌≡◌, ◌≤◌, IfOk, length, [], ◌∷◌};
 ghost use Rattle.std.specs.FinSet as set;
-ghost use Rattle.std.specs.FinMap as map;
 ghost use Rattle.mls_tables.specs.declared.limits.TheConstants.{MAX_SUBJECTS};
-ghost use Rattle.mls_tree.specs.Tree.{IsTree, is_active};
 ghost use Rattle.mls_state.specs.First.{first_state};
 
 use crate::state::State;
 use crate::subject::{ObjectLabels, Subject};
 use mls_labels::Bounds;
 use mls_tables::{AccessSet, Matrix};
-use mls_tree::Tree;
+use mls_tree::{Profile, Tree};
 use std::alloc::{AllocError, Allocator};
 
 /// What is known of some subjects and the labels of some objects, copied.
@@ -47,7 +45,8 @@ fn first_tables<A: Allocator + Clone>(
     requires some { 1 ≤ count }
     requires few { count ≤ MAX_SUBJECTS }
     ensures matrix { IfOk result (λ tables. tables.0 ≡ record { subjects = count; columns = 1; triples = set.empty }) }
-    ensures accesses { IfOk result (λ tables. tables.1 ≡ record { subjects = count; columns = 1; triples = set.empty }) }
+    ensures accesses { IfOk result
+        (λ tables. tables.1 ≡ record { subjects = count; columns = 1; triples = set.empty }) }
 {
     let mut matrix = Matrix::new(alloc.clone()?, count);
     matrix.add_object()?;
@@ -68,20 +67,10 @@ fn first_rows<A: Allocator + Clone>(
     copy_rows(alloc, subjects, &[root])
 }
 
-/// The tree of the root alone.
-fn first_tree<A: Allocator + Clone>(alloc: &A) -> Result<Tree<A>, AllocError>
-    ensures root { IfOk result (λ tree. tree ≡ record { parent = map.empty; next = 1 }) }
-    ensures tree { IfOk result (λ tree. IsTree tree.parent (is_active tree.parent) tree.next) }
-{
-    let tree = Tree::new(alloc.clone()?)?;
-    // that the root alone is a tree
-    let _ = tree.next();
-    Ok(tree)
-}
-
 impl<A: Allocator + Clone> State<A> {
-    /// A state of these subjects and the root, in which nothing is permitted and nothing accessed: the subjects have their
-    /// places as numbers, from 0. It doesn't ask whether the labels are within the bounds.
+    /// A state of these subjects and the root, in which nothing is permitted and nothing accessed: the subjects have
+    /// their places as numbers, from 0. It doesn't ask whether the labels are within the bounds. The profile says
+    /// whether object numbers are used again.
     ///
     /// # Errors
     /// `AllocError` where an allocation failed.
@@ -91,14 +80,15 @@ impl<A: Allocator + Clone> State<A> {
         root: ObjectLabels,
         security: Bounds,
         integrity: Bounds,
+        profile: Profile,
     ) -> Result<State<A>, AllocError>
         requires some { 1 ≤ length subjects.now }
         requires few { length subjects.now ≤ MAX_SUBJECTS }
-        ensures { IfOk result (λ v. v ≡ first_state subjects.now root security integrity) }
+        ensures { IfOk result (λ v. v ≡ first_state subjects.now root security integrity profile) }
     {
         let rows = first_rows(&alloc, subjects, root)?;
         let tables = first_tables(&alloc, subjects.len() as u16)?;
-        let tree = first_tree(&alloc)?;
+        let tree = Tree::new(alloc.clone()?, profile)?;
         let group = Vec::new(alloc);
         Ok(State {
             subjects: rows.0,

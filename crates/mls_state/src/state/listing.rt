@@ -13,7 +13,7 @@ impl<A: Allocator> State<A> {
     /// The children of an active object, ascending.
     pub fn children(&self, o: ObjectId) -> &[ObjectId]
         requires { IsTrue (is_active self.now o) }
-        ensures list { result.now ≡ children (record { parent = self.now.parent; next = self.now.next }) o }
+        ensures list { result.now ≡ children self.now.parent o }
         ensures active { All (λ c. IsTrue (is_active self.now c)) result.now }
     {
         self.tree.children(o)

@@ -1,15 +1,15 @@
 //! Objects and cells that join a state.
 ghost use Rattle.std.specs.Prelude.{◌≡◌, ◌<◌, ◌≤◌, ◌+◌, IsTrue, OnOk, OnErr, All};
 ghost use Rattle.std.specs.FinSet as set;
-ghost use Rattle.std.specs.FinMap as map;
 ghost use Rattle.mls_tables.specs.declared.limits.TheConstants.{MAX_OBJECTS};
 ghost use Rattle.mls_state.specs.State.{is_subject, is_active};
 ghost use Rattle.mls_state.specs.Properties.{is_known};
+ghost use Rattle.mls_state.specs.Changes.{with_object};
 ghost use Rattle.mls_state.specs.First.{with_triples, SameCells};
 
 use crate::state::State;
 use crate::subject::ObjectLabels;
-use mls_tables::{AccessSet, Matrix, Mode, ObjectId, SubjectId};
+use mls_tables::{AccessSet, Matrix, Mode, ObjectId, SubjectId, put_at};
 use std::alloc::{AllocError, Allocator};
 
 /// Sees that the matrix has a column for the next object.
@@ -39,21 +39,17 @@ fn widen_accesses<A: Allocator>(accesses: &mut AccessSet<A>, next: u16) -> Resul
 }
 
 impl<A: Allocator> State<A> {
-    /// Adds an object with the next number below an active parent: what a creation changes. It doesn't ask whether the
+    /// Adds an object with the next number below an active parent: what a creation changes. Where the number was used
+    /// before, nothing of the old object is left. It doesn't ask whether the
     /// labels fit, nor whether they are within the bounds.
     ///
     /// # Errors
     /// `AllocError` where an allocation failed; no read then tells the state from what it was.
-    #[tactic(auto, using(crate::proofs::Tables::in_the_tree, crate::proofs::Growing::add_object_steps))]
+    #[tactic(auto, using(crate::proofs::Tables::in_the_tree))]
     pub fn add_object(&mut self, parent: ObjectId, labels: ObjectLabels) -> Result<(), AllocError>
         requires room { self.old.next < MAX_OBJECTS }
         requires parent { IsTrue (is_active self.old parent) }
-        ensures ok { OnOk result (self.new ≡ record self.old {
-          object_label = map.insert self.old.object_label self.old.next labels.security;
-          object_integrity = map.insert self.old.object_integrity self.old.next labels.integrity;
-          parent = map.insert self.old.parent self.old.next parent;
-          next = self.old.next + 1;
-        }) }
+        ensures ok { OnOk result (self.new ≡ with_object self.old parent labels.security labels.integrity) }
         ensures err { OnErr result (self.new ≡ self.old) }
     {
         let next = self.next();
@@ -63,15 +59,14 @@ impl<A: Allocator> State<A> {
         let Ok(_) = self.tree.add(parent) else {
             return Err(AllocError);
         };
-        self.objects.push_reserved(labels);
-        // that the objects are a tree with the new one
-        let _ = self.tree.next();
+        put_at(&mut self.objects, next as usize, labels);
+        self.tree.agrees();
         Ok(())
     }
 
-    /// Permits a triple: what a give changes. It doesn't ask who controls the object.
-    #[tactic(auto, using(crate::proofs::Tables::matrix_row, crate::proofs::Tables::matrix_column, crate::proofs::Changes::agrees_permitted))]
-    pub fn permit(&mut self, s: SubjectId, o: ObjectId, x: Mode)
+    /// Puts a triple into the matrix: what a give changes. It doesn't ask who controls the object.
+    #[tactic(auto, using(crate::proofs::Tables::matrix_row, crate::proofs::Tables::matrix_column, crate::proofs::Changes::agrees_given))]
+    pub fn give(&mut self, s: SubjectId, o: ObjectId, x: Mode)
         requires subject { IsTrue (is_subject self.old s) }
         requires object { IsTrue (is_active self.old o) }
         ensures { self.new ≡ record self.old { matrix = set.insert self.old.matrix (s, o, x) } }
@@ -79,13 +74,28 @@ impl<A: Allocator> State<A> {
         self.matrix.give(s, o, x);
     }
 
-    /// Permits some triples. It doesn't ask who controls their objects.
-    pub fn permit_all(&mut self, cells: &[(SubjectId, ObjectId, Mode)])
+    /// Puts some triples into the matrix. It doesn't ask who controls their objects.
+    pub fn give_all(&mut self, cells: &[(SubjectId, ObjectId, Mode)])
         requires { All (λ t. IsTrue (is_known self.old t)) cells.now }
         ensures { self.new ≡ record self.old { matrix = with_triples self.old.matrix cells.now } }
     {
         for cell in cells {
-            self.permit(cell.0, cell.1, cell.2);
+            self.give(cell.0, cell.1, cell.2);
         }
+    }
+
+    /// Adds some current accesses. It doesn't ask whether they may be had.
+    ///
+    /// # Errors
+    /// `AllocError` where an allocation failed; some of the accesses may then be there, and all else is as before.
+    pub fn access_all(&mut self, triples: &[(SubjectId, ObjectId, Mode)]) -> Result<(), AllocError>
+        requires { All (λ t. IsTrue (is_known self.old t)) triples.now }
+        ensures ok { OnOk result (self.new.accesses ≡ with_triples self.old.accesses triples.now) }
+        ensures rest { self.new ≡ record self.old { accesses = self.new.accesses } }
+    {
+        for triple in triples {
+            self.put_access(triple.0, triple.1, triple.2)?;
+        }
+        Ok(())
     }
 }

@@ -1,11 +1,11 @@
 //! Taking objects out of a state.
-ghost use Rattle.std.specs.Prelude.{◌≡◌, ◌≢◌, ◌≤◌, IsTrue, OnOk, OnErr, not};
+ghost use Rattle.std.specs.Prelude.{◌≡◌, ◌≢◌, ℕ, ◌<◌, IsTrue, OnOk, OnErr, not};
 ghost use Rattle.std.specs.FinMap as map;
 ghost use Rattle.mls_tables.specs.Table.{without_objects};
 ghost use Rattle.mls_tree.specs.Tree as hierarchy;
-ghost use Rattle.mls_tree.specs.Tree.{IsTree, is_inferior, inferiors};
+ghost use Rattle.mls_tree.specs.Tree.{IsTree, is_inferior, inferiors, with_parents};
 ghost use Rattle.mls_state.specs.State.{is_active};
-ghost use Rattle.mls_state.specs.Changes.{with_objects, stays};
+ghost use Rattle.mls_state.specs.Changes.{without_group};
 
 use crate::state::State;
 use mls_tables::{AccessSet, Matrix, ObjectId};
@@ -14,7 +14,6 @@ use std::alloc::{AllocError, Allocator};
 
 /// Takes an object that isn't the root and all below it out of the tree, and the triples that name them out of both
 /// tables; the list is room for their numbers.
-#[tactic(auto, using(mls_tree::proofs::Laws::inferiors_below, crate::proofs::Removing::ascending_inferiors))]
 fn take_out<A: Allocator>(
     o: ObjectId,
     group: &mut Vec<ObjectId, A>,
@@ -22,18 +21,18 @@ fn take_out<A: Allocator>(
     matrix: &mut Matrix<A>,
     accesses: &mut AccessSet<A>,
 ) -> Result<(), AllocError>
-    requires tree { IsTree tree.old.parent (hierarchy.is_active tree.old.parent) tree.old.next }
+    requires tree { IsTree tree.old.parent (hierarchy.is_active tree.old.parent) }
     requires object { IsTrue (hierarchy.is_active tree.old.parent o) }
     requires other { o ≢ 0 }
-    requires columns { tree.old.next ≤ matrix.old.columns }
-    ensures tree { OnOk result (tree.new ≡ record tree.old {
-      parent = map.retain_keys tree.old.parent (λ x. not (is_inferior tree.old.parent x o));
-    }) }
+    requires columns { (x : ℕ) → IsTrue (hierarchy.is_active tree.old.parent x) → x < matrix.old.columns }
+    ensures tree { OnOk result (tree.new ≡
+        with_parents tree.old
+        (map.retain_keys tree.old.parent (λ x. not (is_inferior tree.old.parent x o))) tree.old.next) }
     ensures matrix { OnOk result (matrix.new ≡ record matrix.old {
-      triples = without_objects matrix.old.triples (inferiors tree.old o);
+      triples = without_objects matrix.old.triples (inferiors tree.old.parent o);
     }) }
     ensures accesses { OnOk result (accesses.new ≡ record accesses.old {
-      triples = without_objects accesses.old.triples (inferiors tree.old o);
+      triples = without_objects accesses.old.triples (inferiors tree.old.parent o);
     }) }
     ensures same_tree { OnErr result (tree.new ≡ tree.old) }
     ensures same_matrix { OnErr result (matrix.new ≡ matrix.old) }
@@ -55,7 +54,7 @@ impl<A: Allocator> State<A> {
     pub fn remove_object(&mut self, o: ObjectId) -> Result<(), AllocError>
         requires object { IsTrue (is_active self.old o) }
         requires other { o ≢ 0 }
-        ensures ok { OnOk result (self.new ≡ with_objects self.old (stays self.old o)) }
+        ensures ok { OnOk result (self.new ≡ without_group self.old o) }
         ensures err { OnErr result (self.new ≡ self.old) }
     {
         take_out(
@@ -65,8 +64,7 @@ impl<A: Allocator> State<A> {
             &mut self.matrix,
             &mut self.accesses,
         )?;
-        // that what is left is a tree
-        let _ = self.tree.next();
+        self.tree.agrees();
         Ok(())
     }
 }

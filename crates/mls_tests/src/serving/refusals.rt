@@ -1,13 +1,14 @@
 //! Each allocation refused in turn: the lines before are answered, and the rest of the script then as ever.
-use super::lines::{after_lines, count_lines};
-use super::streams::Pieces;
-use super::{Left, entries_of_seven};
+use super::lines::{after_lines, count_lines, first_lines};
+use super::streams::{Pieces, Sink};
+use super::{Left, WIDE, entries_of_seven};
 use crate::standard::standard_monitor;
 use mls_lines::Names;
 use mls_monitor::Monitor;
 use mls_scripts::{ServeFault, serve};
 use refusing::Refusing;
 use std::alloc::Global;
+use std::cell::Cell;
 use std::process::Abort;
 
 /// A script of eight lines, six of which ask for an entry, and the last binds a variable.
@@ -21,20 +22,20 @@ const EIGHT_ANSWERS: &[u8] = b"yes\nno star\nheld\nbad form\nyes\nyes\nyes\ncrea
 /// How many entries stand after so many of its lines.
 const EIGHT_ENTRIES: [usize; 9] = [0, 1, 2, 2, 2, 3, 4, 5, 6];
 
-/// Serves what `written` doesn't answer yet of the script of eight lines.
+/// Serves what the writer holds no answer to yet of the script of eight lines.
 fn run_rest(
     heap: &Refusing<Global>,
     names: &Names<Global>,
     monitor: &mut Monitor<&Refusing<Global>>,
-    written: &mut Vec<u8>,
+    writer: &mut Sink<'_>,
 ) -> Left {
     let mut reader = Pieces {
-        bytes: after_lines(EIGHT, count_lines(written)),
+        bytes: after_lines(EIGHT, count_lines(&writer.taken)),
         most: 11,
         fails: false,
         calls: 0,
     };
-    let result = serve(heap, names, monitor, 7, &mut reader, written);
+    let result = serve(heap, names, monitor, 7, &mut reader, writer);
     let entries = entries_of_seven(monitor.entries());
     Left { result, entries }
 }
@@ -49,30 +50,32 @@ enum Asked {
 
 /// Serves the script over a monitor, whatever is refused, and then what isn't answered: says whether one of these
 /// allocations was refused, and whether all is as it must be. Where none was, the script is answered whole. Else just
-/// the answers of the lines before were written, the entries are just theirs, and the rest is then answered as in a run
-/// that met no refusal.
+/// the answers of the lines before were written and flushed, the entries are just theirs, and the rest is then answered
+/// as in a run that met no refusal.
 fn serves(
     heap: &Refusing<Global>,
     names: &Names<Global>,
     monitor: &mut Monitor<&Refusing<Global>>,
-    written: &mut Vec<u8>,
+    writer: &mut Sink<'_>,
 ) -> (Asked, bool) {
-    let first = run_rest(heap, names, monitor, written);
+    let first = run_rest(heap, names, monitor, writer);
     if !heap.has_refused() {
         let is_whole = first.result == Ok(6) && first.entries == 6;
         return (
             Asked::Nowhere,
-            is_whole && written.as_slice() == EIGHT_ANSWERS,
+            is_whole && writer.has_flushed(EIGHT_ANSWERS),
         );
     }
-    let added = EIGHT_ENTRIES.get(count_lines(written)).copied();
-    let is_front = EIGHT_ANSWERS.starts_with(written) && added == Some(first.entries);
-    let second = run_rest(heap, names, monitor, written);
+    let lines = count_lines(&writer.taken);
+    let answers = first_lines(EIGHT_ANSWERS, lines);
+    let added = EIGHT_ENTRIES.get(lines).copied();
+    let is_front = writer.has_flushed(answers) && added == Some(first.entries);
+    let second = run_rest(heap, names, monitor, writer);
     let is_whole = second.result.is_ok() && second.entries == 6;
     let is_right = first.result == Err(ServeFault::Memory) && is_front && is_whole;
     (
         Asked::Serving,
-        is_right && written.as_slice() == EIGHT_ANSWERS,
+        is_right && writer.has_flushed(EIGHT_ANSWERS),
     )
 }
 
@@ -80,12 +83,12 @@ fn serves(
 fn opens_and_serves(
     heap: &Refusing<Global>,
     names: &Names<Global>,
-    written: &mut Vec<u8>,
+    writer: &mut Sink<'_>,
 ) -> (Asked, bool) {
     let Ok(mut monitor) = standard_monitor(heap) else {
         return (Asked::Opening, true);
     };
-    let served = serves(heap, names, &mut monitor, written);
+    let served = serves(heap, names, &mut monitor, writer);
     drop(monitor);
     served
 }
@@ -93,8 +96,9 @@ fn opens_and_serves(
 /// Where the allocation of this number is asked for, and whether all is as it must be.
 fn refuses(alloc: Global, names: &Names<Global>, number: u64) -> (Asked, bool) {
     let heap = Refusing::new(alloc, number);
-    let mut written = Vec::new(alloc);
-    opens_and_serves(&heap, names, &mut written)
+    let flushed = Cell::new(0);
+    let mut writer = Sink::new(alloc, WIDE, &flushed);
+    opens_and_serves(&heap, names, &mut writer)
 }
 
 /// Refuses each allocation in turn, asserts that all is as it must be, and says how often one of serving was refused.

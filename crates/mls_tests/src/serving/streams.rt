@@ -54,6 +54,11 @@ impl<'c> Sink<'c> {
             flushed,
         }
     }
+
+    /// Whether just these bytes were taken, and all of them flushed.
+    pub fn has_flushed(&self, bytes: &[u8]) -> bool {
+        self.taken.as_slice() == bytes && self.flushed.get() == bytes.len()
+    }
 }
 
 impl Write for Sink<'_> {

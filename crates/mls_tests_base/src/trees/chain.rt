@@ -3,7 +3,7 @@ use super::steps::Step;
 use super::{add, is_there, look, remove};
 use crate::seen::sees;
 use mls_tables::ObjectId;
-use mls_tree::{Tree, TreeFault};
+use mls_tree::{Profile, Tree, TreeFault};
 use std::alloc::{AllocError, Global};
 use std::process::Abort;
 use std::test::Fail;
@@ -58,9 +58,28 @@ fn fill_and_cut(rt: &impl Abort, alloc: Global, tree: &mut Tree<Global>) -> Resu
 
 #[test]
 fn a_chain_of_all_numbers(rt: HostRuntime) -> Result<(), Fail> {
-    let mut tree = Tree::new(rt.alloc())?;
+    let mut tree = Tree::new(rt.alloc(), Profile::One)?;
     let cut = fill_and_cut(&rt, rt.alloc(), &mut tree);
     drop(tree);
     cut?;
+    Ok(())
+}
+
+/// Fills a tree with a chain and takes it out; its numbers are given again.
+fn fill_again(rt: &impl Abort, alloc: Global, tree: &mut Tree<Global>) -> Result<(), AllocError> {
+    fill(rt, tree)?;
+    remove(rt, tree, alloc, 4000)?;
+    add(rt, tree, 1, 4000)?;
+    remove(rt, tree, alloc, 1)?;
+    sees(rt, tree.next() == 1, "the least number");
+    fill(rt, tree)
+}
+
+#[test]
+fn a_chain_is_made_again(rt: HostRuntime) -> Result<(), Fail> {
+    let mut tree = Tree::new(rt.alloc(), Profile::Two)?;
+    let again = fill_again(&rt, rt.alloc(), &mut tree);
+    drop(tree);
+    again?;
     Ok(())
 }

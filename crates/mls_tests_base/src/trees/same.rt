@@ -23,7 +23,7 @@ fn same_object<A: Allocator>(rt: &impl Abort, tree: &Tree<A>, wanted: &Tree, n: 
 pub fn same_trees<A: Allocator>(rt: &impl Abort, tree: &Tree<A>, wanted: &Tree) {
     sees(rt, tree.next() == wanted.next(), "the next number");
     // the next number is no object's yet
-    for n in 0..tree.next().saturating_add(1) {
+    for n in 0..tree.places().saturating_add(1) {
         same_object(rt, tree, wanted, n);
     }
 }

@@ -1,4 +1,5 @@
 //! Tables of steps on trees.
+use crate::beside::Row;
 
 /// What a test does to a tree, or sees of it.
 pub enum Step {
@@ -16,15 +17,9 @@ pub enum Step {
     Below(u16, u16),
 }
 
-/// What is done to a tree, what is done to it after a copy was made, and what is seen of the copy after that.
-pub struct Row {
-    pub before: &'static [Step],
-    pub after: &'static [Step],
-    pub copied: &'static [Step],
-}
-
 /// A tree from which one of two branches is taken out.
-pub const WORKED: Row = Row {
+pub const WORKED: Row<'static, Step> = Row {
+    times: 1,
     before: &[
         Step::Add(0, 1),
         Step::Add(1, 2),
@@ -44,7 +39,8 @@ pub const WORKED: Row = Row {
 };
 
 /// A tree from which a branch of five is taken out.
-pub const BRANCHED: Row = Row {
+pub const BRANCHED: Row<'static, Step> = Row {
+    times: 1,
     before: &[
         Step::Add(0, 1),
         Step::Add(0, 2),
@@ -62,4 +58,32 @@ pub const BRANCHED: Row = Row {
         Step::Add(4, 8),
     ],
     copied: &[Step::Children(1, &[3, 5, 7])],
+};
+
+/// A tree of profile 2 from which a branch of three is taken out. Its numbers are given again, the least first, also
+/// below an object with a larger one, and hold nothing of what they were.
+pub const REUSED: Row<'static, Step> = Row {
+    times: 1,
+    before: &[
+        Step::Add(0, 1),
+        Step::Add(1, 2),
+        Step::Add(2, 3),
+        Step::Add(0, 4),
+        Step::Group(1, &[1, 2, 3]),
+    ],
+    after: &[
+        Step::Remove(1),
+        Step::Gone(1),
+        Step::Gone(3),
+        Step::Add(4, 1),
+        Step::Below(1, 4),
+        Step::Children(1, &[]),
+        Step::Add(0, 2),
+        Step::Children(0, &[2, 4]),
+        Step::Add(0, 3),
+        Step::Add(0, 5),
+        Step::Children(0, &[2, 3, 4, 5]),
+        Step::Group(4, &[1, 4]),
+    ],
+    copied: &[Step::Children(0, &[1, 4]), Step::Children(1, &[2])],
 };

@@ -12,7 +12,7 @@ use std::test::Fail;
 const ROOT: ObjectId = ObjectId(0);
 
 /// The faults in their order.
-const FAULTS: [StartFault; 9] = [
+const FAULTS: [StartFault; 10] = [
     StartFault::NoSubjects,
     StartFault::TooManySubjects,
     StartFault::TooManyObjects,
@@ -22,6 +22,7 @@ const FAULTS: [StartFault; 9] = [
     StartFault::NotCompatible,
     StartFault::IntegrityAboveParent,
     StartFault::NoSuchCell,
+    StartFault::NotSecure,
 ];
 
 /// Gives so many subjects C, C, lo.
@@ -53,6 +54,7 @@ fn add_wrong(builder: &mut StartBuilder<Global>, fault: StartFault) -> Result<()
         StartFault::NotCompatible => builder.object(ROOT, security(0, 0), low),
         StartFault::IntegrityAboveParent => builder.object(ROOT, label, integrity(1)),
         StartFault::NoSuchCell => builder.allow(SubjectId(300), ROOT, Mode::Read),
+        StartFault::NotSecure => builder.access(SubjectId(0), ROOT, Mode::Read),
     }
 }
 
@@ -72,7 +74,7 @@ fn add_worked(builder: &mut StartBuilder<Global>, fault: StartFault) -> Result<(
             builder.object(ROOT, open, low)?;
             builder.object(ObjectId(1), open, high)
         }
-        StartFault::NoSuchCell => builder.allow(SubjectId(9), ROOT, Mode::Read),
+        StartFault::NoSuchCell => builder.access(SubjectId(9), ROOT, Mode::Read),
         other => add_wrong(builder, other),
     }
 }

@@ -1,6 +1,6 @@
 use Rattle.std.proofs.Common.{ap}
 use Rattle.std.specs.FinMap as map
-use Rattle.mls_laws.proofs.Kept.{Fixed, fold_fixed}
+use Rattle.mls_laws.proofs.Kept.{Fixed, fold_fixed, fold_profile}
 use Rattle.mls_laws.proofs.unchanging.what_subjects_may_never_changes.Goals as goal
 
 pub returns : goal.returns
@@ -11,4 +11,5 @@ returns c = record {
   trusted = λ v entries. ap (λ (f : Fixed). f.2) (fold_fixed v entries);
   security_bounds = λ v entries. ap (λ (f : Fixed). f.3) (fold_fixed v entries);
   integrity_bounds = λ v entries. ap (λ (f : Fixed). f.4) (fold_fixed v entries);
+  profile = fold_profile;
 }

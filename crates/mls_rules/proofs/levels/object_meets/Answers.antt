@@ -3,7 +3,7 @@ use Rattle.mls_rules.proofs.LevelTests.{none_of_object, column_fails, column_all
 use Rattle.mls_rules.proofs.levels.object_meets.Goals as goal
 
 pub returns-then-not-is_active : goal.returns-then-not-is_active
-returns-then-not-is_active g c = sym (none_of_object c.args.state.now c.args.o (g.D.Demand.asked c.args.demand c.args.state.now) c.next.ensures.tree.accesses_known (sym c.if-not-is_active.ensures))
+returns-then-not-is_active g c = sym (none_of_object c.args.state.now c.args.o (g.D.Demand.asked c.args.demand c.args.state.now) c.agrees.ensures.tree.accesses_known (sym c.if-not-is_active.ensures))
 
 pub returns-then-not-cell_meets : goal.returns-then-not-cell_meets
 returns-then-not-cell_meets g c =

@@ -3,7 +3,7 @@ use Rattle.mls_rules.proofs.LevelTests.{none_of_subject, row_fails, row_all}
 use Rattle.mls_rules.proofs.levels.subject_meets.Goals as goal
 
 pub returns-then-not-is_subject : goal.returns-then-not-is_subject
-returns-then-not-is_subject g c = sym (none_of_subject c.args.state.now c.args.s (g.D.Demand.asked c.args.demand c.args.state.now) c.next.ensures.tree.accesses_known (sym c.if-not-is_subject.ensures))
+returns-then-not-is_subject g c = sym (none_of_subject c.args.state.now c.args.s (g.D.Demand.asked c.args.demand c.args.state.now) c.agrees.ensures.tree.accesses_known (sym c.if-not-is_subject.ensures))
 
 pub returns-then-not-cell_meets : goal.returns-then-not-cell_meets
 returns-then-not-cell_meets g c =

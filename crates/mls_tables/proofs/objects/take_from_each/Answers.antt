@@ -5,6 +5,11 @@ use Rattle.mls_tables.specs.Rows.{TakenOut}
 use Rattle.mls_tables.proofs.Indexes.{taken_more}
 use Rattle.mls_tables.proofs.objects.take_from_each.Goals as goal
 
+pub take_object-requires-clause-told : goal.take_object-requires-clause-told
+take_object-requires-clause-told g c =
+    let told = c.requires.told in
+    record { relation = _; bound = told.bound; rows = c.loop-s.invariant.taken.told told.relation told.bound told.rows }
+
 pub loop-s-preserved : goal.loop-s-preserved
 loop-s-preserved g c = record {
   many = c.take_object.ensures.many ∙ c.loop-s.invariant.many;

@@ -3,4 +3,4 @@ use Rattle.mls_tree.proofs.Inferiors.{is_inferior-Reaches}
 use Rattle.mls_tree.proofs.reach.inferiors_reach.Goals as goal
 
 pub returns : goal.returns
-returns c parent next tree o a = is_inferior-Reaches parent (is_active parent) next tree o a
+returns c parent tree o a = is_inferior-Reaches parent (is_active parent) tree o a

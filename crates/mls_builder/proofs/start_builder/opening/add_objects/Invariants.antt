@@ -1,4 +1,4 @@
-use Rattle.std.proofs.Common.{◌≡◌, ℕ, ◌+◌, ◌<◌, true, drop}
+use Rattle.std.proofs.Common.{◌≡◌, ℕ, ◌+◌, true, nat_lt, drop}
 use Rattle.mls_state.specs.State.{is_active}
 use Rattle.mls_builder.specs.Growing.{with_rows}
 use Rattle.mls_builder.specs.StartFaults.{parents_before}
@@ -9,6 +9,6 @@ abbrev pub invariant-loop-object : goal.invariant-loop-object
 invariant-loop-object g l = record {
   rows : with_rows l.state (drop l.object-index l.objects) ≡ with_rows l.fn.state l.objects;
   next : l.state.next ≡ l.fn.state.next + l.object-index;
-  active : (o : ℕ) → o < l.state.next → is_active l.state o ≡ true;
+  active : (o : ℕ) → is_active l.state o ≡ nat_lt o l.state.next;
   parents : parents_before l.state.next (drop l.object-index l.objects) ≡ true;
 }

@@ -1,16 +1,14 @@
-use Rattle.std.proofs.Common.{sym, ap, ◌∙◌, ◌<◌, arith}
-use Rattle.mls_labels.specs.CategoryBits.{categories_of}
-use Rattle.mls_labels.proofs.CategoryWords.{empty_word}
-use Rattle.mls_labels.proofs.Numbers.{ascending-lowest}
+use Rattle.std.proofs.Common.{sym, ◌∙◌}
+use Rattle.mls_labels.proofs.CategoryWords.{none_words}
+use Rattle.mls_labels.proofs.Numbers.{ascending-first}
 use Rattle.mls_labels.proofs.cat_set.CatSet.pop_first.Goals as goal
 
-pub returns-then-bits-eq0-clause-none : goal.returns-then-bits-eq0-clause-none
-returns-then-bits-eq0-clause-none c = sym c.self.view_is ∙ ap categories_of c.if-bits-eq0.true ∙ empty_word
+pub returns-in_default-clause-none : goal.returns-in_default-clause-none
+returns-in_default-clause-none c = sym c.self.view_is ∙ none_words c.self.inside.words c.in_default.ensures.none
 
-pub returns-then-bits-eq0-clause-empty : goal.returns-then-bits-eq0-clause-empty
-returns-then-bits-eq0-clause-empty c = sym c.self.view_is ∙ ap categories_of c.if-bits-eq0.true ∙ empty_word
+pub returns-in_default-clause-empty : goal.returns-in_default-clause-empty
+returns-in_default-clause-empty c = sym c.self.view_is ∙ none_words c.self.inside.words c.in_default.ensures.none
 
 pub returns-clause-first : goal.returns-clause-first
 returns-clause-first c =
-    let some : 0 < c.self.inside.bits = omega (arith, c.if-bits-eq0.false) in
-    rw (← c.self.view_is) (ascending-lowest c.self.inside.bits some c.self.invariant)
+    rw (c.put-self-inside.ensures, c.word-word.ensures, ← c.self.view_is) (ascending-first c.self.inside.words c.in-Some.place c.in-Some.ensures.first c.self.invariant)

@@ -12,9 +12,9 @@ children-requires g c = sym (active-tree c.self.inside c.self.invariant c.args.o
 
 pub returns-clause-active : goal.returns-clause-active
 returns-clause-active g c = rw (c.children.ensures, ← c.self.view_is) (λ k d within.
-    let h = c.self.inside.tree in
+    let m = c.self.inside.tree.parent in
     let tree = c.self.invariant.tree in
-    let x : ℕ = get_or (children h c.args.o) k d in
-    let listed : list_any (eqb x) (children h c.args.o) ≡ true = list_any_at (eqb x) (children h c.args.o) k d within (eq-eqb x x refl) in
-    let step = parent_from_child h.parent x c.args.o (sym (list_any-children h tree x c.args.o) ∙ listed) in
+    let x : ℕ = get_or (children m c.args.o) k d in
+    let listed : list_any (eqb x) (children m c.args.o) ≡ true = list_any_at (eqb x) (children m c.args.o) k d within (eq-eqb x x refl) in
+    let step = parent_from_child m x c.args.o (sym (list_any-children m tree x c.args.o) ∙ listed) in
     active-tree c.self.inside c.self.invariant x ∙ (tree.children_active x c.args.o step).0)

@@ -1,6 +1,6 @@
-use Rattle.std.proofs.Common.{◌∙◌, ap, refl, sym}
+use Rattle.std.proofs.Common.{◌<◌, ◌≤◌, length, ◌∙◌, ap, refl, sym, arith}
 use Rattle.mls_state.specs.State.{State}
-use Rattle.mls_state.specs.Changes.{with_objects, stays}
+use Rattle.mls_state.specs.Changes.{without_group}
 use Rattle.mls_state.proofs.Copies.{agrees-same}
 use Rattle.mls_state.proofs.Tables.{active-tree}
 use Rattle.mls_state.proofs.Removing.{state-removed, agrees-removed}
@@ -13,7 +13,10 @@ pub take_out-requires-clause-object : goal.take_out-requires-clause-object
 take_out-requires-clause-object g c = sym (active-tree c.self.inside c.self.invariant c.args.o) ∙ rw (← c.self.view_is) at c.requires.object
 
 pub take_out-requires-clause-columns : goal.take_out-requires-clause-columns
-take_out-requires-clause-columns g c = c.self.invariant.matrix_columns
+take_out-requires-clause-columns g c x active =
+    let place : x < length c.self.inside.objects.items = c.self.invariant.labels x active in
+    let wide : length c.self.inside.objects.items ≤ c.self.inside.matrix.columns = c.self.invariant.matrix_columns in
+    omega arith
 
 pub invariant_of-self : goal.invariant_of-self
 invariant_of-self g c =
@@ -22,7 +25,7 @@ invariant_of-self g c =
 pub invariant_of-self-2 : goal.invariant_of-self-2
 invariant_of-self-2 g c =
     agrees-removed c.self.inside _ c.self.invariant c.args.o c.requires.other refl refl
-    c.in_ok-take_out.ensures.tree c.in_ok-take_out.ensures.matrix c.in_ok-take_out.ensures.accesses refl refl c.next.ensures.tree
+    c.in_ok-take_out.ensures.tree c.in_ok-take_out.ensures.matrix c.in_ok-take_out.ensures.accesses refl refl c.agrees.ensures.tree c.agrees.ensures.right
 
 pub returns-clause-ok : goal.returns-clause-ok
 returns-clause-ok g c =
@@ -37,4 +40,4 @@ returns-clause-ok g c =
       integrity = c.self.inside.integrity;
     }) c.self.invariant c.args.o c.requires.other refl refl
     c.in_ok-take_out.ensures.tree c.in_ok-take_out.ensures.matrix c.in_ok-take_out.ensures.accesses refl refl
-    ∙ ap (λ (v : State). with_objects v (stays v c.args.o)) c.self.view_is
+    ∙ ap (λ (v : State). without_group v c.args.o) c.self.view_is

@@ -1,4 +1,5 @@
 use Rattle.std.proofs.Common.{sym}
+use Rattle.mls_tables.specs.declared.limits.TheConstants.{MAX_OBJECTS}
 use Rattle.mls_tables.specs.Table.{without_object}
 use Rattle.mls_tables.specs.Held.{is_held}
 use Rattle.mls_tables.proofs.Held.{held_without}
@@ -10,6 +11,9 @@ pub unlink_object-requires-clause-subjects : goal.unlink_object-requires-clause-
 unlink_object-requires-clause-subjects g c =
     let index = c.self.inside.index in
     holders_below (is_held c.self.inside.matrix.triples) index.objects.lists index.subjects.lists c.self.invariant.held c.args.o
+
+pub unlink_object-requires-clause-told : goal.unlink_object-requires-clause-told
+unlink_object-requires-clause-told g c = record { relation = _; bound = MAX_OBJECTS; rows = c.self.invariant.held.rows }
 
 pub invariant_of-self : goal.invariant_of-self
 invariant_of-self g c =

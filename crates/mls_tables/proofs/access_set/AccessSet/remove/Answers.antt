@@ -1,5 +1,6 @@
 use Rattle.std.proofs.Common.{sym}
 use Rattle.std.specs.FinSet as set
+use Rattle.mls_tables.specs.declared.limits.TheConstants.{MAX_OBJECTS}
 use Rattle.mls_tables.specs.Held.{is_held}
 use Rattle.mls_tables.proofs.Held.{held_remove}
 use Rattle.mls_tables.proofs.Indexes.{Indexes-same}
@@ -10,6 +11,9 @@ pub returns-then-not-contains-clause-removed : goal.returns-then-not-contains-cl
 returns-then-not-contains-clause-removed g c =
     let now = c.args.self.now in
     λ i. record { subjects = now.subjects; columns = now.columns; triples = sym (remove-unknown now.triples (c.args.s, c.args.o, c.args.x) (sym c.if-not-contains.ensures)) i }
+
+pub unlist_pair-requires-clause-told : goal.unlist_pair-requires-clause-told
+unlist_pair-requires-clause-told g c = record { relation = _; bound = MAX_OBJECTS; rows = c.self.invariant.held.rows }
 
 pub invariant_of-self : goal.invariant_of-self
 invariant_of-self g c =

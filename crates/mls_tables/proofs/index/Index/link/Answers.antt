@@ -9,5 +9,5 @@ returns-clause-ok g c p h =
     let rows = subst (IsRows p MAX_OBJECTS) (sym c.make_room.ensures.same) h.rows in
     let columns = subst (IsRows (λ o s. p s o) MAX_SUBJECTS) (sym c.make_room-2.ensures.same) h.columns in
     Indexes-linked p c.args.s c.args.o c.args.self.now.objects.lists c.args.self.now.subjects.lists c.enter_object.new.objects.lists c.enter_subject.new.subjects.lists c.requires.subject c.requires.object h
-    (c.enter_object.ensures.entered p MAX_OBJECTS c.requires.object rows)
+    (c.enter_object.ensures.entered.told p MAX_OBJECTS c.requires.object rows)
     (c.enter_subject.ensures.entered (λ o s. p s o) MAX_SUBJECTS c.requires.subject columns)

@@ -1,0 +1,43 @@
+use Rattle.std.proofs.Common.{◌≡◌, ◌<◌, true, refl, sym, ap, ◌∙◌}
+use Rattle.mls_facts.specs.Places.{placed}
+use Rattle.mls_tables.specs.declared.limits.TheConstants.{MAX_OBJECTS}
+use Rattle.mls_tree.specs.Tree as tree
+use Rattle.mls_state.specs.State.{State}
+use Rattle.mls_state.specs.Changes.{with_object}
+use Rattle.mls_state.proofs.Tables.{active-tree}
+use Rattle.mls_state.proofs.Growing.{state-grown, agrees-grown}
+use Rattle.mls_state.proofs.state.State.add_object.Goals as goal
+
+pub invariant_of-self-2 : goal.invariant_of-self-2
+invariant_of-self-2 g c =
+    let a = c.self.inside in
+    let same : c.next-next.result ≡ a.tree.next = c.next-next.ensures.number ∙ sym (ap (λ (v : State). v.next) c.self.view_is) in
+    let room : a.tree.next < MAX_OBJECTS = rw (← c.self.view_is) at c.requires.room in
+    let above : tree.is_active a.tree.parent c.args.parent ≡ true = sym (active-tree a c.self.invariant c.args.parent) ∙ rw (← c.self.view_is) at c.requires.parent in
+    agrees-grown a _ c.self.invariant c.args.parent c.args.labels above room refl
+    (c.put_at.ensures ∙ (λ i. placed (c.reserve.ensures.items i) (same i) c.args.labels)) c.in-Ok.ensures.ok
+    c.widen_matrix.ensures.kept.rows c.widen_matrix.ensures.kept.triples c.widen_matrix.ensures.kept.columns (rw same at c.in_ok-widen_matrix.ensures.ok)
+    c.widen_accesses.ensures.kept.rows c.widen_accesses.ensures.kept.triples c.widen_accesses.ensures.kept.columns (rw same at c.in_ok-widen_accesses.ensures.ok)
+    refl refl c.agrees.ensures.tree c.agrees.ensures.right
+
+pub returns-clause-ok : goal.returns-clause-ok
+returns-clause-ok g c =
+    let a = c.self.inside in
+    let same : c.next-next.result ≡ a.tree.next = c.next-next.ensures.number ∙ sym (ap (λ (v : State). v.next) c.self.view_is) in
+    let room : a.tree.next < MAX_OBJECTS = rw (← c.self.view_is) at c.requires.room in
+    let above : tree.is_active a.tree.parent c.args.parent ≡ true = sym (active-tree a c.self.invariant c.args.parent) ∙ rw (← c.self.view_is) at c.requires.parent in
+    state-grown a (record {
+      subjects = a.subjects;
+      objects = c.put_at.new.items;
+      tree = c.add.new.self;
+      matrix = c.widen_matrix.new.matrix;
+      accesses = c.widen_accesses.new.accesses;
+      group = a.group;
+      security = a.security;
+      integrity = a.integrity;
+    }) c.self.invariant c.args.parent c.args.labels above room refl
+    (c.put_at.ensures ∙ (λ i. placed (c.reserve.ensures.items i) (same i) c.args.labels)) c.in-Ok.ensures.ok
+    c.widen_matrix.ensures.kept.rows c.widen_matrix.ensures.kept.triples c.widen_matrix.ensures.kept.columns (rw same at c.in_ok-widen_matrix.ensures.ok)
+    c.widen_accesses.ensures.kept.rows c.widen_accesses.ensures.kept.triples c.widen_accesses.ensures.kept.columns (rw same at c.in_ok-widen_accesses.ensures.ok)
+    refl refl
+    ∙ ap (λ (v : State). with_object v c.args.parent c.args.labels.security c.args.labels.integrity) c.self.view_is
