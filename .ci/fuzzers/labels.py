@@ -12,8 +12,8 @@ from start_format import start_of
 TOKEN = re.compile(rb"[A-Za-z0-9_-]+|[:,]")
 # Names of which some begin another or differ in capitals, and one is as long as a name may be.
 LEVELS = ["a", "A", "aa", "a-", "_", "-", "0", "00", "9", "level", "Level", "LEVEL", 32 * "x", 31 * "x", "a_b", "z"]
-CATEGORIES = ["a", "A", "aa", *(f"c{number}" for number in range(60)), 32 * "c"]
-NO_NAMES = [b"Q", b"", b"a b", b"a.b", b"lo", b"U", b"c60", 33 * b"x", 30 * b"x", b"\xc3\xa9", b":", b","]
+CATEGORIES = ["a", "A", "aa", *(f"c{number}" for number in range(252)), 32 * "c"]
+NO_NAMES = [b"Q", b"", b"a b", b"a.b", b"lo", b"U", b"c252", 33 * b"x", 30 * b"x", b"\xc3\xa9", b":", b","]
 LARGEST = {
     "security": {"levels": LEVELS, "categories": CATEGORIES},
     "integrity": {"levels": CATEGORIES[:16], "categories": LEVELS},
