@@ -1,7 +1,7 @@
 //! States that no read distinguishes.
 use crate::seen::sees;
 use mls_state::State;
-use mls_tables::{Mode, Modes, ObjectId, SubjectId};
+use mls_tables::{MAX_OBJECTS, Mode, Modes, ObjectId, SubjectId};
 use std::alloc::Allocator;
 use std::process::Abort;
 
@@ -87,6 +87,7 @@ fn subjects_are_alike<A: Allocator, B: Allocator>(
 
 /// Asserts that no read distinguishes two states.
 pub fn are_alike<A: Allocator, B: Allocator>(rt: &impl Abort, one: &State<A>, other: &State<B>) {
+    sees(rt, one.profile() == other.profile(), "the profile");
     sees(rt, one.next() == other.next(), "the next number");
     sees(
         rt,
@@ -99,8 +100,8 @@ pub fn are_alike<A: Allocator, B: Allocator>(rt: &impl Abort, one: &State<A>, ot
         one.integrity() == other.integrity(),
         "integrity's bounds",
     );
-    // the next number is no object's yet
-    for n in 0..one.next().saturating_add(1) {
+    // (where numbers are used again, objects may have greater numbers than the next one)
+    for n in 0..MAX_OBJECTS {
         objects_are_alike(rt, one, other, ObjectId(n));
     }
     for n in 0..one.subject_count() {
