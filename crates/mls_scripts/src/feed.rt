@@ -82,7 +82,7 @@ impl<'a> ScriptFeed<'a> {
         &self.text
     }
 
-    /// Whether an allocation failed for its answers or its variables. It then asks nothing more.
+    /// Whether an allocation failed for its answers or its variables. Then `next` gives nothing more.
     pub fn failed(&self) -> bool
         ensures { result ≡ self.now.failed }
     {

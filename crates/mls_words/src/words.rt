@@ -38,7 +38,7 @@ const ABOUT: &str =
 const EXAMPLE: &str = "Example: printf 'ann get-read plans\\n' | mls";
 
 const CHECK_ABOUT: &str =
-    "Reads a start file and prints how many subjects, objects and cells it has, and that it opens secure";
+    "Reads a start file and prints how many subjects, objects, cells and accesses it has, and that it opens secure";
 
 const CHECK_EXAMPLE: &str = "Example: mls check examples/office.json";
 
