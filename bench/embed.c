@@ -1,5 +1,7 @@
-/* Calls the library many times: `embed START WHAT COUNT`, where WHAT is check, decide, denied, granted, or cells, which looks up packed
- * cells of four modes with no monitor. Prints nanoseconds a call. */
+/* Calls the library many times: `embed START WHAT COUNT`, where WHAT is check, decide, denied, granted, delete, or cells, which looks up
+ * packed cells of four modes with no monitor. Prints nanoseconds a call. `delete` is for the start of bench/rules.sh in which subject 0
+ * writes object 1, and below this stand objects 2 to 11 with 60 below each, 12 to 611, that subjects 1 to 16 may read: all that is got,
+ * and then COUNT of the ten are deleted. */
 #define _POSIX_C_SOURCE 199309L
 #include "mls.h"
 
@@ -24,8 +26,28 @@ static int __attribute__((noinline)) looked_up(uint16_t subject, uint16_t object
     return cells[at / 2] >> (at % 2 * 4 + mode) & 1;
 }
 
+/* Submits a request, which must be granted. */
+static void granted(mls_t *m, uint8_t action, uint8_t mode, uint16_t subject, uint16_t object) {
+    mls_request_t request;
+    mls_answer_t answer;
+    memset(&request, 0, sizeof request);
+    request.action = action;
+    request.mode = mode;
+    request.subject = subject;
+    request.object = object;
+    if (mls_submit(m, 0, &request, &answer) || answer.reply != MLS_YES) exit(2);
+}
+
+/* Gets all that is to be held when objects are deleted. */
+static void get_all(mls_t *m) {
+    uint16_t s, o;
+    granted(m, MLS_GET, MLS_WRITE, 0, 1);
+    for (o = 12; o < 612; o++)
+        for (s = 1; s <= 16; s++) granted(m, MLS_GET, MLS_READ, s, o);
+}
+
 int main(int argc, char **argv) {
-    static uint8_t start[1 << 16];
+    static uint8_t start[1 << 21];
     mls_t m = MLS_INIT;
     mls_fault_t fault;
     mls_answer_t a;
@@ -44,6 +66,7 @@ int main(int argc, char **argv) {
     release = denied = get;
     release.action = MLS_RELEASE;
     denied.subject = 1;
+    if (!strcmp(argv[2], "delete")) get_all(&m);
     begun = now();
     if (!strcmp(argv[2], "check"))
         for (n = 0; n < count; n++) sum += (unsigned)mls_check(&m, n & 3, n >> 2 & 3, MLS_READ);
@@ -53,6 +76,8 @@ int main(int argc, char **argv) {
         for (n = 0; n < count; n++) sum += (unsigned)mls_decide(&m, &get, &a);
     else if (!strcmp(argv[2], "denied"))
         for (n = 0; n < count; n++) sum += (unsigned)mls_submit(&m, 0, &denied, &a);
+    else if (!strcmp(argv[2], "delete"))
+        for (n = 0; n < count; n++) granted(&m, MLS_DELETE, 0, 0, (uint16_t)(2 + n));
     else if (!strcmp(argv[2], "granted"))
         for (n = 0; n < count; n++) sum += (unsigned)mls_submit(&m, 0, n & 1 ? &release : &get, &a);
     else

@@ -4,7 +4,7 @@ use Rattle.std.specs.Ordering.{nat_cmp}
 use Rattle.std.specs.Cmp.{nat_cmp_total, unsigned_tied, nat_eq_equiv, both_ways}
 use Rattle.std.specs.Cmp.Derive.{both_true}
 use Rattle.std.specs.Int.{bit_at, bit_not, w64}
-use Rattle.std.proofs.lemmas.Nat.{or_lt}
+use Rattle.std.proofs.lemmas.Nat.{or_lt, pow_pos}
 use Rattle.std.proofs.lemmas.Nat.Bits.{bit_at-lt, bit_at_above, bit_at-zero, bit_at_and, bit_at_or, bit_at_not, same_from_bits, shr_and_one}
 use Rattle.std.specs.FinSet.{FinSet, empty, contains, insert, same_set, is_subset, is_subset-contains, contains-is_subset, contains-empty, contains-insert, nat_cmp-IsAntisymmetric}
 use Rattle.std.proofs.Common.{min, max, ◌⊎◌, inl, inr, arith, sym, ap, ◌∙◌, subst}
@@ -231,6 +231,13 @@ bits_below b n known =
 bit_within : (b n i : ℕ) → b < 2 ^ n → has_bit b i ≡ true → (i < n) ⊎ (n ≤ i) → i < n
 bit_within b n i small has (inl within) = within
 bit_within b n i small has (inr past) = let none : bit_at b i ≡ 0 = bit_at_above b n i small past in absurd (grind (arith, nat_tests, has, none))
+
+-- a word that is 0 has no bit that is 1
+pub no_bits : (b count : ℕ) → b ≡ 0 → is_word_below b count ≡ true
+no_bits b count none = from (nat_le 64 count) where
+  from : (many : Bool) → (many || nat_lt b (2 ^ count)) ≡ true
+  from true = refl
+  from false = lt-ltb b (2 ^ count) (omega (arith, none, pow_pos count))
 
 lowest_bits : (b count i : ℕ) → is_word_below b count ≡ true → has_bit b i ≡ true → i < 64 → (64 ≤ count) ⊎ (count < 64) → i < count
 lowest_bits b count i below has within (inl wide) = omega arith

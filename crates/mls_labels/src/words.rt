@@ -11,10 +11,13 @@ pub(crate) struct Words {
     pub(crate) fourth: u64,
 }
 
-/// Whether the bits of a word that are 1 are among its `count` lowest ones.
+/// Whether the bits of a word that are 1 are among its `count` lowest ones. Most words of most labels have none.
 fn is_word_below(word: u64, count: u16) -> bool
     ensures { result ≡ is_word_below word count }
 {
+    if word == 0 {
+        return true;
+    }
     count >= 64 || word < 1 << count
 }
 

@@ -7,25 +7,25 @@ ghost use Rattle.mls_rules.specs.Rules.{needs_no_room};
 
 use crate::deciding::decide;
 use mls_requests::{Action, Reply, Request};
-use mls_state::{ObjectLabels, State};
+use mls_state::State;
 use mls_tables::SubjectId;
 use std::alloc::{AllocError, Allocator};
 
 /// Makes the change of a granted action that makes nothing new.
-fn change_in_place<A: Allocator>(state: &mut State<A>, s: SubjectId, action: Action)
+fn change_in_place<A: Allocator>(state: &mut State<A>, s: SubjectId, action: &Action)
     requires subject { IsTrue (is_subject state.old s) }
-    requires names { IsTrue (names_known state.old action) }
-    requires memory { IsTrue (takes_no_room action) }
-    ensures { state.new ≡ change state.old s action }
+    requires names { IsTrue (names_known state.old action.now) }
+    requires memory { IsTrue (takes_no_room action.now) }
+    ensures { state.new ≡ change state.old s action.now }
 {
     match action {
         Action::Release(x, o) => {
-            state.remove_access(s, o, x);
+            state.remove_access(s, *o, *x);
         }
-        Action::Give(x, t, o) => state.give(t, o, x),
-        Action::Rescind(x, t, o) => state.rescind(t, o, x),
-        Action::SubjectLevel(l) => state.set_current(s, l),
-        Action::ObjectLevel(o, l) => state.set_object_label(o, l),
+        Action::Give(x, t, o) => state.give(*t, *o, *x),
+        Action::Rescind(x, t, o) => state.rescind(*t, *o, *x),
+        Action::SubjectLevel(l) => state.set_current(s, *l),
+        Action::ObjectLevel(o, l) => state.set_object_label(*o, *l),
         Action::Get(_, _) | Action::Create(_, _, _) | Action::Delete(_) => {}
     }
 }
@@ -34,27 +34,23 @@ fn change_in_place<A: Allocator>(state: &mut State<A>, s: SubjectId, action: Act
 fn make_change<A: Allocator>(
     state: &mut State<A>,
     s: SubjectId,
-    action: Action,
+    action: &Action,
 ) -> Result<(), AllocError>
     requires subject { IsTrue (is_subject state.old s) }
-    requires names { IsTrue (names_known state.old action) }
-    requires granted { AllHold (conditions state.old s action) }
-    ensures memory { IsTrue (takes_no_room action) → IsOk result }
-    ensures ok { OnOk result (state.new ≡ change state.old s action) }
+    requires names { IsTrue (names_known state.old action.now) }
+    requires granted { AllHold (conditions state.old s action.now) }
+    ensures memory { IsTrue (takes_no_room action.now) → IsOk result }
+    ensures ok { OnOk result (state.new ≡ change state.old s action.now) }
     ensures err { OnErr result (state.new ≡ state.old) }
 {
     match action {
         Action::Get(x, o) => {
-            state.put_access(s, o, x)?;
+            state.put_access(s, *o, *x)?;
         }
         Action::Create(p, security, integrity) => {
-            let labels = ObjectLabels {
-                security,
-                integrity,
-            };
-            state.add_object(p, labels)?;
+            state.add_object(*p, security, integrity)?;
         }
-        Action::Delete(o) => state.remove_object(o)?,
+        Action::Delete(o) => state.remove_object(*o)?,
         _ => change_in_place(state, s, action),
     }
     Ok(())
@@ -73,7 +69,7 @@ fn change_where_granted<A: Allocator>(
     ensures memory { IsTrue (needs_no_room decided request.now.action) → IsOk result }
 {
     match decided {
-        Reply::Yes | Reply::Created(_) => make_change(state, request.subject, request.action)?,
+        Reply::Yes | Reply::Created(_) => make_change(state, request.subject, &request.action)?,
         Reply::No(_) | Reply::Undefined => {}
     }
     Ok(())

@@ -39,18 +39,19 @@ pub(crate) fn may_relabel<A: Allocator>(
     state: &State<A>,
     s: SubjectId,
     o: ObjectId,
-    l: SecLabel,
+    l: &SecLabel,
 ) -> bool
     requires subject { IsTrue (is_subject state.now s) }
     requires object { IsTrue (is_active state.now o) }
-    ensures { result ≡ may_relabel state.now s o l }
+    ensures { result ≡ may_relabel state.now s o l.now }
 {
-    if state.is_trusted(s) {
+    let subject = state.subject(s);
+    if subject.trusted {
         return true;
     }
     if o.number() == 0 {
         return false;
     }
-    let label = state.object_label(o);
-    writes_parent(state, s, o) && state.current(s).dominates(&label) && l.dominates(&label)
+    let label = &state.labels(o).security;
+    writes_parent(state, s, o) && subject.current.dominates(label) && l.dominates(label)
 }

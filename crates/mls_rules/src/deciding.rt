@@ -18,19 +18,19 @@ fn is_defined<A: Allocator>(state: &State<A>, request: &Request) -> bool
     ensures { result ≡ is_defined state.now request.now }
 {
     state.is_subject(request.subject)
-        && match request.action {
-            Action::Get(_, o) | Action::Release(_, o) => state.is_active(o),
+        && match &request.action {
+            Action::Get(_, o) | Action::Release(_, o) => state.is_active(*o),
             Action::Give(_, t, o) | Action::Rescind(_, t, o) => {
-                state.is_subject(t) && state.is_active(o)
+                state.is_subject(*t) && state.is_active(*o)
             }
             Action::Create(p, l, i) => {
-                state.is_active(p)
+                state.is_active(*p)
                     && state.security().has(l.label())
                     && state.integrity().has(i.label())
             }
-            Action::Delete(o) => state.is_active(o),
+            Action::Delete(o) => state.is_active(*o),
             Action::SubjectLevel(l) => state.security().has(l.label()),
-            Action::ObjectLevel(o, l) => state.is_active(o) && state.security().has(l.label()),
+            Action::ObjectLevel(o, l) => state.is_active(*o) && state.security().has(l.label()),
         }
 }
 
@@ -73,21 +73,22 @@ fn decide_create<A: Allocator>(
     state: &State<A>,
     s: SubjectId,
     p: ObjectId,
-    l: SecLabel,
-    i: IntLabel,
+    l: &SecLabel,
+    i: &IntLabel,
 ) -> Reply
     requires subject { IsTrue (is_subject state.now s) }
     requires object { IsTrue (is_active state.now p) }
-    ensures { result ≡ verdict state.now s (Action.Create p l i) }
+    ensures { result ≡ verdict state.now s (Action.Create p l.now i.now) }
 {
     let held = state.accesses(s, p);
     if !held.has(Mode::Append) && !held.has(Mode::Write) {
         return Reply::No(Reason::Authority);
     }
-    if !l.dominates(&state.object_label(p)) {
+    let parent = state.labels(p);
+    if !l.dominates(&parent.security) {
         return Reply::No(Reason::Compatibility);
     }
-    if !state.object_integrity(p).dominates(&i) {
+    if !parent.integrity.dominates(i) {
         return Reply::No(Reason::Integrity);
     }
     let next = state.next();
@@ -120,15 +121,15 @@ pub fn decide<A: Allocator>(state: &State<A>, request: &Request) -> Reply
     if !is_defined(state, request) {
         return Reply::Undefined;
     }
-    match request.action {
-        Action::Get(x, o) => decide_get(state, request.subject, o, x),
+    match &request.action {
+        Action::Get(x, o) => decide_get(state, request.subject, *o, *x),
         Action::Release(_, _) => Reply::Yes,
         Action::Give(_, _, o) | Action::Rescind(_, _, o) => {
-            decide_control(state, request.subject, o)
+            decide_control(state, request.subject, *o)
         }
-        Action::Create(p, l, i) => decide_create(state, request.subject, p, l, i),
-        Action::Delete(o) => decide_delete(state, request.subject, o),
+        Action::Create(p, l, i) => decide_create(state, request.subject, *p, l, i),
+        Action::Delete(o) => decide_delete(state, request.subject, *o),
         Action::SubjectLevel(l) => decide_subject_level(state, request.subject, l),
-        Action::ObjectLevel(o, l) => decide_object_level(state, request.subject, o, l),
+        Action::ObjectLevel(o, l) => decide_object_level(state, request.subject, *o, l),
     }
 }

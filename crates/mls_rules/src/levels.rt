@@ -20,11 +20,11 @@ fn cell_meets<A: Allocator, D: Demand>(
     state: &State<A>,
     s: SubjectId,
     o: ObjectId,
-    demand: D,
+    demand: &D,
 ) -> bool
     requires subject { IsTrue (is_subject state.now s) }
     requires object { IsTrue (is_active state.now o) }
-    ensures { result ≡ each_mode state.now.accesses s o (D.asked demand state.now) }
+    ensures { result ≡ each_mode state.now.accesses s o (D.asked demand.now state.now) }
 {
     let modes = state.accesses(s, o);
     (!modes.has(Mode::Execute) || demand.is_met(state, s, o, Mode::Execute))
@@ -34,8 +34,10 @@ fn cell_meets<A: Allocator, D: Demand>(
 }
 
 /// Whether all accesses of the subject meet the demand.
-fn subject_meets<A: Allocator, D: Demand>(state: &State<A>, s: SubjectId, demand: D) -> bool
-    ensures { result ≡ each_of_subject state.now s (D.asked demand state.now) }
+// (out of line, so that the loop has the registers to itself)
+#[inline(never)]
+fn subject_meets<A: Allocator, D: Demand>(state: &State<A>, s: SubjectId, demand: &D) -> bool
+    ensures { result ≡ each_of_subject state.now s (D.asked demand.now state.now) }
 {
     state.agrees();
     if !state.is_subject(s) {
@@ -50,8 +52,10 @@ fn subject_meets<A: Allocator, D: Demand>(state: &State<A>, s: SubjectId, demand
 }
 
 /// Whether all accesses to the object meet the demand.
-fn object_meets<A: Allocator, D: Demand>(state: &State<A>, o: ObjectId, demand: D) -> bool
-    ensures { result ≡ each_of_object state.now o (D.asked demand state.now) }
+// (out of line, so that the loop has the registers to itself)
+#[inline(never)]
+fn object_meets<A: Allocator, D: Demand>(state: &State<A>, o: ObjectId, demand: &D) -> bool
+    ensures { result ≡ each_of_object state.now o (D.asked demand.now state.now) }
 {
     state.agrees();
     if !state.is_active(o) {
@@ -66,12 +70,14 @@ fn object_meets<A: Allocator, D: Demand>(state: &State<A>, o: ObjectId, demand: 
 }
 
 /// Whether the labels of all children of the object dominate this label.
-fn children_dominate<A: Allocator>(state: &State<A>, o: ObjectId, l: SecLabel) -> bool
+// (out of line, so that the loop has the registers to itself)
+#[inline(never)]
+fn children_dominate<A: Allocator>(state: &State<A>, o: ObjectId, l: &SecLabel) -> bool
     requires { IsTrue (is_active state.now o) }
-    ensures { result ≡ each_child state.now o (λ c. is_above (map.get state.now.object_label c) (Some l)) }
+    ensures { result ≡ each_child state.now o (λ c. is_above (map.get state.now.object_label c) (Some l.now)) }
 {
     for c in state.children(o) {
-        if !state.object_label(*c).dominates(&l) {
+        if !state.labels(*c).security.dominates(l) {
             return false;
         }
     }
@@ -79,12 +85,12 @@ fn children_dominate<A: Allocator>(state: &State<A>, o: ObjectId, l: SecLabel) -
 }
 
 /// Whether this label fits the object's place between its parent and its children.
-fn label_fits<A: Allocator>(state: &State<A>, o: ObjectId, l: SecLabel) -> bool
+fn label_fits<A: Allocator>(state: &State<A>, o: ObjectId, l: &SecLabel) -> bool
     requires { IsTrue (is_active state.now o) }
-    ensures { result ≡ label_fits state.now o l }
+    ensures { result ≡ label_fits state.now o l.now }
 {
     if let Some(p) = state.parent(o) {
-        if !l.dominates(&state.object_label(p)) {
+        if !l.dominates(&state.labels(p).security) {
             return false;
         }
     }
@@ -95,19 +101,19 @@ fn label_fits<A: Allocator>(state: &State<A>, o: ObjectId, l: SecLabel) -> bool
 pub(crate) fn decide_subject_level<A: Allocator>(
     state: &State<A>,
     s: SubjectId,
-    l: SecLabel,
+    l: &SecLabel,
 ) -> Reply
     requires { IsTrue (is_subject state.now s) }
-    ensures { result ≡ verdict state.now s (Action.SubjectLevel l) }
+    ensures { result ≡ verdict state.now s (Action.SubjectLevel l.now) }
 {
-    if !state.maximum(s).dominates(&l) {
+    if !state.subject(s).maximum.dominates(l) {
         return Reply::No(Reason::Ceiling);
     }
     let star = StarAtLevel {
         subject: s,
-        level: l,
+        level: *l,
     };
-    if !subject_meets(state, s, star) {
+    if !subject_meets(state, s, &star) {
         return Reply::No(Reason::Star);
     }
     Reply::Yes
@@ -118,11 +124,11 @@ pub(crate) fn decide_object_level<A: Allocator>(
     state: &State<A>,
     s: SubjectId,
     o: ObjectId,
-    l: SecLabel,
+    l: &SecLabel,
 ) -> Reply
     requires subject { IsTrue (is_subject state.now s) }
     requires object { IsTrue (is_active state.now o) }
-    ensures { result ≡ verdict state.now s (Action.ObjectLevel o l) }
+    ensures { result ≡ verdict state.now s (Action.ObjectLevel o l.now) }
 {
     if !may_relabel(state, s, o, l) {
         return Reply::No(Reason::Authority);
@@ -132,16 +138,16 @@ pub(crate) fn decide_object_level<A: Allocator>(
     }
     let simple = SimpleAtLabel {
         object: o,
-        label: l,
+        label: *l,
     };
-    if !object_meets(state, o, simple) {
+    if !object_meets(state, o, &simple) {
         return Reply::No(Reason::Simple);
     }
     let star = StarAtLabel {
         object: o,
-        label: l,
+        label: *l,
     };
-    if !object_meets(state, o, star) {
+    if !object_meets(state, o, &star) {
         return Reply::No(Reason::Star);
     }
     Reply::Yes

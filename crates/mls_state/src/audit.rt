@@ -13,6 +13,8 @@ use mls_tables::{Mode, Modes, ObjectId, SubjectId};
 use std::alloc::Allocator;
 
 /// Whether a current access meets all properties that speak of accesses.
+// (out of line, so that a mode that isn't held costs no call)
+#[inline(never)]
 fn access_holds<A: Allocator>(state: &State<A>, s: SubjectId, o: ObjectId, x: Mode) -> bool
     requires subject { IsTrue (is_subject state.now s) }
     requires object { IsTrue (is_active state.now o) }
@@ -89,10 +91,9 @@ fn fits_parent<A: Allocator>(state: &State<A>, o: ObjectId) -> bool
     }
     match state.parent(o) {
         Some(p) => {
-            state.object_label(o).dominates(&state.object_label(p))
-                && state
-                    .object_integrity(p)
-                    .dominates(&state.object_integrity(o))
+            let (child, parent) = (state.labels(o), state.labels(p));
+            child.security.dominates(&parent.security)
+                && parent.integrity.dominates(&child.integrity)
         }
         None => true,
     }
@@ -116,8 +117,8 @@ fn ceilings_hold<A: Allocator>(state: &State<A>) -> bool
     ensures { IsTrue result ↔ EachSubject state.now (ceiling_holds state.now) }
 {
     for n in 0..state.subject_count() {
-        let s = SubjectId::new(n);
-        if !state.maximum(s).dominates(&state.current(s)) {
+        let subject = state.subject(SubjectId::new(n));
+        if !subject.maximum.dominates(&subject.current) {
             return false;
         }
     }

@@ -24,10 +24,10 @@ pub fn discretionary_holds<A: Allocator>(
 }
 
 /// Whether simple security holds between the maximum label of a subject and the label of an object that it accesses.
-pub fn simple_between(maximum: SecLabel, label: SecLabel, x: Mode) -> bool
-    ensures { result ≡ simple_between (Some maximum) (Some label) x }
+pub fn simple_between(maximum: &SecLabel, label: &SecLabel, x: Mode) -> bool
+    ensures { result ≡ simple_between (Some maximum.now) (Some label.now) x }
 {
-    !x.observes() || maximum.dominates(&label)
+    !x.observes() || maximum.dominates(label)
 }
 
 /// Whether the access meets simple security.
@@ -36,17 +36,17 @@ pub fn simple_holds<A: Allocator>(state: &State<A>, s: SubjectId, o: ObjectId, x
     requires object { IsTrue (is_active state.now o) }
     ensures { result ≡ simple_holds state.now (s, o, x) }
 {
-    simple_between(state.maximum(s), state.object_label(o), x)
+    simple_between(&state.subject(s).maximum, &state.labels(o).security, x)
 }
 
 /// Whether star holds between the current label of an untrusted subject and the label of an object that it accesses.
-pub fn star_between(own: SecLabel, label: SecLabel, x: Mode) -> bool
-    ensures { result ≡ star_between (Some own) (Some label) x }
+pub fn star_between(own: &SecLabel, label: &SecLabel, x: Mode) -> bool
+    ensures { result ≡ star_between (Some own.now) (Some label.now) x }
 {
     match x {
-        Mode::Append => label.dominates(&own),
-        Mode::Write => label.dominates(&own) && own.dominates(&label),
-        Mode::Read => own.dominates(&label),
+        Mode::Append => label.dominates(own),
+        Mode::Write => label.dominates(own) && own.dominates(label),
+        Mode::Read => own.dominates(label),
         Mode::Execute => true,
     }
 }
@@ -57,14 +57,15 @@ pub fn star_holds<A: Allocator>(state: &State<A>, s: SubjectId, o: ObjectId, x: 
     requires object { IsTrue (is_active state.now o) }
     ensures { result ≡ star_holds state.now (s, o, x) }
 {
-    state.is_trusted(s) || star_between(state.current(s), state.object_label(o), x)
+    let subject = state.subject(s);
+    subject.trusted || star_between(&subject.current, &state.labels(o).security, x)
 }
 
 /// Whether strict integrity holds between the integrity labels of a subject and of an object that it accesses.
-pub fn integrity_between(own: IntLabel, label: IntLabel, x: Mode) -> bool
-    ensures { result ≡ integrity_between (Some own) (Some label) x }
+pub fn integrity_between(own: &IntLabel, label: &IntLabel, x: Mode) -> bool
+    ensures { result ≡ integrity_between (Some own.now) (Some label.now) x }
 {
-    (!x.uses() || label.dominates(&own)) && (!x.alters() || own.dominates(&label))
+    (!x.uses() || label.dominates(own)) && (!x.alters() || own.dominates(label))
 }
 
 /// Whether the access meets strict integrity, which binds every subject.
@@ -73,5 +74,5 @@ pub fn integrity_holds<A: Allocator>(state: &State<A>, s: SubjectId, o: ObjectId
     requires object { IsTrue (is_active state.now o) }
     ensures { result ≡ integrity_holds state.now (s, o, x) }
 {
-    integrity_between(state.subject_integrity(s), state.object_integrity(o), x)
+    integrity_between(&state.subject(s).integrity, &state.labels(o).integrity, x)
 }

@@ -49,23 +49,23 @@ impl<A: Allocator> Model for State<A> {
 
 impl<A: Allocator> State<A> {
     /// What is known of a known subject.
-    fn subject(&self, s: SubjectId) -> Subject
+    pub fn subject(&self, s: SubjectId) -> &Subject
         requires { IsTrue (is_subject self.now s) }
-        ensures maximum { map.get self.now.maximum s ≡ Some result.maximum }
-        ensures current { map.get self.now.current s ≡ Some result.current }
-        ensures integrity { map.get self.now.subject_integrity s ≡ Some result.integrity }
-        ensures trusted { set.contains self.now.trusted s ≡ result.trusted }
+        ensures maximum { map.get self.now.maximum s ≡ Some result.now.maximum }
+        ensures current { map.get self.now.current s ≡ Some result.now.current }
+        ensures integrity { map.get self.now.subject_integrity s ≡ Some result.now.integrity }
+        ensures trusted { set.contains self.now.trusted s ≡ result.now.trusted }
     {
-        self.subjects[s.number() as usize]
+        &self.subjects[s.number() as usize]
     }
 
     /// The labels of an active object.
-    fn labels(&self, o: ObjectId) -> ObjectLabels
+    pub fn labels(&self, o: ObjectId) -> &ObjectLabels
         requires { IsTrue (is_active self.now o) }
-        ensures security { map.get self.now.object_label o ≡ Some result.security }
-        ensures integrity { map.get self.now.object_integrity o ≡ Some result.integrity }
+        ensures security { map.get self.now.object_label o ≡ Some result.now.security }
+        ensures integrity { map.get self.now.object_integrity o ≡ Some result.now.integrity }
     {
-        self.objects[o.number() as usize]
+        &self.objects[o.number() as usize]
     }
 
     /// How many subjects there are. Their numbers are those below it.

@@ -136,7 +136,7 @@ fn each_change_is_made_alone(rt: HostRuntime) -> Result<(), Fail> {
     take_all(&rt, &mut state, CHANGES);
     drop(state);
     let (low, high) = (security(1, 0), security(2, 0));
-    sees(&rt, star_between(low, high, Mode::Append), "append above");
-    sees(&rt, !star_between(low, high, Mode::Read), "read above");
+    sees(&rt, star_between(&low, &high, Mode::Append), "append above");
+    sees(&rt, !star_between(&low, &high, Mode::Read), "read above");
     Ok(())
 }

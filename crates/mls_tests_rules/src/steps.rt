@@ -1,9 +1,7 @@
 //! Tables of steps on states: changes that are made alone, and what is read.
 use crate::seen::{knows, sees};
 use crate::standard::{integrity, security};
-use mls_state::{
-    ObjectLabels, State, discretionary_holds, integrity_holds, is_secure, simple_holds, star_holds,
-};
+use mls_state::{State, discretionary_holds, integrity_holds, is_secure, simple_holds, star_holds};
 use mls_tables::{Mode, Modes, ObjectId, SubjectId};
 use std::alloc::Allocator;
 use std::process::Abort;
@@ -193,15 +191,12 @@ fn take_other<A: Allocator>(rt: &impl Abort, state: &mut State<A>, step: &Step) 
             state.set_object_label(ObjectId(*o), security(level.0, level.1));
         }
         Step::Add(parent, level) => {
-            let labels = ObjectLabels {
-                security: security(level.0, level.1),
-                integrity: integrity(1),
-            };
+            let labels = (security(level.0, level.1), integrity(1));
             sees(rt, state.next() < 4096, "room");
             knows(rt, state, SubjectId(0), ObjectId(*parent));
             sees(
                 rt,
-                state.add_object(ObjectId(*parent), labels) == Ok(()),
+                state.add_object(ObjectId(*parent), &labels.0, &labels.1) == Ok(()),
                 "an object",
             );
         }

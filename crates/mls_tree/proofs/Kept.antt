@@ -27,7 +27,7 @@ use Rattle.mls_facts.proofs.Ranges.{filter_range_none}
 use Rattle.mls_tree.specs.Tree.{IsTree, HasNext, is_active, is_child, is_inferior, children, inferiors, next_number}
 use Rattle.mls_tree.specs.declared.profile.Profile.{Profile}
 use Rattle.mls_tree.specs.declared.profile.Profile.TheVariants.{One, Two}
-use Rattle.mls_tree.specs.Kept.{parents_of, IsKept, stays_listed}
+use Rattle.mls_tree.specs.Kept.{parents_of, IsKept, stays_listed, without_numbers}
 use Rattle.mls_tree.proofs.Grown.{nobody, root_alone, no_parent, IsTree-root, IsTree-insert, is_active-insert}
 use Rattle.mls_tree.proofs.Inferiors.{IsTree-retain, is_active-retain, inferior_below, inferior_active}
 use Rattle.mls_tree.proofs.Listed.{child_insert, list_any-inferiors, parent_from_child, IsStrictlyIncreasing-children}
@@ -181,6 +181,24 @@ discarded lists p x q within =
           (λ i. cond (ne_eqb q p other i) (filter others (get_or lists p [])) (get_or lists q []))
           ∙ sym (filter_all _ (get_or lists q []) (λ c. ap (λ b. not (eqb c x && b)) (ne_eqb p q (λ same. other (sym same))) ∙ ap not (and-false (eqb c x))))
 
+-- what is in a set without a number
+contains_removed : (s : FinSet nat_cmp) (n q : ℕ) → finset.contains (finset.remove s n) q ≡ cond (nat_eq q n) false (finset.contains s q)
+contains_removed s n q = finset.contains-remove nat_cmp_total s n q ∙ (λ i. not (unsigned_tied q n i) && finset.contains s q) ∙ tidy (nat_eq q n) (finset.contains s q) where
+  tidy : (e a : Bool) → (not e && a) ≡ cond e false a
+  tidy true a = refl
+  tidy false a = refl
+
+-- what is in a set without some numbers
+contains_without : (s : FinSet nat_cmp) (group : List ℕ) (q : ℕ) → finset.contains (without_numbers s group) q ≡ cond (list_any (eqb q) group) false (finset.contains s q)
+contains_without s [] q = refl
+contains_without s (n ∷ group) q =
+    contains_without (finset.remove s n) group q ∙ ap (cond (list_any (eqb q) group) false) (contains_removed s n q) ∙ merged (list_any (eqb q) group) (eqb q n) (finset.contains s q) where
+      merged : (a e b : Bool) → cond a false (cond e false b) ≡ cond (e || a) false b
+      merged true true b = refl
+      merged true false b = refl
+      merged false true b = refl
+      merged false false b = refl
+
 module _ (parents : List (Option ℕ)) (group : List ℕ) (o : ℕ) (tree : IsTree (parents_of parents) (is_active (parents_of parents))) (all : group ≡ inferiors (parents_of parents) o) where
   -- the group has just the inferiors
   in_group : (x : ℕ) → list_any (eqb x) group ≡ is_inferior (parents_of parents) x o
@@ -207,7 +225,7 @@ module _ (parents : List (Option ℕ)) (group : List ℕ) (o : ℕ) (tree : IsTr
 
     module _ (lists left : List (List ℕ)) (numbers fewer : FinSet nat_cmp) (kept : IsKept parents lists numbers) (other : o ≡ 0 → ⊥) (longer : length left ≡ length lists)
         (discards : (q : ℕ) → get_or left q [] ≡ filter (stays_listed parents group q) (cond (list_any (eqb q) group) [] (get_or lists q [])))
-        (frees : (q : ℕ) → finset.contains fewer q ≡ (finset.contains numbers q && not (list_any (eqb q) group))) where
+        (frees : fewer ≡ without_numbers numbers group) where
       abbrev m : FinMap nat_cmp ℕ
       m = parents_of parents
 
@@ -262,8 +280,13 @@ module _ (parents : List (Option ℕ)) (group : List ℕ) (o : ℕ) (tree : IsTr
         below = λ q is. let low : q < length parents = kept.below q (and_parts (is_active m q) (stays q) (sym (left_active q) ∙ ap (λ l. is_active l q) (sym parents_of-retain) ∙ is)).0 in omega (arith, many, low);
         as_many = let few : length parents ≤ length lists = kept.as_many in omega (arith, many, longer);
         rows = λ q. rows_left q ∙ ap (λ l. children l q) (sym parents_of-retain);
-        active = λ q. frees q ∙ (λ i. kept.active q i && not (in_group q i)) ∙ sym (left_active q) ∙ ap (λ l. is_active l q) (sym parents_of-retain);
-      }
+        active = λ q. ap (λ s. finset.contains s q) frees ∙ contains_without numbers group q ∙ (λ i. cond (in_group q i) false (kept.active q i)) ∙ freed (is_inferior m q o) (is_active m q) ∙ sym (left_active q) ∙ ap (λ l. is_active l q) (sym parents_of-retain);
+      } where
+        freed : (b a : Bool) → cond b false a ≡ (a && not b)
+        freed true true = refl
+        freed true false = refl
+        freed false true = refl
+        freed false false = refl
 
 -- the next number after a parent is placed at it
 pub placed_next : (profile : Profile) (parents : List (Option ℕ)) (n p : ℕ) → n ≡ next_number profile (length parents) (is_active (parents_of parents)) → n ≤ length parents

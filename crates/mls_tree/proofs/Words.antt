@@ -1,12 +1,12 @@
 -- Words of 64 bits as sets of object numbers.
-use Rattle.std.specs.Prelude.{◌≡◌, ℕ, ◌+◌, ◌*◌, ◌/◌, ◌^◌, ◌<◌, ◌≤◌, Bool, true, false, not, ◌&&◌, ◌||◌, nat_eq, nat_lt, bit_or, bit_and, List, length, replicate, refl}
+use Rattle.std.specs.Prelude.{◌≡◌, ℕ, ◌+◌, ◌*◌, ◌/◌, ◌^◌, ◌<◌, ◌≤◌, Bool, true, false, not, ◌&&◌, ◌||◌, nat_eq, nat_lt, bit_or, bit_and, min, List, length, replicate, refl}
 use Rattle.std.specs.Ordering.{nat_cmp}
 use Rattle.std.specs.Cmp.{nat_cmp_total, unsigned_tied}
 use Rattle.std.specs.Int.{bit_at, bit_not, w64}
 use Rattle.std.specs.FinSet.{empty, contains, insert, remove, same_set, contains-empty, contains-insert, contains-remove, nat_cmp-IsAntisymmetric}
 use Rattle.std.proofs.Common.{◌%◌, ◌⊎◌, inl, inr, arith, sym, ap, ◌∙◌, get_or, set, get_or-set_same, get_or-set_other, length-set}
 use Rattle.std.proofs.Math.Bool.{and-false}
-use Rattle.std.proofs.Math.Nat.{div-add-mod}
+use Rattle.std.proofs.Math.Nat.{div-add-mod, min-eq_left, min-eq_right}
 use Rattle.std.proofs.lemmas.Bool.{cases_lt, cases_eq, lt-ltb, le-ltb, eq-eqb, ne_eqb}
 use Rattle.std.proofs.lemmas.List.{get_or-replicate, length-replicate}
 use Rattle.std.proofs.lemmas.Nat.{or_lt}
@@ -152,7 +152,7 @@ module _ (words : List ℕ) (n : ℕ) (long : length words ≡ 64) (low : n < MA
   many-less = length-set words at _ ∙ long
 
   -- the first word that isn't full, where the number's word was full
-  pub IsWords-clear_before : (place : ℕ) → IsFirstOpen words place → at < place → IsWords less at
+  IsWords-clear_before : (place : ℕ) → IsFirstOpen words place → at < place → IsWords less at
   IsWords-clear_before place first earlier = record {
     many = many-less;
     first =
@@ -164,7 +164,7 @@ module _ (words : List ℕ) (n : ℕ) (long : length words ≡ 64) (low : n < MA
   }
 
   -- and where it wasn't
-  pub IsWords-clear_behind : (place : ℕ) → IsFirstOpen words place → place ≤ at → IsWords less place
+  IsWords-clear_behind : (place : ℕ) → IsFirstOpen words place → place ≤ at → IsWords less place
   IsWords-clear_behind place first later = record {
     many = many-less;
     first =
@@ -177,6 +177,13 @@ module _ (words : List ℕ) (n : ℕ) (long : length words ≡ 64) (low : n < MA
     from : get_or less place 0 ≡ full_word → (place ≡ at) ⊎ (place ≡ at → ⊥) → ⊥
     from full (inl same) = not_full (ap (λ i. get_or less i 0) (sym same) ∙ full)
     from full (inr other) = first.room (let l = many-less in omega (arith, here)) (sym (get_or-set_other words at place _ 0 other) ∙ full)
+
+  -- and so in either case
+  pub IsWords-clear : (place : ℕ) → IsFirstOpen words place → IsWords less (min at place)
+  IsWords-clear place first = from (cases_lt at place) where
+    from : (at < place) ⊎ (place ≤ at) → IsWords less (min at place)
+    from (inl earlier) = let before : at ≤ place = omega arith in rw (min-eq_left before) (IsWords-clear_before place first earlier)
+    from (inr later) = rw (min-eq_right later) (IsWords-clear_behind place first later)
 
 module _ (words : List ℕ) (place : ℕ) (is : IsWords words place) where
   -- each number of a full word is in the set

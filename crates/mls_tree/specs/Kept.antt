@@ -1,5 +1,5 @@
 -- How the fields of a tree stand for it.
-use Rattle.std.specs.Prelude.{◌≡◌, ℕ, ◌<◌, ◌≤◌, ◌==◌, ◌&&◌, Bool, not, IsTrue, List, Option, None, length}
+use Rattle.std.specs.Prelude.{◌≡◌, ℕ, ◌<◌, ◌≤◌, ◌==◌, ◌&&◌, Bool, not, IsTrue, List, [], ◌∷◌, Option, None, length}
 use Rattle.std.specs.Prelude.{slice_index_or}
 use Rattle.std.specs.List.{list_any}
 use Rattle.std.specs.Ordering.{nat_cmp}
@@ -34,6 +34,11 @@ pub record IsKept (parents : List (Option ℕ)) (lists : List (List ℕ)) (numbe
   pub as_many : length parents ≤ length lists
   pub rows : IsRows (λ o c. is_child (parents_of parents) c o) MAX_OBJECTS lists
   pub active : (o : ℕ) → set.contains numbers o ≡ is_active (parents_of parents) o
+
+-- A set of numbers without some, one after the other. (own)
+abbrev pub without_numbers : FinSet nat_cmp → List ℕ → FinSet nat_cmp
+without_numbers s [] = s
+without_numbers s (n ∷ group) = without_numbers (set.remove s n) group
 
 -- Whether an object stays in a list of children, where those of a group are taken out of the lists of their parents.
 -- (own)

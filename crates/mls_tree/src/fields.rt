@@ -1,5 +1,5 @@
 //! Steps on what a tree is kept as: a list of parents, and a list of children for each object.
-ghost use Rattle.std.specs.Prelude.{◌≡◌, ℕ, ◌<◌, ◌≤◌, ◌==◌, ◌&&◌, ◌++◌, [], ◌∷◌, not, Some, None, IfSome, IfNone};
+ghost use Rattle.std.specs.Prelude.{◌≡◌, ℕ, ◌<◌, ◌≤◌, ◌==◌, ◌++◌, [], ◌∷◌, not, Some, None, IfSome, IfNone};
 ghost use Rattle.std.specs.Prelude.{if◌then◌else◌, All, length, filter, slice_index, slice_index_or, slice_set};
 ghost use Rattle.std.specs.Prelude.{vec_len, IfOk, OnOk, OnErr};
 ghost use Rattle.std.specs.FinSet as set;
@@ -8,7 +8,7 @@ ghost use Rattle.std.specs.List.Sorted.{IsStrictlyIncreasing};
 ghost use Rattle.mls_tables.specs.declared.limits.TheConstants.{MAX_OBJECTS};
 ghost use Rattle.mls_facts.specs.Places.{placed};
 ghost use Rattle.mls_tables.specs.Rows.{Entered};
-ghost use Rattle.mls_tree.specs.Kept.{stays_listed};
+ghost use Rattle.mls_tree.specs.Kept.{stays_listed, without_numbers};
 
 use crate::numbers::Numbers;
 use mls_tables::{Lists, ObjectId, put_at};
@@ -147,8 +147,7 @@ pub(crate) fn forget_each(parents: &mut [Option<ObjectId>], group: &[ObjectId])
 /// Takes the objects out of a set of numbers.
 pub(crate) fn free_each<A: Allocator>(numbers: &mut Numbers<A>, group: &[ObjectId])
     requires { All (λ x. x < MAX_OBJECTS) group.now }
-    ensures { (q : ℕ)
-        → set.contains numbers.new q ≡ (set.contains numbers.old q && not (list_any (λ x. q == x) group.now)) }
+    ensures { numbers.new ≡ without_numbers numbers.old group.now }
 {
     for o in group {
         numbers.remove(o.number());

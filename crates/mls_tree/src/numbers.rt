@@ -1,5 +1,5 @@
 //! Sets of object numbers, a bit each.
-ghost use Rattle.std.specs.Prelude.{◌≡◌, ◌≢◌, ℕ, ◌<◌, ◌≤◌, IfOk, length, slice_index_or};
+ghost use Rattle.std.specs.Prelude.{◌≡◌, ◌≢◌, ℕ, ◌<◌, ◌≤◌, min, IfOk, length, slice_index_or};
 ghost use Rattle.std.specs.FinSet as set;
 ghost use Rattle.mls_tables.specs.declared.limits.TheConstants.{MAX_OBJECTS};
 ghost use Rattle.mls_facts.specs.Least.{least_failing};
@@ -20,6 +20,13 @@ fn first_open(words: &[u64], from: usize) -> usize
         at += 1;
     }
     at
+}
+
+/// The first word that isn't full, where that was `place` and a number of the word at `freed` was taken out.
+fn earlier_open(freed: usize, place: usize) -> usize
+    ensures { result ≡ min freed place }
+{
+    if freed < place { freed } else { place }
 }
 
 /// The place of the lowest bit that is 0, in a word that isn't full.
@@ -95,9 +102,7 @@ impl<A: Allocator> Numbers<A> {
     {
         let at = n as usize / 64;
         self.words[at] &= !(1 << (n % 64));
-        if at < self.place {
-            self.place = at;
-        }
+        self.place = earlier_open(at, self.place);
     }
 
     /// The least number that isn't in the set, 4,096 where all are.

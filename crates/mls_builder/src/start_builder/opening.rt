@@ -24,7 +24,8 @@ fn add_objects<A: Allocator>(state: &mut State<A>, objects: &[ObjectRow]) -> Res
     ensures { OnOk result (state.new ≡ with_rows state.old objects.now) }
 {
     for object in objects {
-        state.add_object(object.parent, object.labels)?;
+        let labels = &object.labels;
+        state.add_object(object.parent, &labels.security, &labels.integrity)?;
     }
     Ok(())
 }

@@ -15,9 +15,9 @@ use mls_tables::{Mode, ObjectId, SubjectId};
 fn do_labels_permit(subject: &Subject, object: &ObjectLabels, x: Mode) -> bool
     ensures { result ≡ labels_permit subject.now object.now x }
 {
-    simple_between(subject.maximum, object.security, x)
-        && (subject.trusted || star_between(subject.current, object.security, x))
-        && integrity_between(subject.integrity, object.integrity, x)
+    simple_between(&subject.maximum, &object.security, x)
+        && (subject.trusted || star_between(&subject.current, &object.security, x))
+        && integrity_between(&subject.integrity, &object.integrity, x)
 }
 
 /// Whether the labels of a triple's subject and object permit it, and both are there.

@@ -9,6 +9,7 @@ ghost use Rattle.mls_state.specs.First.{with_triples, SameCells};
 
 use crate::state::State;
 use crate::subject::ObjectLabels;
+use mls_labels::{IntLabel, SecLabel};
 use mls_tables::{AccessSet, Matrix, Mode, ObjectId, SubjectId, put_at};
 use std::alloc::{AllocError, Allocator};
 
@@ -46,10 +47,15 @@ impl<A: Allocator> State<A> {
     /// # Errors
     /// `AllocError` where an allocation failed; no read then tells the state from what it was.
     #[tactic(auto, using(crate::proofs::Tables::in_the_tree))]
-    pub fn add_object(&mut self, parent: ObjectId, labels: ObjectLabels) -> Result<(), AllocError>
+    pub fn add_object(
+        &mut self,
+        parent: ObjectId,
+        security: &SecLabel,
+        integrity: &IntLabel,
+    ) -> Result<(), AllocError>
         requires room { self.old.next < MAX_OBJECTS }
         requires parent { IsTrue (is_active self.old parent) }
-        ensures ok { OnOk result (self.new ≡ with_object self.old parent labels.security labels.integrity) }
+        ensures ok { OnOk result (self.new ≡ with_object self.old parent security.now integrity.now) }
         ensures err { OnErr result (self.new ≡ self.old) }
     {
         let next = self.next();
@@ -58,6 +64,10 @@ impl<A: Allocator> State<A> {
         self.objects.reserve(1)?;
         let Ok(_) = self.tree.add(parent) else {
             return Err(AllocError);
+        };
+        let labels = ObjectLabels {
+            security: *security,
+            integrity: *integrity,
         };
         put_at(&mut self.objects, next as usize, labels);
         self.tree.agrees();

@@ -1,5 +1,5 @@
 //! Taking objects out of a state.
-ghost use Rattle.std.specs.Prelude.{◌≡◌, ◌≢◌, ℕ, ◌<◌, IsTrue, OnOk, OnErr, not};
+ghost use Rattle.std.specs.Prelude.{◌≡◌, ◌≢◌, ◌<◌, IsTrue, OnOk, OnErr, All, not};
 ghost use Rattle.std.specs.FinMap as map;
 ghost use Rattle.mls_tables.specs.Table.{without_objects};
 ghost use Rattle.mls_tree.specs.Tree as hierarchy;
@@ -24,7 +24,7 @@ fn take_out<A: Allocator>(
     requires tree { IsTree tree.old.parent (hierarchy.is_active tree.old.parent) }
     requires object { IsTrue (hierarchy.is_active tree.old.parent o) }
     requires other { o ≢ 0 }
-    requires columns { (x : ℕ) → IsTrue (hierarchy.is_active tree.old.parent x) → x < matrix.old.columns }
+    requires columns { All (λ x. x < matrix.old.columns) (inferiors tree.old.parent o) }
     ensures tree { OnOk result (tree.new ≡
         with_parents tree.old
         (map.retain_keys tree.old.parent (λ x. not (is_inferior tree.old.parent x o))) tree.old.next) }

@@ -1,7 +1,7 @@
-use Rattle.std.proofs.Common.{◌≡◌, ℕ, ◌&&◌, not, eqb, take}
-use Rattle.std.specs.List.{list_any}
-use Rattle.std.specs.FinSet as set
+use Rattle.std.proofs.Common.{◌≡◌, drop}
+use Rattle.mls_tree.specs.Kept.{without_numbers}
 use Rattle.mls_tree.proofs.fields.free_each.Given as goal
 
+-- the set without the objects that are left is the set without all
 abbrev pub invariant-loop-o : goal.invariant-loop-o
-invariant-loop-o g l = (q : ℕ) → set.contains l.numbers q ≡ (set.contains l.initial.numbers q && not (list_any (eqb q) (take l.o-index l.group)))
+invariant-loop-o g l = without_numbers l.numbers (drop l.o-index l.group) ≡ without_numbers l.initial.numbers l.group

@@ -3,6 +3,7 @@ use Rattle.mls_facts.specs.Places.{placed}
 use Rattle.mls_tables.specs.declared.limits.TheConstants.{MAX_OBJECTS}
 use Rattle.mls_tree.specs.Tree as tree
 use Rattle.mls_state.specs.State.{State}
+use Rattle.mls_state.specs.declared.subject.ObjectLabels.{ObjectLabels}
 use Rattle.mls_state.specs.Changes.{with_object}
 use Rattle.mls_state.proofs.Tables.{active-tree}
 use Rattle.mls_state.proofs.Growing.{state-grown, agrees-grown}
@@ -11,11 +12,12 @@ use Rattle.mls_state.proofs.state.State.add_object.Goals as goal
 pub invariant_of-self-2 : goal.invariant_of-self-2
 invariant_of-self-2 g c =
     let a = c.self.inside in
+    let labels : ObjectLabels = record { security = c.args.security.now; integrity = c.args.integrity.now } in
     let same : c.next-next.result ≡ a.tree.next = c.next-next.ensures.number ∙ sym (ap (λ (v : State). v.next) c.self.view_is) in
     let room : a.tree.next < MAX_OBJECTS = rw (← c.self.view_is) at c.requires.room in
     let above : tree.is_active a.tree.parent c.args.parent ≡ true = sym (active-tree a c.self.invariant c.args.parent) ∙ rw (← c.self.view_is) at c.requires.parent in
-    agrees-grown a _ c.self.invariant c.args.parent c.args.labels above room refl
-    (c.put_at.ensures ∙ (λ i. placed (c.reserve.ensures.items i) (same i) c.args.labels)) c.in-Ok.ensures.ok
+    agrees-grown a _ c.self.invariant c.args.parent labels above room refl
+    (c.put_at.ensures ∙ (λ i. placed (c.reserve.ensures.items i) (same i) labels)) c.in-Ok.ensures.ok
     c.widen_matrix.ensures.kept.rows c.widen_matrix.ensures.kept.triples c.widen_matrix.ensures.kept.columns (rw same at c.in_ok-widen_matrix.ensures.ok)
     c.widen_accesses.ensures.kept.rows c.widen_accesses.ensures.kept.triples c.widen_accesses.ensures.kept.columns (rw same at c.in_ok-widen_accesses.ensures.ok)
     refl refl c.agrees.ensures.tree c.agrees.ensures.right
@@ -23,6 +25,7 @@ invariant_of-self-2 g c =
 pub returns-clause-ok : goal.returns-clause-ok
 returns-clause-ok g c =
     let a = c.self.inside in
+    let labels : ObjectLabels = record { security = c.args.security.now; integrity = c.args.integrity.now } in
     let same : c.next-next.result ≡ a.tree.next = c.next-next.ensures.number ∙ sym (ap (λ (v : State). v.next) c.self.view_is) in
     let room : a.tree.next < MAX_OBJECTS = rw (← c.self.view_is) at c.requires.room in
     let above : tree.is_active a.tree.parent c.args.parent ≡ true = sym (active-tree a c.self.invariant c.args.parent) ∙ rw (← c.self.view_is) at c.requires.parent in
@@ -35,9 +38,9 @@ returns-clause-ok g c =
       group = a.group;
       security = a.security;
       integrity = a.integrity;
-    }) c.self.invariant c.args.parent c.args.labels above room refl
-    (c.put_at.ensures ∙ (λ i. placed (c.reserve.ensures.items i) (same i) c.args.labels)) c.in-Ok.ensures.ok
+    }) c.self.invariant c.args.parent labels above room refl
+    (c.put_at.ensures ∙ (λ i. placed (c.reserve.ensures.items i) (same i) labels)) c.in-Ok.ensures.ok
     c.widen_matrix.ensures.kept.rows c.widen_matrix.ensures.kept.triples c.widen_matrix.ensures.kept.columns (rw same at c.in_ok-widen_matrix.ensures.ok)
     c.widen_accesses.ensures.kept.rows c.widen_accesses.ensures.kept.triples c.widen_accesses.ensures.kept.columns (rw same at c.in_ok-widen_accesses.ensures.ok)
     refl refl
-    ∙ ap (λ (v : State). with_object v c.args.parent c.args.labels.security c.args.labels.integrity) c.self.view_is
+    ∙ ap (λ (v : State). with_object v c.args.parent c.args.security.now c.args.integrity.now) c.self.view_is

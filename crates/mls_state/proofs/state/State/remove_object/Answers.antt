@@ -1,4 +1,6 @@
-use Rattle.std.proofs.Common.{◌<◌, ◌≤◌, length, ◌∙◌, ap, refl, sym, arith}
+use Rattle.std.proofs.Common.{◌<◌, ◌≤◌, length, get_or, ◌∙◌, ap, refl, sym, arith}
+use Rattle.mls_tree.specs.Tree.{inferiors}
+use Rattle.mls_tree.proofs.Laws.{inferiors_active}
 use Rattle.mls_state.specs.State.{State}
 use Rattle.mls_state.specs.Changes.{without_group}
 use Rattle.mls_state.proofs.Copies.{agrees-same}
@@ -13,7 +15,10 @@ pub take_out-requires-clause-object : goal.take_out-requires-clause-object
 take_out-requires-clause-object g c = sym (active-tree c.self.inside c.self.invariant c.args.o) ∙ rw (← c.self.view_is) at c.requires.object
 
 pub take_out-requires-clause-columns : goal.take_out-requires-clause-columns
-take_out-requires-clause-columns g c x active =
+take_out-requires-clause-columns g c k d within =
+    let m = c.self.inside.tree.parent in
+    let x = get_or (inferiors m c.args.o) k d in
+    let active = inferiors_active m c.args.o c.self.invariant.tree k d within in
     let place : x < length c.self.inside.objects.items = c.self.invariant.labels x active in
     let wide : length c.self.inside.objects.items ≤ c.self.inside.matrix.columns = c.self.invariant.matrix_columns in
     omega arith
