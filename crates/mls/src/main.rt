@@ -50,7 +50,7 @@ fn run_texts<R: Threads + Wait + Sync>(
 }
 
 /// Runs scripts over the bytes of a start file, once they were read.
-fn run_scripts<R: Threads + Wait + Sync>(
+fn lend_and_run<R: Threads + Wait + Sync>(
     threads: &R,
     progress: &mut Progress<'_>,
     start: &[u8],
@@ -70,7 +70,7 @@ fn run_scripts<R: Threads + Wait + Sync>(
 }
 
 /// Reads the scripts of a run whose start file was read, and runs them.
-fn run_over<R: Threads + Wait + Sync>(
+fn read_and_run<R: Threads + Wait + Sync>(
     threads: &R,
     progress: &mut Progress<'_>,
     start: &[u8],
@@ -80,7 +80,7 @@ fn run_over<R: Threads + Wait + Sync>(
 {
     match read_scripts(progress, words) {
         Ok(texts) => {
-            let status = run_scripts(threads, progress, start, &texts, words);
+            let status = lend_and_run(threads, progress, start, &texts, words);
             drop(texts);
             status
         }
@@ -98,7 +98,7 @@ fn run<R: Threads + Wait + Sync>(threads: &R, rt: &HostRuntime, words: &RunWords
         Ok(bytes) => bytes,
         Err(fault) => return file_refused(&mut progress, words.start, fault),
     };
-    let status = run_over(threads, &mut progress, &start, words);
+    let status = read_and_run(threads, &mut progress, &start, words);
     drop(start);
     status
 }

@@ -1,55 +1,39 @@
 //! The names of an open monitor's start.
 ghost use Rattle.std.specs.Prelude.{◌≡◌, ◌≢◌, Some};
-ghost use Rattle.mls_c.specs.Opened.{Opened};
 ghost use Rattle.mls_c.specs.Texts.{name_in, found_status, status_if_open, subject_named, object_named};
 ghost use Rattle.mls_c.specs.declared.status.TheConstants.{OK};
 
 use crate::handle::Mls;
-use crate::opened::Opened;
 use crate::status::{ECLOSED, ENOTFOUND, OK};
 use crate::text::text_of;
 use mls_lines::Names;
-use mls_tables::{ObjectId, SubjectId};
 use std::alloc::Global;
 
-/// The subject of a name.
-fn subject_of(names: &Names, name: &[u8]) -> Option<SubjectId>
+/// The number of the subject of a name.
+fn subject_of(names: &Names, name: &[u8]) -> Option<u16>
     ensures { result ≡ name_in names.now.subjects name.now }
 {
-    names.subject(text_of(name)?)
+    let subject = names.subject(text_of(name)?)?;
+    Some(subject.number())
 }
 
-/// The object of a name.
-fn object_of(names: &Names, name: &[u8]) -> Option<ObjectId>
+/// The number of the object of a name.
+fn object_of(names: &Names, name: &[u8]) -> Option<u16>
     ensures { result ≡ name_in names.now.objects name.now }
 {
-    names.object(text_of(name)?)
+    let object = names.object(text_of(name)?)?;
+    Some(object.number())
 }
 
-/// Tells the number of a subject's name.
-fn tell_subject(opened: &Opened, name: &[u8], number: &mut u16) -> i32
-    ensures status { result ≡ found_status (name_in opened.now.names.subjects name.now) }
-    ensures found { result ≡ OK → name_in opened.now.names.subjects name.now ≡ Some number.new }
+/// Tells the number of a name, where it has one.
+fn tell(found: Option<u16>, number: &mut u16) -> i32
+    ensures status { result ≡ found_status found }
+    ensures found { result ≡ OK → found ≡ Some number.new }
     ensures silent { result ≢ OK → number.new ≡ number.old }
 {
-    match subject_of(opened.names(), name) {
-        Some(subject) => {
-            *number = subject.number();
-            OK
-        }
-        None => ENOTFOUND,
-    }
-}
-
-/// Tells the number of an object's name.
-fn tell_object(opened: &Opened, name: &[u8], number: &mut u16) -> i32
-    ensures status { result ≡ found_status (name_in opened.now.names.objects name.now) }
-    ensures found { result ≡ OK → name_in opened.now.names.objects name.now ≡ Some number.new }
-    ensures silent { result ≢ OK → number.new ≡ number.old }
-{
-    match object_of(opened.names(), name) {
-        Some(object) => {
-            *number = object.number();
+    match found {
+        Some(found) => {
+            *number = found;
             OK
         }
         None => ENOTFOUND,
@@ -73,7 +57,7 @@ pub extern "C" fn mls_subject_bytes(
     let Some(opened) = m.take(alloc) else {
         return ECLOSED;
     };
-    let status = tell_subject(&opened, name, number);
+    let status = tell(subject_of(opened.names(), name), number);
     m.put(opened);
     status
 }
@@ -90,7 +74,7 @@ pub extern "C" fn mls_object_bytes(m: &mut Mls, alloc: Global, name: &[u8], numb
     let Some(opened) = m.take(alloc) else {
         return ECLOSED;
     };
-    let status = tell_object(&opened, name, number);
+    let status = tell(object_of(opened.names(), name), number);
     m.put(opened);
     status
 }

@@ -30,7 +30,7 @@ fn ended(
 ) -> ExitCode {
     progress.end();
     match done {
-        Ok(text) => print(progress.rt(), &text),
+        Ok(text) => print(progress.rt(), text.as_bytes()),
         Err(fault) => command_refused(progress.rt(), file_of(&fault, start, journal), &fault),
     }
 }

@@ -78,7 +78,7 @@ pub fn lent<'a>(alloc: Global, texts: &'a [Vec<u8>]) -> Result<Vec<&'a [u8]>, Al
 }
 
 /// Writes the journal where that was asked for, and then the output.
-fn print_run(progress: &mut Progress<'_>, run: &RunText, words: &RunWords<'_>) -> ExitCode {
+fn write_run(progress: &mut Progress<'_>, run: &RunText, words: &RunWords<'_>) -> ExitCode {
     if let (Some(path), Some(text)) = (words.journal, &run.journal) {
         progress.begin("writing the journal");
         if !write_file(progress.rt(), path, text) {
@@ -96,7 +96,7 @@ pub fn ended_run(
     words: &RunWords<'_>,
 ) -> ExitCode {
     match done {
-        Ok(run) => print_run(progress, &run, words),
+        Ok(run) => write_run(progress, &run, words),
         Err(fault) => {
             progress.end();
             command_refused(progress.rt(), words.start, &fault)

@@ -41,8 +41,8 @@ pub fn file_refused(progress: &mut Progress<'_>, file: &str, fault: FileFault) -
 }
 
 /// Writes the output of a command to standard output.
-pub fn print(rt: &HostRuntime, text: &str) -> ExitCode {
-    if is_taken(&mut rt.stdout(), text.as_bytes()) {
+pub fn print(rt: &HostRuntime, output: &[u8]) -> ExitCode {
+    if is_taken(&mut rt.stdout(), output) {
         ExitCode::SUCCESS
     } else {
         refused(rt, NOT_WRITTEN, 1)

@@ -1,10 +1,18 @@
 //! What a command prints of a monitor once its work is done.
 ghost use Rattle.std.specs.Prelude.{◌≡◌, length, codes, string_bytes, IfOk, if◌then◌else◌};
+ghost use Rattle.mls_monitor.specs.Journal.{IsLegal};
 ghost use Rattle.mls_outcomes.specs.RunTexts.{ending as ending_text};
 
 use mls_monitor::Monitor;
 use mls_rules::is_secure;
 use std::alloc::{AllocError, Global};
+
+/// A monitor's journal is legal from its start. The function does nothing: what it says is the monitor's invariant.
+pub fn journal_is_legal(monitor: &Monitor)
+    ensures { IsLegal monitor.now.start monitor.now.entries }
+{
+    let _ = monitor.entries();
+}
 
 /// The word for whether something holds.
 pub(crate) fn yes_or_no(holds: bool) -> &'static str

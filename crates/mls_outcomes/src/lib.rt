@@ -6,5 +6,5 @@ mod endings;
 mod run_text;
 
 pub use command::{CommandFault, status};
-pub use endings::ending;
+pub use endings::{ending, journal_is_legal};
 pub use run_text::{MAX_SCRIPTS, RunText, push_ending, push_heading, with_journal};

@@ -6,9 +6,9 @@ use mls_cli::{
     replay_journal, run_serial, run_threads, standard_start, status, write_fault,
 };
 use mls_monitor::Start;
-use std::io;
 use std::sync::Wait;
 use std::thread::Threads;
+use std::{io, str};
 
 /// Prints what a start has: how many subjects, objects and cells.
 fn show_start(rt: &impl Print, start: &Start) -> io::Result<()> {
@@ -97,7 +97,8 @@ pub fn ask_line(rt: &HostRuntime, fault: &CommandFault) -> io::Result<bool> {
 
 /// Prints what a run printed, and its journal.
 pub fn show_run(rt: &impl Print, run: &RunText) -> io::Result<()> {
-    print!(rt; "{}", run.output)?;
+    let output = str::from_utf8(&run.output).unwrap_or("no text");
+    print!(rt; "{output}")?;
     match &run.journal {
         Some(text) => print!(rt; "{text}"),
         None => println!(rt; "no journal"),

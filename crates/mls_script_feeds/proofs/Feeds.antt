@@ -1,6 +1,8 @@
 -- Feeds in their order, and what they print.
 use Rattle.std.proofs.Common.{◌≡◌, ◌<◌, ◌+◌, ℕ, suc, false, take, map, length, get_or, List, [], ◌∷◌, ◌++◌, refl, sym, ap, ◌∙◌, arith, subst, Option}
 use Rattle.std.specs.Prelude.{Bool}
+use Rattle.std.specs.List.{list_any}
+use Rattle.std.proofs.lemmas.Bool.{or_parts}
 use Rattle.std.proofs.lemmas.List.{append_assoc, append-nil, take_more, length-take-le, map-append}
 use Rattle.mls_scripts.specs.Feed.{ScriptFeed}
 use Rattle.mls_scripts.specs.Fed.{Gives, GivesAhead, Takes, Prints}
@@ -13,7 +15,7 @@ use Rattle.mls_feeds.specs.Feeds.{Exchange, in_turns, AllFed}
 use Rattle.mls_feeds.specs.Entries.{AllBelow}
 use Rattle.mls_outcomes.specs.RunTexts.{heading}
 use Rattle.mls_script_feeds.specs.Threads.{ThreadsPrint, LeavesInThreads}
-use Rattle.mls_script_feeds.specs.Fed.{IsFeedOf, AreFeedsOf, NoneFailed, LeavesFeeds, fed_texts}
+use Rattle.mls_script_feeds.specs.RunFeeds.{IsFeedOf, AreFeedsOf, NoneFailed, LeavesFeeds, fed_texts}
 -- a list of feeds at a stage, with one more
 pub use Rattle.mls_feeds.proofs.Laws.{at_snoc}
 
@@ -71,14 +73,12 @@ are_many names [] (f ∷ feeds) are = absurd are
 are_many names (s ∷ scripts) [] are = absurd are
 are_many names (s ∷ scripts) (f ∷ feeds) are = ap suc (are_many names scripts feeds are.1)
 
--- one more that didn't fail
-none_more : (feeds : List ScriptFeed) (f : ScriptFeed) → NoneFailed feeds → f.failed ≡ false → NoneFailed (feeds ++ f ∷ [])
-none_more [] f none is = (is, tt)
-none_more (g ∷ feeds) f none is = (none.0, none_more feeds f none.1 is)
-
-pub none_taken : (feeds : List ScriptFeed) (i : ℕ) (d : ScriptFeed) → i < length feeds → NoneFailed (take i feeds) → d ≡ get_or feeds i d → d.failed ≡ false → NoneFailed (take (i + 1) feeds)
-none_taken feeds i d within none here is =
-    subst NoneFailed (sym (take_more feeds i d within)) (none_more (take i feeds) (get_or feeds i d) none (subst (λ f. f.failed ≡ false) here is))
+-- where no feed says that an allocation failed
+pub none_failed : (feeds : List ScriptFeed) → list_any (λ f. f.failed) feeds ≡ false → NoneFailed feeds
+none_failed [] none = tt
+none_failed (f ∷ feeds) none =
+    let parts = or_parts f.failed (list_any (λ g. g.failed) feeds) none in
+    (parts.0, none_failed feeds parts.1)
 
 -- what feeds have to say is what their scripts print
 threads_print : (names : Names) (start : State) (entries : List Entry) (k : ℕ) (scripts : List (List ℕ)) (feeds left : List ScriptFeed) → AreFeedsOf names scripts feeds

@@ -1,16 +1,19 @@
 //! The feeds of a run in threads, and what they print.
-ghost use Rattle.std.specs.Prelude.{◌≡◌, ◌≤◌, ◌++◌, length, map, vec_len, string_bytes, is_some, false, IfOk, IfSome};
+ghost use Rattle.std.specs.Prelude.{◌≡◌, ◌≤◌, ◌++◌, length, map, vec_len, string_bytes, is_some, IfOk, IfSome};
 ghost use Rattle.std.specs.Prelude.{OnOk};
+ghost use Rattle.std.specs.List.{list_any};
 ghost use Rattle.mls_feeds.specs.declared.feed.Stage.TheVariants as stage;
 ghost use Rattle.mls_monitor.specs.Journal.{IsLegal};
 ghost use Rattle.mls_feeds.specs.Feeds.{AllAt};
 ghost use Rattle.mls_journal.specs.EntryText.{journal_text};
 ghost use Rattle.mls_outcomes.specs.RunTexts.{ending};
-ghost use Rattle.mls_script_feeds.specs.Fed.{AreFeedsOf, NoneFailed, fed_texts};
+ghost use Rattle.mls_script_feeds.specs.RunFeeds.{AreFeedsOf, NoneFailed, fed_texts};
 
 use mls_lines::Names;
 use mls_monitor::Monitor;
-use mls_outcomes::{MAX_SCRIPTS, RunText, push_ending, push_heading, with_journal};
+use mls_outcomes::{
+    MAX_SCRIPTS, RunText, journal_is_legal, push_ending, push_heading, with_journal,
+};
 use mls_scripts::ScriptFeed;
 use std::alloc::{AllocError, Global};
 
@@ -34,14 +37,9 @@ pub fn make_feeds<'a>(
 
 /// Whether an allocation failed for some script.
 fn any_failed(feeds: &[ScriptFeed<'_>]) -> bool
-    ensures { result ≡ false → NoneFailed feeds.now }
+    ensures { result ≡ list_any (λ f. f.failed) feeds.now }
 {
-    for feed in feeds {
-        if feed.failed() {
-            return true;
-        }
-    }
-    false
+    feeds.iter().any(|feed| feed.failed())
 }
 
 /// Appends the answers of each script under its heading, the first as session 0.
@@ -58,8 +56,8 @@ fn push_texts(feeds: &[ScriptFeed<'_>], output: &mut Vec<u8>) -> Result<(), Allo
     Ok(())
 }
 
-/// What a run prints: the answers of each script under its heading, and how the monitor stands at the end.
-fn print_feeds(
+/// Appends what a run prints: the answers of each script under its heading, and how the monitor stands at the end.
+fn push_feeds(
     alloc: Global,
     monitor: &Monitor,
     feeds: &[ScriptFeed<'_>],
@@ -73,26 +71,8 @@ fn print_feeds(
     push_ending(alloc, monitor, output)
 }
 
-/// What a run prints, in a text of its own.
-fn feeds_output(
-    alloc: Global,
-    monitor: &Monitor,
-    feeds: &[ScriptFeed<'_>],
-) -> Result<String, AllocError>
-    requires { length feeds.now ≤ MAX_SCRIPTS }
-    ensures { IfOk result (λ text. string_bytes text ≡ fed_texts 0 feeds.now ++ ending (length monitor.now.entries)) }
-{
-    let mut output = Vec::new(alloc);
-    match print_feeds(alloc, monitor, feeds, &mut output) {
-        Ok(()) => String::from_utf8(output).map_err(|_| AllocError),
-        Err(error) => {
-            drop(output);
-            Err(error)
-        }
-    }
-}
-
 /// What a run came to whose scripts were all asked to their end.
+#[tactic(auto, using(crate::proofs::Feeds::none_failed))]
 pub fn done_text(
     alloc: Global,
     monitor: &Monitor,
@@ -103,16 +83,16 @@ pub fn done_text(
     ensures journal { IfOk result
         (λ run. IfSome run.journal (λ text. string_bytes text ≡ journal_text monitor.now.entries)) }
     ensures output { IfOk result
-        (λ run. string_bytes run.output ≡ fed_texts 0 feeds.now ++ ending (length monitor.now.entries)) }
+        (λ run. run.output.items ≡ fed_texts 0 feeds.now ++ ending (length monitor.now.entries)) }
     ensures asked { IfOk result (λ run. is_some run.journal ≡ journal) }
     ensures whole { OnOk result (NoneFailed feeds.now) }
     ensures legal { IsLegal monitor.now.start monitor.now.entries }
 {
-    // that its journal is legal
-    let _ = monitor.entries();
+    journal_is_legal(monitor);
     if any_failed(feeds) {
         return Err(AllocError);
     }
-    let output = feeds_output(alloc, monitor, feeds)?;
+    let mut output = Vec::new(alloc);
+    push_feeds(alloc, monitor, feeds, &mut output)?;
     with_journal(alloc, monitor, output, journal)
 }

@@ -21,7 +21,7 @@ use Rattle.mls_outcomes.specs.Loads.{RefusesLoad, IsRunFault, RefusesRun}
 use Rattle.mls_threads.specs.RunFaults.{run_fault}
 use Rattle.mls_script_feeds.specs.Threads.{LeavesInThreads, RunsInThreads}
 use Rattle.mls_outcomes.specs.RunTexts.{ending}
-use Rattle.mls_script_feeds.specs.Fed.{NoneFailed, LeavesFeeds, fed_texts}
+use Rattle.mls_script_feeds.specs.RunFeeds.{NoneFailed, LeavesFeeds, fed_texts}
 use Rattle.mls_outcomes.proofs.Laws.{journal_asked}
 
 -- what a run of feeds left, of a monitor that grew from an empty journal

@@ -9,7 +9,7 @@ ghost use Rattle.mls_threads.specs.RunFaults.{run_fault};
 ghost use Rattle.mls_journal.specs.EntryText.{journal_text};
 ghost use Rattle.mls_script_feeds.specs.Threads.{LeavesInThreads, RunsInThreads};
 ghost use Rattle.mls_outcomes.specs.RunTexts.{ending};
-ghost use Rattle.mls_script_feeds.specs.Fed.{NoneFailed, LeavesFeeds, fed_texts};
+ghost use Rattle.mls_script_feeds.specs.RunFeeds.{NoneFailed, LeavesFeeds, fed_texts};
 
 use mls_lines::Names;
 use mls_monitor::{Monitor, Start};
@@ -30,7 +30,7 @@ fn finish(
 ) -> Result<RunText, CommandFault>
     requires { vec_len left.feeds ≤ MAX_SCRIPTS }
     ensures output { IfOk result
-        (λ run. string_bytes run.output ≡ fed_texts 0 left.entry.feeds.items
+        (λ run. run.output.items ≡ fed_texts 0 left.entry.feeds.items
         ++ ending (length left.entry.monitor.entries)) }
     ensures journal { IfOk result
         (λ run. IfSome run.journal (λ text. string_bytes text ≡ journal_text left.entry.monitor.entries)) }
@@ -70,7 +70,7 @@ fn run_feeds<R: Threads + Wait + Sync>(
     requires count { vec_len feeds ≤ MAX_SCRIPTS }
     requires fresh { monitor.entries ≡ [] }
     ensures ok { IfOk result
-        (λ run. LeavesFeeds monitor.start feeds.entry.items journal (string_bytes run.output)
+        (λ run. LeavesFeeds monitor.start feeds.entry.items journal run.output.items
         (option_map (λ text. string_bytes text) run.journal)) }
     ensures fault { IfErr result IsRunFault }
 {
@@ -97,7 +97,7 @@ fn run_over<R: Threads + Wait + Sync>(
     requires fresh { monitor.entries ≡ [] }
     ensures ok { IfOk result
         (λ run. LeavesInThreads names.now monitor.start (map (λ script. script.now) scripts.now) journal
-        (string_bytes run.output) (option_map (λ text. string_bytes text) run.journal)) }
+        run.output.items (option_map (λ text. string_bytes text) run.journal)) }
     ensures fault { IfErr result IsRunFault }
 {
     let Ok(feeds) = make_feeds(alloc, names, scripts) else {
@@ -119,7 +119,7 @@ fn run_start<R: Threads + Wait + Sync>(
     requires { (0 < length scripts.now) × (length scripts.now ≤ MAX_SCRIPTS) }
     ensures ok { IfOk result
         (λ run. LeavesInThreads names.now start (map (λ script. script.now) scripts.now) journal
-        (string_bytes run.output) (option_map (λ text. string_bytes text) run.journal)) }
+        run.output.items (option_map (λ text. string_bytes text) run.journal)) }
     ensures fault { IfErr result IsRunFault }
 {
     let Ok(monitor) = Monitor::open(alloc, start) else {
@@ -146,7 +146,7 @@ pub fn run_threads<R: Threads + Wait + Sync>(
     requires count { (0 < length scripts.now) × (length scripts.now ≤ MAX_SCRIPTS) }
     requires limit { All (λ script. length script.now ≤ SCRIPT_LIMIT) scripts.now }
     ensures ok { IfOk result
-        (λ run. RunsInThreads start.now (map (λ script. script.now) scripts.now) journal (string_bytes run.output)
+        (λ run. RunsInThreads start.now (map (λ script. script.now) scripts.now) journal run.output.items
         (option_map (λ text. string_bytes text) run.journal)) }
     ensures fault { IfErr result (λ fault. RefusesRun start.now fault) }
 {

@@ -1,7 +1,7 @@
 use Rattle.std.proofs.Common.{◌≡◌, vec_len, take, map}
 use Rattle.mls_feeds.specs.declared.feed.Stage.TheVariants.{Ready}
 use Rattle.mls_feeds.specs.Feeds.{AllAt}
-use Rattle.mls_script_feeds.specs.Fed.{AreFeedsOf}
+use Rattle.mls_script_feeds.specs.RunFeeds.{AreFeedsOf}
 use Rattle.mls_script_feeds.proofs.fed.make_feeds.Given as goal
 
 abbrev pub invariant-loop-script : goal.invariant-loop-script

@@ -1,5 +1,5 @@
 use Rattle.std.proofs.Common.{◌≡◌, ◌++◌, take}
-use Rattle.mls_script_feeds.specs.Fed.{fed_texts}
+use Rattle.mls_script_feeds.specs.RunFeeds.{fed_texts}
 use Rattle.mls_script_feeds.proofs.fed.push_texts.Given as goal
 
 abbrev pub invariant-loop-feed : goal.invariant-loop-feed

@@ -7,4 +7,4 @@ use Rattle.mls_threads.proofs.threading.run_over.Goals as goal
 pub returns-clause-ok : goal.returns-clause-ok
 returns-clause-ok g c =
     IfOk-weaker c.run_feeds.result _ _ (λ run left. leaves_in_threads c.args.names.now c.args.monitor.start (map (λ script. script.now) c.args.scripts.now) c.in-Ok.feeds.items c.args.journal
-    (string_bytes run.output) (option_map (λ text. string_bytes text) run.journal) c.in-Ok.ensures.feeds left) c.run_feeds.ensures.ok
+    run.output.items (option_map (λ text. string_bytes text) run.journal) c.in-Ok.ensures.feeds left) c.run_feeds.ensures.ok
