@@ -69,9 +69,11 @@ def refusals_where_nothing_is_proved():
     """What asks for the proved program alone, or types at a terminal, is told at once to prove first."""
     terminal, other = pty.openpty()
     asked = [unbuilt(["--proved"], FOUR), unbuilt([], FOUR, proved="1"), unbuilt([], stdin=other)]
+    asked.append(unbuilt(["serve", "--journal", "none", f"{EXAMPLES}/standard.json"], FOUR))
     for found in (*asked, unbuilt(["check", "/dev/stdin"], FOUR)):
         same(found[:2], (126, b""))
         assert found[2].count(b"\n") == 1 and b"run bin/prove first" in found[2], shown(found)
+    assert not os.path.exists("none"), "a journal was made"
     os.close(terminal)
     os.close(other)
 

@@ -9,6 +9,7 @@ use mls_files::{NO_MEMORY, Progress, file_refused, refused};
 use mls_outcomes::MAX_SCRIPTS;
 use mls_runs::run_serial;
 use mls_scripts::SCRIPT_LIMIT;
+use mls_service::serve_journal;
 use mls_threads::run_threads;
 use mls_words::{Job, RunWords, read_words};
 use std::env;
@@ -113,7 +114,8 @@ fn run_words<R: Threads + Wait + Sync>(
         Ok(Job::Check { start }) => check(rt, start),
         Ok(Job::Run(words)) => run(threads, rt, &words),
         Ok(Job::Replay { start, journal }) => replay(rt, start, journal),
-        Ok(Job::Serve) => serve_standard(rt),
+        Ok(Job::Serve(words)) => serve_journal(rt, &words),
+        Ok(Job::Answer) => serve_standard(rt),
         Err(status) => status,
     }
 }

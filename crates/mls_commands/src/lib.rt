@@ -1,4 +1,4 @@
-//! The commands over files and streams, but for the run of scripts in threads.
+//! The commands over files and streams, but for the run of scripts in threads and the service.
 #![tactic(auto)]
 
 mod commands;
@@ -7,5 +7,6 @@ mod scripts;
 mod serving;
 
 pub use commands::{check, replay, start_file};
+pub use output::command_refused;
 pub use scripts::{ended_run, lent, read_scripts};
 pub use serving::serve_standard;

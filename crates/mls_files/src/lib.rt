@@ -6,5 +6,5 @@ mod output;
 mod progress;
 
 pub use files::{FileFault, Input, write_file};
-pub use output::{NO_MEMORY, NOT_WRITTEN, file_refused, print, refused};
+pub use output::{NO_MEMORY, NOT_WRITTEN, file_refused, is_taken, print, refused};
 pub use progress::Progress;

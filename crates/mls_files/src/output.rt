@@ -11,7 +11,7 @@ pub const NOT_WRITTEN: &str = "mls: output: write";
 pub const NO_MEMORY: &str = "mls: memory";
 
 /// Hands bytes to a writer until all are taken, and says whether it took them. An interrupted write counts as failed.
-pub(crate) fn is_taken<W: Write>(writer: &mut W, text: &[u8]) -> bool {
+pub fn is_taken<W: Write>(writer: &mut W, text: &[u8]) -> bool {
     let mut rest = text;
     while !rest.is_empty() {
         match writer.write(rest) {

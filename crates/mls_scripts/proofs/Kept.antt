@@ -64,7 +64,7 @@ kept_something kept [] h is = h ∙ ap (λ k. eqb (length k) 0) (is ∙ take_all
 kept_something kept (c ∷ line) h is = sym (eqb-suc-zero (length line))
 
 -- both a line and what is kept of it are too long, or they are the same
-line_of-kept : (names : Names) (vars : List (List ℕ × ℕ)) (line : List ℕ) → line_of names vars (kept_of line) ≡ line_of names vars line
+pub line_of-kept : (names : Names) (vars : List (List ℕ × ℕ)) (line : List ℕ) → line_of names vars (kept_of line) ≡ line_of names vars line
 line_of-kept names vars line =
     elim (cases_lt 20001 (length line)) [
       | inl long ↦

@@ -26,11 +26,11 @@ module _ (names : Names) (session : ℕ) where
       ap (λ text. answer_to names s line ++ text) (answers-append (after_line names session s line) lines back)
       ∙ sym (append_assoc (answer_to names s line) _ _)
 
-  answers-one : (s : Standing) (line : List ℕ) → answers names session s (line ∷ []) ≡ answer_to names s line
+  pub answers-one : (s : Standing) (line : List ℕ) → answers names session s (line ∷ []) ≡ answer_to names s line
   unfolding answers
   answers-one s line = append-nil _
 
-  after_lines-one : (s : Standing) (line : List ℕ) → after_lines names session s (line ∷ []) ≡ after_line names session s line
+  pub after_lines-one : (s : Standing) (line : List ℕ) → after_lines names session s (line ∷ []) ≡ after_line names session s line
   unfolding after_lines
   after_lines-one s line = refl
 

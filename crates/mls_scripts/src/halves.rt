@@ -21,7 +21,7 @@ pub struct Asking<'a> {
 ///
 /// # Errors
 /// `AllocError` where an allocation failed.
-pub(crate) fn push_answer(text: &mut Vec<u8>, answer: Answer) -> Result<(), AllocError>
+pub fn push_answer(text: &mut Vec<u8>, answer: Answer) -> Result<(), AllocError>
     ensures { OnOk result (text.new.items ≡ text.old.items ++ answer_bytes answer) }
 {
     match write_answer(text, answer) {

@@ -15,5 +15,7 @@ mod theorems;
 
 pub use answer::{Answer, Script};
 pub use feed::ScriptFeed;
+pub use halves::push_answer;
+pub use lines::{cut_line, keep};
 pub use serving::{SCRIPT_LIMIT, ServeFault, serve};
 pub use theorems::{a_script_alone_is_served, scripts_are_served_by_halves};

@@ -3,4 +3,4 @@
 
 mod words;
 
-pub use words::{Job, RunWords, read_words};
+pub use words::{Job, RunWords, ServeWords, read_words};

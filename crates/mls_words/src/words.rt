@@ -15,17 +15,31 @@ pub struct RunWords<'a> {
     pub is_serial: bool,
 }
 
+/// What a service is asked for.
+#[derive(Clone, Copy, Debug)]
+pub struct ServeWords<'a> {
+    pub start: &'a str,
+    /// The journal's file.
+    pub journal: &'a str,
+    /// The number of the session that asks.
+    pub session: u32,
+    /// Whether a torn end of the journal is cut off.
+    pub is_recovering: bool,
+}
+
 /// What a command line asks for.
 #[derive(Debug, Drop)]
 pub enum Job<'a> {
     /// To answer the script on standard input.
-    Serve,
+    Answer,
     /// To check a start file.
     Check { start: &'a str },
     /// To run scripts over a start file.
     Run(RunWords<'a>),
     /// To replay a journal over a start file.
     Replay { start: &'a str, journal: &'a str },
+    /// To serve standard input over a start file and the file of a journal.
+    Serve(ServeWords<'a>),
 }
 
 /// The version, and the toolchain's line.
@@ -54,6 +68,18 @@ const REPLAY_ABOUT: &str =
 
 const REPLAY_EXAMPLE: &str = "Example: mls replay examples/office.json office.journal";
 
+const SERVE_ABOUT: &str =
+    "Answers the lines on standard input over a start file, and goes on with the journal in FILE. The entries of lines are \
+     on the disk before their answers are written";
+
+const SERVE_EXAMPLE: &str = "Example: mls serve --journal office.journal examples/office.json";
+
+/// What is said of the journal that a run writes.
+const WRITES_JOURNAL: &str = "Writes the journal to FILE, which is made anew";
+
+/// What is said of the journal of a service.
+const KEEPS_JOURNAL: &str = "The journal, which is made where it isn't there";
+
 /// The operand `START`.
 fn start_operand<'a>(alloc: Global) -> Arg<'a> {
     Arg::new(alloc, "START")
@@ -78,12 +104,30 @@ fn serial_option<'a>(alloc: Global) -> Arg<'a> {
 }
 
 /// The option `--journal`.
-fn journal_option<'a>(alloc: Global) -> Arg<'a> {
+fn journal_option<'a>(alloc: Global, help: &'a str) -> Arg<'a> {
     Arg::new(alloc, "journal")
         .long("journal")
         .value_name("FILE")
-        .help("Writes the journal to FILE, which is made anew")
+        .help(help)
         .action(ArgAction::Set)
+}
+
+/// The option `--session`.
+fn session_option<'a>(alloc: Global) -> Arg<'a> {
+    Arg::new(alloc, "session")
+        .long("session")
+        .value_name("K")
+        .help("The number of the session that asks; without it 0")
+        .value_parser(clap::value_parser!(u32))
+        .action(ArgAction::Set)
+}
+
+/// The option `--recover`.
+fn recover_option<'a>(alloc: Global) -> Arg<'a> {
+    Arg::new(alloc, "recover")
+        .long("recover")
+        .help("Cuts off an end of the journal that a crash has torn, and keeps it in FILE.torn")
+        .action(ArgAction::SetTrue)
 }
 
 /// The operands `SCRIPT`.
@@ -108,7 +152,7 @@ fn run_command<'a>(alloc: Global) -> Result<Command<'a>, AllocError> {
         .about(RUN_ABOUT)
         .after_help(RUN_EXAMPLE);
     run.arg(serial_option(alloc))?
-        .arg(journal_option(alloc))?
+        .arg(journal_option(alloc, WRITES_JOURNAL))?
         .arg(start_operand(alloc))?
         .arg(script_operands(alloc))
 }
@@ -121,6 +165,18 @@ fn replay_command<'a>(alloc: Global) -> Result<Command<'a>, AllocError> {
     replay
         .arg(start_operand(alloc))?
         .arg(journal_operand(alloc))
+}
+
+/// The command `serve`.
+fn serve_command<'a>(alloc: Global) -> Result<Command<'a>, AllocError> {
+    let serve = Command::new(alloc, "serve")
+        .about(SERVE_ABOUT)
+        .after_help(SERVE_EXAMPLE);
+    serve
+        .arg(session_option(alloc))?
+        .arg(recover_option(alloc))?
+        .arg(journal_option(alloc, KEEPS_JOURNAL).required(true))?
+        .arg(start_operand(alloc))
 }
 
 /// A command line with one more command.
@@ -139,7 +195,8 @@ fn command<'a>(alloc: Global) -> Result<Command<'a>, AllocError> {
         .after_help(EXAMPLE);
     let line = with(line, check_command(alloc))?;
     let line = with(line, run_command(alloc))?;
-    with(line, replay_command(alloc))
+    let line = with(line, replay_command(alloc))?;
+    with(line, serve_command(alloc))
 }
 
 /// The text of an operand.
@@ -163,6 +220,16 @@ fn run_words<'a>(alloc: Global, matches: &ArgMatches<'a>) -> Result<RunWords<'a>
     })
 }
 
+/// What a service was asked for.
+fn serve_words<'a>(matches: &ArgMatches<'a>) -> ServeWords<'a> {
+    ServeWords {
+        start: operand(matches, "START"),
+        journal: operand(matches, "journal"),
+        session: matches.get_one("session").unwrap_or(0),
+        is_recovering: matches.get_flag("recover"),
+    }
+}
+
 /// What was asked for.
 fn job_of<'a>(alloc: Global, matches: &ArgMatches<'a>) -> Result<Job<'a>, AllocError> {
     match matches.subcommand() {
@@ -174,7 +241,8 @@ fn job_of<'a>(alloc: Global, matches: &ArgMatches<'a>) -> Result<Job<'a>, AllocE
             start: operand(words, "START"),
             journal: operand(words, "JOURNAL"),
         }),
-        _ => Ok(Job::Serve),
+        Some(("serve", words)) => Ok(Job::Serve(serve_words(words))),
+        _ => Ok(Job::Answer),
     }
 }
 

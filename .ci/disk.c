@@ -1,0 +1,141 @@
+/*
+ * Stands between a program and the system's calls on its files, by LD_PRELOAD. Counted are the calls of write, fsync,
+ * fdatasync and ftruncate, in their order, but for writes to standard output and standard error. By the environment:
+ *
+ *   DISK_FAIL=N    the Nth of them fails, with the errno of DISK_ERRNO; where it is a write, the first DISK_FRONT bytes are
+ *                  in the file all the same
+ *   DISK_KILL=N    before the Nth of them the program is killed
+ *   DISK_PIECE=K   no write to a file takes more than K bytes
+ *   DISK_SLOW=U    each sync begins with so many microseconds of waiting
+ *   DISK_JOURNAL=FILE, DISK_COPY=COPY    after each sync of FILE that ended well, COPY has all that FILE has
+ *   DISK_NOTES=NOTES    a line for each of them, and for each write to standard output: what was asked, of which file
+ *                  (the last part of its name; `out` for standard output), how many bytes, and `ok` or `failed`. The bytes
+ *                  of a sync and of a cut are those that the file then has.
+ */
+#define _GNU_SOURCE
+#include <dlfcn.h>
+#include <errno.h>
+#include <fcntl.h>
+#include <signal.h>
+#include <stdio.h>
+#include <stdlib.h>
+#include <string.h>
+#include <sys/stat.h>
+#include <unistd.h>
+
+static ssize_t (*true_write)(int, const void *, size_t);
+static int (*true_fsync)(int);
+static int (*true_fdatasync)(int);
+static int (*true_ftruncate)(int, off_t);
+static long counted;
+
+__attribute__((constructor)) static void find(void) {
+    *(void **)&true_write = dlsym(RTLD_NEXT, "write");
+    *(void **)&true_fsync = dlsym(RTLD_NEXT, "fsync");
+    *(void **)&true_fdatasync = dlsym(RTLD_NEXT, "fdatasync");
+    *(void **)&true_ftruncate = dlsym(RTLD_NEXT, "ftruncate");
+}
+
+/* The number that the environment has by a name, or -1. */
+static long number(const char *name) {
+    const char *text = getenv(name);
+    return text ? atol(text) : -1;
+}
+
+/* Puts the whole name of an open file into `name`. */
+static void name_of(int fd, char *name, size_t room) {
+    char link[64];
+    ssize_t count;
+    snprintf(link, sizeof link, "/proc/self/fd/%d", fd);
+    count = readlink(link, name, room - 1);
+    name[count < 0 ? 0 : count] = 0;
+}
+
+static long size_of(int fd) {
+    struct stat found;
+    return fstat(fd, &found) ? -1 : (long)found.st_size;
+}
+
+static void note(const char *asked, int fd, long bytes, int is_done) {
+    char name[4096], line[4200];
+    const char *notes = getenv("DISK_NOTES"), *last;
+    int error = errno, to, count;
+    if (!notes) return;
+    name_of(fd, name, sizeof name);
+    last = strrchr(name, '/');
+    count = snprintf(line, sizeof line, "%s %s %ld %s\n", asked, fd == 1 ? "out" : last ? last + 1 : name, bytes,
+                     is_done ? "ok" : "failed");
+    to = open(notes, O_WRONLY | O_APPEND | O_CREAT, 0600);
+    if (to < 0 || true_write(to, line, count) != count) abort();
+    close(to);
+    errno = error;
+}
+
+/* Counts one call more. Says whether it is the one that is to fail. */
+static int is_failing(void) {
+    counted++;
+    if (counted == number("DISK_KILL")) kill(getpid(), SIGKILL);
+    if (counted != number("DISK_FAIL")) return 0;
+    errno = (int)number("DISK_ERRNO");
+    return 1;
+}
+
+/* Copies the journal, where this is the journal's file. */
+static void copy(int fd) {
+    char name[4096], piece[65536];
+    const char *journal = getenv("DISK_JOURNAL"), *copy = getenv("DISK_COPY");
+    int from, to, error = errno;
+    ssize_t count;
+    name_of(fd, name, sizeof name);
+    if (!journal || !copy || strcmp(name, journal)) return;
+    from = open(journal, O_RDONLY);
+    to = open(copy, O_WRONLY | O_CREAT | O_TRUNC, 0600);
+    if (from < 0 || to < 0) abort();
+    while ((count = read(from, piece, sizeof piece)) > 0)
+        if (true_write(to, piece, count) != count) abort();
+    close(from);
+    close(to);
+    errno = error;
+}
+
+ssize_t write(int fd, const void *bytes, size_t count) {
+    long piece = number("DISK_PIECE"), front = number("DISK_FRONT");
+    ssize_t done;
+    if (fd == 2) return true_write(fd, bytes, count);
+    if (fd == 1) {
+        done = true_write(fd, bytes, count);
+        note("write", fd, done, done >= 0);
+        return done;
+    }
+    if (is_failing()) {
+        int error = errno;
+        if (front > 0) front = true_write(fd, bytes, (size_t)front < count ? (size_t)front : count);
+        note("write", fd, front, 0);
+        errno = error;
+        return -1;
+    }
+    done = true_write(fd, bytes, piece > 0 && (size_t)piece < count ? (size_t)piece : count);
+    note("write", fd, done, done >= 0);
+    return done;
+}
+
+static int sync_by(int (*true_sync)(int), int fd) {
+    int failed;
+    if (number("DISK_SLOW") > 0) usleep((useconds_t)number("DISK_SLOW"));
+    failed = is_failing() || true_sync(fd);
+    note("sync", fd, size_of(fd), !failed);
+    if (!failed) copy(fd);
+    return failed ? -1 : 0;
+}
+
+int fsync(int fd) { return sync_by(true_fsync, fd); }
+
+int fdatasync(int fd) { return sync_by(true_fdatasync, fd); }
+
+int ftruncate(int fd, off_t length) {
+    int failed = is_failing() || true_ftruncate(fd, length);
+    note("cut", fd, size_of(fd), !failed);
+    return failed ? -1 : 0;
+}
+
+int ftruncate64(int fd, off_t length) { return ftruncate(fd, length); }

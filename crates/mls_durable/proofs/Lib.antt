@@ -1,0 +1,11 @@
+mod Fronts
+mod Histories
+mod JournalFacts
+mod LineFacts
+mod Holes
+mod Mending
+mod Moving
+mod Batching
+mod Pieces
+mod Whole
+mod Laws

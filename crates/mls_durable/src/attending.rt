@@ -1,0 +1,99 @@
+//! Attending to a client: its lines are read, asked, and answered once their entries are on the disk.
+ghost use Rattle.std.specs.Prelude.{◌≡◌, ◌<◌, ◌≤◌, [], List, Some, length, string_bytes};
+ghost use Rattle.mls_scripts.specs.Script.{standing_of};
+ghost use Rattle.mls_durable.specs.History.{Event, Known, seen};
+ghost use Rattle.mls_durable.specs.Moments.{IsSettled};
+ghost use Rattle.mls_durable.specs.Batches.{SoFar, pending};
+ghost use Rattle.mls_durable.specs.Attending.{Attends};
+
+use crate::attend_fault::AttendFault;
+use crate::batch::Batch;
+use crate::client::Client;
+use crate::outside::Outside;
+use mls_journal::JOURNAL_LIMIT;
+use mls_lines::{Names, Vars};
+use mls_monitor::Monitor;
+use mls_scripts::Script;
+use std::alloc::Global;
+use std::io::Read;
+
+/// The most bytes that are asked of a reader at once.
+const PIECE: usize = 65_536;
+
+/// Attends to a client through a buffer.
+fn attend_pieces<R: Read, O: Outside>(
+    client: &mut Client,
+    script: &Script<'_, Global>,
+    monitor: &mut Monitor,
+    buffer: &mut [u8],
+    reader: &mut R,
+    outside: &mut O,
+) -> Result<(), AttendFault>
+    requires buffer { 0 < length buffer.old }
+    requires line { client.old.line.items ≡ [] }
+    requires text { string_bytes client.old.batch.text ≡ [] }
+    requires answers { client.old.batch.answers.items ≡ [] }
+    ensures { let first = standing_of client.old.batch.vars.bound monitor.old in
+        Known (O.history outside.old) (O.history outside.new) (λ before after.
+        SoFar script.now.names.now script.now.session first before [] (pending first client.old.batch) before
+        → Attends script.now.names.now script.now.session first (R.remaining reader.old) (R.remaining reader.new)
+        monitor.new.entries before after result) }
+{
+    for _ in 0..u64::MAX {
+        let Ok(count) = reader.read(buffer) else {
+            return Err(AttendFault::Read);
+        };
+        if count == 0 {
+            return client.take_end(script, monitor, outside);
+        }
+        client.take_piece(script, monitor, &buffer[..count], outside)?;
+    }
+    Err(AttendFault::Read)
+}
+
+/// Answers the lines of a client as the session `session`, to the end of its input, over a monitor whose journal is
+/// just what the file holds, all of it on the disk; the file has `len` bytes.
+///
+/// The lines that are complete in what was read are a batch, or more than one where the text of their entries would
+/// pass `BATCH` bytes: the entries are added to the file, which is synced, and then the answers are handed out. A batch
+/// that adds no entry syncs nothing. All of that is done before the reader is called again. There is no limit on the
+/// input; a line has at most `MAX_LINE` bytes.
+///
+/// # Errors
+/// The lines before some line are answered, and no other.
+/// - `Read`: all lines that are complete in what was read are answered.
+/// - `Write`: answers broke off; the entries of all lines that were asked are in the file, and synced.
+/// - `File`: no answer of the last batch is handed out; the file may have a front of the text of its entries.
+/// - `Memory`: an allocation failed; the line that met it adds no entry to the file.
+/// - `TooLong`: the line of one entry more, of `LONGEST_LINE` bytes, might make the file longer than `JOURNAL_LIMIT`.
+pub fn attend<R: Read, O: Outside>(
+    alloc: Global,
+    names: &Names,
+    session: u32,
+    monitor: &mut Monitor,
+    len: usize,
+    reader: &mut R,
+    outside: &mut O,
+) -> Result<(), AttendFault>
+    ensures { Known (O.history outside.old) (O.history outside.new) (λ before after.
+        IsSettled monitor.old.entries before → len ≡ length (seen before)
+        → Attends names.now session (standing_of [] monitor.old) (R.remaining reader.old) (R.remaining reader.new)
+        monitor.new.entries before after result) }
+{
+    // that the entries are legal
+    let _ = monitor.entries();
+    let Ok(mut buffer) = Vec::from_elem(alloc, 0u8, PIECE) else {
+        return Err(AttendFault::Memory);
+    };
+    let script = Script { names, session };
+    let batch = Batch {
+        vars: Vars::new(alloc),
+        text: String::new(alloc),
+        answers: Vec::new(alloc),
+        room: JOURNAL_LIMIT.saturating_sub(len),
+        answer: Vec::new(alloc),
+    };
+    let line = Vec::new(alloc);
+    let mut client = Client { batch, line };
+    attend_pieces(&mut client, &script, monitor, &mut buffer, reader, outside)
+}
