@@ -102,8 +102,13 @@ pub(crate) fn decide_subject_level<A: Allocator>(
     requires { IsTrue (is_subject state.now s) }
     ensures { result ≡ verdict state.now s (Action.SubjectLevel l.now) }
 {
-    if !state.subject(s).maximum.dominates(l) {
+    let subject = state.subject(s);
+    if !subject.maximum.dominates(l) {
         return Reply::No(Reason::Ceiling);
+    }
+    // (star doesn't bind it)
+    if subject.trusted {
+        return Reply::Yes;
     }
     let star = StarAtLevel {
         subject: s,
