@@ -10,8 +10,9 @@ use mls_state::{State, star_between};
 use mls_tables::{Mode, ObjectId, SubjectId};
 use std::alloc::Allocator;
 
-/// A property that is demanded of each access.
-pub trait Demand {
+/// A property that is demanded of each access. It goes by value, so that a loop over accesses keeps its label in
+/// registers.
+pub trait Demand: Copy {
     ghost use Rattle.std.specs.Prelude.{Bool};
     ghost use Rattle.mls_tables.specs.Triples.{Triple};
     ghost use Rattle.mls_state.specs.State.{State};
@@ -19,10 +20,10 @@ pub trait Demand {
     ghost asked: { Self → State → Triple → Bool };
 
     /// Whether the access has it.
-    fn is_met<A: Allocator>(&self, state: &State<A>, s: SubjectId, o: ObjectId, x: Mode) -> bool
+    fn is_met<A: Allocator>(self, state: &State<A>, s: SubjectId, o: ObjectId, x: Mode) -> bool
         requires subject { IsTrue (is_subject state.now s) }
         requires object { IsTrue (is_active state.now o) }
-        ensures { result ≡ asked self.now state.now (s, o, x) };
+        ensures { result ≡ asked self state.now (s, o, x) };
 }
 
 /// Star, with another current label of a subject.
@@ -35,12 +36,12 @@ pub struct StarAtLevel {
 impl Demand for StarAtLevel {
     ghost asked = { λ d v t. star_holds (with_current v d.subject d.level) t };
 
-    fn is_met<A: Allocator>(&self, state: &State<A>, s: SubjectId, o: ObjectId, x: Mode) -> bool {
+    fn is_met<A: Allocator>(self, state: &State<A>, s: SubjectId, o: ObjectId, x: Mode) -> bool {
         if state.subject(s).trusted {
             return true;
         }
-        let level = level_of(state, s, self.subject, &self.level);
-        star_between(level, &state.labels(o).security, x)
+        let level = level_of(state, s, self.subject, self.level);
+        star_between(&level, &state.labels(o).security, x)
     }
 }
 
@@ -54,12 +55,12 @@ pub struct SimpleAtLabel {
 impl Demand for SimpleAtLabel {
     ghost asked = { λ d v t. simple_holds (with_object_label v d.object d.label) t };
 
-    fn is_met<A: Allocator>(&self, state: &State<A>, s: SubjectId, o: ObjectId, x: Mode) -> bool {
+    fn is_met<A: Allocator>(self, state: &State<A>, s: SubjectId, o: ObjectId, x: Mode) -> bool {
         if !x.observes() {
             return true;
         }
-        let label = label_of(state, o, self.object, &self.label);
-        state.subject(s).maximum.dominates(label)
+        let label = label_of(state, o, self.object, self.label);
+        state.subject(s).maximum.dominates(&label)
     }
 }
 
@@ -73,48 +74,48 @@ pub struct StarAtLabel {
 impl Demand for StarAtLabel {
     ghost asked = { λ d v t. star_holds (with_object_label v d.object d.label) t };
 
-    fn is_met<A: Allocator>(&self, state: &State<A>, s: SubjectId, o: ObjectId, x: Mode) -> bool {
+    fn is_met<A: Allocator>(self, state: &State<A>, s: SubjectId, o: ObjectId, x: Mode) -> bool {
         let subject = state.subject(s);
         if subject.trusted {
             return true;
         }
-        let label = label_of(state, o, self.object, &self.label);
-        star_between(&subject.current, label, x)
+        let label = label_of(state, o, self.object, self.label);
+        star_between(&subject.current, &label, x)
     }
 }
 
 /// The current label of `s` where that of the subject `changed` is `level`.
 #[tactic(auto, using(mls_facts::proofs::Entries::at_same, mls_facts::proofs::Entries::elsewhere))]
-fn level_of<'a, A: Allocator>(
-    state: &'a State<A>,
+fn level_of<A: Allocator>(
+    state: &State<A>,
     s: SubjectId,
     changed: SubjectId,
-    level: &'a SecLabel,
-) -> &'a SecLabel
+    level: SecLabel,
+) -> SecLabel
     requires { IsTrue (is_subject state.now s) }
-    ensures { map.get (map.insert state.now.current changed level.now) s ≡ Some result.now }
+    ensures { map.get (map.insert state.now.current changed level) s ≡ Some result }
 {
     if s == changed {
         level
     } else {
-        &state.subject(s).current
+        state.current(s)
     }
 }
 
 /// The label of `o` where that of the object `changed` is `label`.
 #[tactic(auto, using(mls_facts::proofs::Entries::at_same, mls_facts::proofs::Entries::elsewhere))]
-fn label_of<'a, A: Allocator>(
-    state: &'a State<A>,
+fn label_of<A: Allocator>(
+    state: &State<A>,
     o: ObjectId,
     changed: ObjectId,
-    label: &'a SecLabel,
-) -> &'a SecLabel
+    label: SecLabel,
+) -> SecLabel
     requires { IsTrue (is_active state.now o) }
-    ensures { map.get (map.insert state.now.object_label changed label.now) o ≡ Some result.now }
+    ensures { map.get (map.insert state.now.object_label changed label) o ≡ Some result }
 {
     if o == changed {
         label
     } else {
-        &state.labels(o).security
+        state.object_label(o)
     }
 }

@@ -20,11 +20,11 @@ fn cell_meets<A: Allocator, D: Demand>(
     state: &State<A>,
     s: SubjectId,
     o: ObjectId,
-    demand: &D,
+    demand: D,
 ) -> bool
     requires subject { IsTrue (is_subject state.now s) }
     requires object { IsTrue (is_active state.now o) }
-    ensures { result ≡ each_mode state.now.accesses s o (D.asked demand.now state.now) }
+    ensures { result ≡ each_mode state.now.accesses s o (D.asked demand state.now) }
 {
     let modes = state.accesses(s, o);
     (!modes.has(Mode::Execute) || demand.is_met(state, s, o, Mode::Execute))
@@ -34,10 +34,8 @@ fn cell_meets<A: Allocator, D: Demand>(
 }
 
 /// Whether all accesses of the subject meet the demand.
-// (out of line, so that the loop has the registers to itself)
-#[inline(never)]
-fn subject_meets<A: Allocator, D: Demand>(state: &State<A>, s: SubjectId, demand: &D) -> bool
-    ensures { result ≡ each_of_subject state.now s (D.asked demand.now state.now) }
+fn subject_meets<A: Allocator, D: Demand>(state: &State<A>, s: SubjectId, demand: D) -> bool
+    ensures { result ≡ each_of_subject state.now s (D.asked demand state.now) }
 {
     state.agrees();
     if !state.is_subject(s) {
@@ -52,10 +50,8 @@ fn subject_meets<A: Allocator, D: Demand>(state: &State<A>, s: SubjectId, demand
 }
 
 /// Whether all accesses to the object meet the demand.
-// (out of line, so that the loop has the registers to itself)
-#[inline(never)]
-fn object_meets<A: Allocator, D: Demand>(state: &State<A>, o: ObjectId, demand: &D) -> bool
-    ensures { result ≡ each_of_object state.now o (D.asked demand.now state.now) }
+fn object_meets<A: Allocator, D: Demand>(state: &State<A>, o: ObjectId, demand: D) -> bool
+    ensures { result ≡ each_of_object state.now o (D.asked demand state.now) }
 {
     state.agrees();
     if !state.is_active(o) {
@@ -70,8 +66,6 @@ fn object_meets<A: Allocator, D: Demand>(state: &State<A>, o: ObjectId, demand: 
 }
 
 /// Whether the labels of all children of the object dominate this label.
-// (out of line, so that the loop has the registers to itself)
-#[inline(never)]
 fn children_dominate<A: Allocator>(state: &State<A>, o: ObjectId, l: &SecLabel) -> bool
     requires { IsTrue (is_active state.now o) }
     ensures { result ≡ each_child state.now o (λ c. is_above (map.get state.now.object_label c) (Some l.now)) }
@@ -98,6 +92,8 @@ fn label_fits<A: Allocator>(state: &State<A>, o: ObjectId, l: &SecLabel) -> bool
 }
 
 /// The reply to a subject that would change its current label, in the domain.
+// (out of line, so that its loops have the registers to themselves)
+#[inline(never)]
 pub(crate) fn decide_subject_level<A: Allocator>(
     state: &State<A>,
     s: SubjectId,
@@ -106,20 +102,27 @@ pub(crate) fn decide_subject_level<A: Allocator>(
     requires { IsTrue (is_subject state.now s) }
     ensures { result ≡ verdict state.now s (Action.SubjectLevel l.now) }
 {
-    if !state.subject(s).maximum.dominates(l) {
+    let subject = state.subject(s);
+    if !subject.maximum.dominates(l) {
         return Reply::No(Reason::Ceiling);
+    }
+    // (star doesn't bind it)
+    if subject.trusted {
+        return Reply::Yes;
     }
     let star = StarAtLevel {
         subject: s,
         level: *l,
     };
-    if !subject_meets(state, s, &star) {
+    if !subject_meets(state, s, star) {
         return Reply::No(Reason::Star);
     }
     Reply::Yes
 }
 
 /// The reply to a subject that would relabel an object, in the domain.
+// (out of line, so that its loops have the registers to themselves)
+#[inline(never)]
 pub(crate) fn decide_object_level<A: Allocator>(
     state: &State<A>,
     s: SubjectId,
@@ -140,14 +143,14 @@ pub(crate) fn decide_object_level<A: Allocator>(
         object: o,
         label: *l,
     };
-    if !object_meets(state, o, &simple) {
+    if !object_meets(state, o, simple) {
         return Reply::No(Reason::Simple);
     }
     let star = StarAtLabel {
         object: o,
         label: *l,
     };
-    if !object_meets(state, o, &star) {
+    if !object_meets(state, o, star) {
         return Reply::No(Reason::Star);
     }
     Reply::Yes
