@@ -9,4 +9,5 @@ mod start_file;
 
 pub use checking::{START_LIMIT, check_start};
 pub use fault_line::write_fault;
-pub use replaying::{JOURNAL_LIMIT, replay_journal};
+pub use mls_journal::JOURNAL_LIMIT;
+pub use replaying::replay_journal;
