@@ -72,15 +72,15 @@ impl Demand {
         match *self {
             Demand::StarAtLevel(subject, level) => {
                 let level = level_of(state, s, subject, level);
-                state.is_trusted(s) || star_between(level, state.object_label(o), x)
+                state.is_trusted(s) || star_between(&level, &state.object_label(o), x)
             }
             Demand::SimpleAtLabel(object, label) => {
                 let label = label_of(state, o, object, label);
-                simple_between(state.maximum(s), label, x)
+                simple_between(&state.maximum(s), &label, x)
             }
             Demand::StarAtLabel(object, label) => {
                 let label = label_of(state, o, object, label);
-                state.is_trusted(s) || star_between(state.current(s), label, x)
+                state.is_trusted(s) || star_between(&state.current(s), &label, x)
             }
         }
     }
