@@ -1,0 +1,6 @@
+mod Cells
+mod Covering
+mod Joins
+mod LevelTests
+mod Lists
+mod LowerLevels

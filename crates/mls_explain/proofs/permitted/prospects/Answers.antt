@@ -1,0 +1,22 @@
+use Rattle.std.proofs.Common.{◌≡◌, ◌++◌, sym, ap, ◌∙◌, arith}
+use Rattle.std.specs.List.{flat_map, range_with_len}
+use Rattle.mls_explain.specs.Prospects.{permitted_modes}
+use Rattle.mls_explain.proofs.Cells.{range_flat_more}
+use Rattle.mls_explain.proofs.Lists.{same_count}
+use Rattle.mls_explain.proofs.permitted.prospects.Goals as goal
+
+pub loop-n-preserved : goal.loop-n-preserved
+loop-n-preserved g c = record {
+  pairs =
+      c.in_ok-push_subject.ensures.pairs
+      ∙ (λ i. c.loop-n.invariant.pairs i ++ permitted_modes c.args.state.now c.args.o c.args.asked (c.new.ensures i))
+      ∙ sym (range_flat_more (permitted_modes c.args.state.now c.args.o c.args.asked) c.loop-n.n);
+  each = c.push_subject.ensures.each;
+}
+
+pub returns-clause-pairs : goal.returns-clause-pairs
+returns-clause-pairs g c = λ count known.
+    let all : c.loop-n.n ≡ c.subject_count-n-end.result = omega arith in
+    let same = same_count c.subject_count-n-end.result count (λ s. sym (c.subject_count-n-end.ensures s) ∙ known s) in
+    c.loop-n.invariant.pairs
+    ∙ ap (λ k. flat_map (permitted_modes c.args.state.now c.args.o c.args.asked) (range_with_len 0 k)) (all ∙ same)

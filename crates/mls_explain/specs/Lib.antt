@@ -1,0 +1,5 @@
+pub mod Demands
+pub mod Grounds
+pub mod Prospects
+pub mod Remedy
+pub mod Unknowns

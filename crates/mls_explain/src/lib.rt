@@ -1,0 +1,31 @@
+//! Why a request is answered as it is: its conditions as values, what a denied get would take, and who may get what.
+#![tactic(auto)]
+
+mod condition;
+mod controls;
+mod demand;
+mod failing;
+mod get;
+mod ground;
+mod helping;
+mod join;
+mod least;
+mod levels;
+mod missing;
+mod permitted;
+mod prospect;
+mod rule;
+mod term;
+mod unknown;
+
+pub use condition::Condition;
+pub use demand::Demand;
+pub use failing::{failing_of_object, failing_of_subject};
+pub use ground::{Ground, Place, Relabelling};
+pub use helping::remedy;
+pub use missing::unknowns;
+pub use permitted::prospects;
+pub use prospect::Prospect;
+pub use rule::conditions;
+pub use term::Term;
+pub use unknown::Unknown;
