@@ -11,8 +11,8 @@ use mls_sessions::{Answer, Feed};
 use mls_tables::ObjectId;
 use std::io;
 
-/// Five asks; a line that asks nothing; an ask that binds a variable; three asks, of which the last binds one, and one
-/// that names it; and a line that asks nothing.
+/// Five asks; a line that asks nothing; an ask that binds a variable; two asks; one that binds a variable, and one that
+/// names it; and a line that asks nothing.
 const SCRIPT: &[u8] =
     b"ann get-write root\nann check write root\nann release read root\nann check read root\nann release read root\n\
     frob\n$x = ann create root U lo\nann give read ann $x\nann get-read $x\n\

@@ -16,6 +16,9 @@ use std::alloc::{AllocError, Global};
 use std::collections::VecDeque;
 use std::marker::Model;
 
+/// How many asks have room to wait for their answers at once: as many as a session makes in one turn.
+const AT_ONCE: usize = 64;
+
 /// A script that is fed to a session: over the names of its start it gives what its lines ask, and keeps the answers,
 /// those to lines that ask nothing among them. Each variable that a line binds is bound by what the script was told.
 #[derive(Drop)]
@@ -119,7 +122,8 @@ impl<'a> ScriptFeed<'a> {
         };
         let ask = asks.ask;
         let room = make_room(&mut self.vars, asks.bind)?;
-        enqueue(&mut self.asked, &ask)?;
+        self.asked.reserve(AT_ONCE)?;
+        enqueue(&mut self.asked, &ask);
         self.room = room;
         self.stage = Stage::Waiting;
         Ok(Some(ask))

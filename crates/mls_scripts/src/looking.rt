@@ -1,5 +1,6 @@
 //! What a script that is fed asks next, what it asks ahead, and how that waits.
-ghost use Rattle.std.specs.Prelude.{◌≡◌, ◌≢◌, ◌<◌, ◌≤◌, ◌++◌, ◌∷◌, [], length, option_map, IfSome, IfOk, OnOk, OnErr};
+ghost use Rattle.std.specs.Prelude.{◌≡◌, ◌≢◌, ◌<◌, ◌≤◌, ◌++◌, ◌∷◌, [], length, option_map, not, nat_lt, IfSome, IfOk, OnOk};
+ghost use Rattle.std.specs.VecDeque.{deque_len, deque_capacity};
 ghost use Rattle.mls_scripts.specs.Lines.{lines_of};
 ghost use Rattle.mls_scripts.specs.Halves.{next_of};
 ghost use Rattle.mls_scripts.specs.Asking.{asking, halt_at};
@@ -111,16 +112,17 @@ pub(crate) fn go_over<'a>(
     }
 }
 
-/// Puts a copy behind those that wait.
-///
-/// # Errors
-/// `AllocError` where the allocation failed; those that wait are as before.
-pub(crate) fn enqueue<T: Copy + Drop>(waiting: &mut VecDeque<T>, item: &T) -> Result<(), AllocError>
-    ensures ok { OnOk result (waiting.new.items ≡ waiting.old.items ++ item.now ∷ []) }
-    ensures err { OnErr result (waiting.new.items ≡ waiting.old.items) }
+/// Whether there is no room for one more behind those that wait.
+pub(crate) fn is_full<T>(waiting: &VecDeque<T>) -> bool
+    ensures { result ≡ not (nat_lt (deque_len waiting.now) (deque_capacity waiting.now)) }
 {
-    match waiting.push_back(*item) {
-        Ok(()) => Ok(()),
-        Err(_) => Err(AllocError),
-    }
+    waiting.len() >= waiting.capacity()
+}
+
+/// Puts a copy behind those that wait, where there is room for it. It doesn't allocate.
+pub(crate) fn enqueue<T: Copy>(waiting: &mut VecDeque<T>, item: &T)
+    requires { deque_len waiting.old < deque_capacity waiting.old }
+    ensures { waiting.new.items ≡ waiting.old.items ++ item.now ∷ [] }
+{
+    waiting.push_back_reserved(*item);
 }

@@ -4,8 +4,8 @@ ghost use Rattle.mls_feeds.specs.declared.feed.Stage.TheVariants as stage;
 ghost use Rattle.mls_scripts.specs.Fed.{Gives, GivesAhead, Takes};
 
 use crate::feed::ScriptFeed;
-use crate::halves::{bind_heard, hear, make_room, push_answer};
-use crate::looking::{Next, Seen, enqueue, look};
+use crate::halves::{bind_heard, hear, push_answer};
+use crate::looking::{Next, Seen, enqueue, is_full, look};
 use mls_feeds::{Answer as Told, Feed, Stage};
 use mls_requests::Ask;
 
@@ -56,29 +56,27 @@ impl<'a> Feed for ScriptFeed<'a> {
         }
     }
 
-    /// What the next line asks that asks something, where no fault stands before it, nor a line that binds a variable:
-    /// these wait for their turn.
+    /// What the next line asks that asks something, where it binds no variable and neither a fault nor a line that binds
+    /// one stands before it: these wait for their turn. It doesn't allocate: there is room for as many asks as a session
+    /// makes in one turn, and once that is full nothing is given.
     fn ahead(&mut self) -> Option<Ask>
         ensures some { IfSome result
             (λ ask. (length self.new.rest < length self.old.rest) × (self.new.stage ≡ stage.Waiting)
             × (length self.new.asked ≡ length self.old.asked + 1) × GivesAhead self.old ask self.new) }
         ensures none { IfNone result (self.new ≡ self.old) }
     {
-        if self.stage != Stage::Waiting || self.room.is_some() {
+        if self.stage != Stage::Waiting || self.room.is_some() || is_full(&self.asked) {
             return None;
         }
         let Seen { next, rest } = look(self.names, &self.vars, self.rest);
         let Next::Asks(asks) = next else {
             return None;
         };
-        let ask = asks.ask;
-        let Ok(room) = make_room(&mut self.vars, asks.bind) else {
-            return None;
-        };
-        if enqueue(&mut self.asked, &ask).is_err() {
+        if asks.bind.is_some() {
             return None;
         }
-        self.room = room;
+        let ask = asks.ask;
+        enqueue(&mut self.asked, &ask);
         self.rest = rest;
         Some(ask)
     }
