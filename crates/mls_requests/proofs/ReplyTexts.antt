@@ -1,5 +1,5 @@
 -- No two replies have one text.
-use Rattle.std.proofs.Common.{◌≡◌, ℕ, true, false, Some, List, get_or, refl, sym, ap, ◌∙◌, arith}
+use Rattle.std.proofs.Common.{◌≡◌, ℕ, true, false, List, get_or, refl, ap, arith}
 use Rattle.std.specs.Prelude.{nat_eq, codes}
 use Rattle.std.specs.Fmt.{decimal}
 use Rattle.std.proofs.lemmas.Bool.Decides.{nat_tests}
@@ -9,22 +9,9 @@ use Rattle.mls_requests.specs.declared.reason.Reason.{Reason}
 use Rattle.mls_requests.specs.declared.reason.Reason.TheVariants.{Discretionary, Simple, Star, Integrity, Authority, Compatibility, Ceiling, Root, Full}
 use Rattle.mls_requests.specs.declared.reply.Reply.{Reply}
 use Rattle.mls_requests.specs.declared.reply.Reply.TheVariants.{Yes, Created, No, Undefined}
-use Rattle.mls_requests.specs.ReasonWords.{reason_word, read_reason}
+use Rattle.mls_requests.specs.ReasonWords.{reason_word, all_reasons}
 use Rattle.mls_requests.specs.ReplyWords.{reply_text, HasNumber}
-
-reason_reads : (x : Reason) → read_reason (reason_word x) ≡ Some x
-reason_reads Discretionary = refl
-reason_reads Simple = refl
-reason_reads Star = refl
-reason_reads Integrity = refl
-reason_reads Authority = refl
-reason_reads Compatibility = refl
-reason_reads Ceiling = refl
-reason_reads Root = refl
-reason_reads Full = refl
-
-one_reason : (a b : Reason) → reason_word a ≡ reason_word b → a ≡ b
-one_reason a b e = let same : Some a ≡ Some b = sym (reason_reads a) ∙ ap read_reason e ∙ reason_reads b in cc
+use Rattle.mls_requests.proofs.WordTables.{words_apart, reason_reads}
 
 -- texts that begin with different bytes are not one
 apart : (X : Type 0) (s t : List ℕ) → nat_eq (get_or s 0 0) (get_or t 0 0) ≡ false → s ≡ t → X
@@ -46,7 +33,7 @@ one_text (Created o) (No s) x y e = apart (Created o ≡ No s) (reply_text (Crea
 one_text (Created o) Undefined x y e = apart (Created o ≡ Undefined) (reply_text (Created o)) (reply_text Undefined) refl e
 one_text (No r) Yes x y e = apart (No r ≡ Yes) (reply_text (No r)) (reply_text Yes) refl e
 one_text (No r) (Created p) x y e = apart (No r ≡ Created p) (reply_text (No r)) (reply_text (Created p)) refl e
-one_text (No r) (No s) x y e = ap No (one_reason r s (append_cancel_left (codes "no ") (reason_word r) (reason_word s) e))
+one_text (No r) (No s) x y e = ap No (words_apart reason_word all_reasons reason_reads r s (append_cancel_left (codes "no ") (reason_word r) (reason_word s) e))
 one_text (No r) Undefined x y e = apart (No r ≡ Undefined) (reply_text (No r)) (reply_text Undefined) refl e
 one_text Undefined Yes x y e = apart (Undefined ≡ Yes) (reply_text Undefined) (reply_text Yes) refl e
 one_text Undefined (Created p) x y e = apart (Undefined ≡ Created p) (reply_text Undefined) (reply_text (Created p)) refl e

@@ -1,12 +1,12 @@
 -- The words of actions.
-use Rattle.std.specs.Prelude.{ℕ, List, codes, if◌then◌else◌, Option, Some, None}
-use Rattle.std.specs.Str.{bytes_eq}
+use Rattle.std.specs.Prelude.{ℕ, List, [], ◌∷◌, codes, Option}
 use Rattle.mls_tables.specs.declared.mode.Mode.TheVariants.{Execute, Read, Append, Write}
 use Rattle.mls_requests.specs.declared.action.Action.{Action}
 use Rattle.mls_requests.specs.declared.action.Action.TheVariants as action
 use Rattle.mls_requests.specs.declared.action_word.ActionWord.{ActionWord}
 use Rattle.mls_requests.specs.declared.action_word.ActionWord.TheVariants.{Get, Release, Give, Rescind, Create, Delete}
 use Rattle.mls_requests.specs.declared.action_word.ActionWord.TheVariants.{Level, Relabel}
+use Rattle.mls_requests.specs.Words.{with_word}
 
 -- Which action it is, without what it is about. (own)
 abbrev pub word_of_action : Action → ActionWord
@@ -33,18 +33,11 @@ action_word Delete = codes "delete"
 action_word Level = codes "level"
 action_word Relabel = codes "relabel"
 
+-- All actions, in the order in which a word is looked for. (own)
+abbrev pub all_actions : List ActionWord
+all_actions =
+    Get Execute ∷ Get Read ∷ Get Append ∷ Get Write ∷ Release ∷ Give ∷ Rescind ∷ Create ∷ Delete ∷ Level ∷ Relabel ∷ []
+
 -- The action that has this word. (own)
 abbrev pub read_action : List ℕ → Option ActionWord
-read_action token =
-    if bytes_eq token (action_word (Get Execute)) then Some (Get Execute)
-    else if bytes_eq token (action_word (Get Read)) then Some (Get Read)
-    else if bytes_eq token (action_word (Get Append)) then Some (Get Append)
-    else if bytes_eq token (action_word (Get Write)) then Some (Get Write)
-    else if bytes_eq token (action_word Release) then Some Release
-    else if bytes_eq token (action_word Give) then Some Give
-    else if bytes_eq token (action_word Rescind) then Some Rescind
-    else if bytes_eq token (action_word Create) then Some Create
-    else if bytes_eq token (action_word Delete) then Some Delete
-    else if bytes_eq token (action_word Level) then Some Level
-    else if bytes_eq token (action_word Relabel) then Some Relabel
-    else None
+read_action token = with_word action_word all_actions token

@@ -1,3 +1,4 @@
+pub mod Words
 pub mod ModeWords
 pub mod ActionWords
 pub mod ReasonWords

@@ -1,9 +1,9 @@
 -- The words of reasons.
-use Rattle.std.specs.Prelude.{ℕ, List, codes, if◌then◌else◌, Option, Some, None}
-use Rattle.std.specs.Str.{bytes_eq}
+use Rattle.std.specs.Prelude.{ℕ, List, [], ◌∷◌, codes, Option}
 use Rattle.mls_requests.specs.declared.reason.Reason.{Reason}
 use Rattle.mls_requests.specs.declared.reason.Reason.TheVariants.{Discretionary, Simple, Star, Integrity, Authority}
 use Rattle.mls_requests.specs.declared.reason.Reason.TheVariants.{Compatibility, Ceiling, Root, Full}
+use Rattle.mls_requests.specs.Words.{with_word}
 
 -- The word of a reason. (own)
 abbrev pub reason_word : Reason → List ℕ
@@ -17,16 +17,11 @@ reason_word Ceiling = codes "ceiling"
 reason_word Root = codes "root"
 reason_word Full = codes "full"
 
+-- All reasons, in the order in which a word is looked for. (own)
+abbrev pub all_reasons : List Reason
+all_reasons =
+    Discretionary ∷ Simple ∷ Star ∷ Integrity ∷ Authority ∷ Compatibility ∷ Ceiling ∷ Root ∷ Full ∷ []
+
 -- The reason that has this word. (own)
 abbrev pub read_reason : List ℕ → Option Reason
-read_reason token =
-    if bytes_eq token (reason_word Discretionary) then Some Discretionary
-    else if bytes_eq token (reason_word Simple) then Some Simple
-    else if bytes_eq token (reason_word Star) then Some Star
-    else if bytes_eq token (reason_word Integrity) then Some Integrity
-    else if bytes_eq token (reason_word Authority) then Some Authority
-    else if bytes_eq token (reason_word Compatibility) then Some Compatibility
-    else if bytes_eq token (reason_word Ceiling) then Some Ceiling
-    else if bytes_eq token (reason_word Root) then Some Root
-    else if bytes_eq token (reason_word Full) then Some Full
-    else None
+read_reason token = with_word reason_word all_reasons token

@@ -1,12 +1,12 @@
 -- The words of replies, and the texts that begin with them.
-use Rattle.std.specs.Prelude.{ℕ, ◌<◌, ◌^◌, List, ◌∷◌, ◌++◌, codes, if◌then◌else◌, Option, Some, None}
-use Rattle.std.specs.Str.{bytes_eq}
+use Rattle.std.specs.Prelude.{ℕ, ◌<◌, ◌^◌, List, [], ◌∷◌, ◌++◌, codes, Option}
 use Rattle.std.specs.Fmt.{decimal}
 use Rattle.mls_requests.specs.declared.reply.Reply.{Reply}
 use Rattle.mls_requests.specs.declared.reply.Reply.TheVariants as reply
 use Rattle.mls_requests.specs.declared.reply_word.ReplyWord.{ReplyWord}
 use Rattle.mls_requests.specs.declared.reply_word.ReplyWord.TheVariants.{Yes, Created, No, Undefined}
 use Rattle.mls_requests.specs.ReasonWords.{reason_word}
+use Rattle.mls_requests.specs.Words.{with_word}
 
 -- Which reply it is, without the object or the reason. (own)
 abbrev pub word_of_reply : Reply → ReplyWord
@@ -22,14 +22,13 @@ reply_word Created = codes "created"
 reply_word No = codes "no"
 reply_word Undefined = codes "undefined"
 
+-- All replies, in the order in which a word is looked for. (own)
+abbrev pub all_replies : List ReplyWord
+all_replies = Yes ∷ Created ∷ No ∷ Undefined ∷ []
+
 -- The reply whose text begins with this word. (own)
 abbrev pub read_reply : List ℕ → Option ReplyWord
-read_reply token =
-    if bytes_eq token (reply_word Yes) then Some Yes
-    else if bytes_eq token (reply_word Created) then Some Created
-    else if bytes_eq token (reply_word No) then Some No
-    else if bytes_eq token (reply_word Undefined) then Some Undefined
-    else None
+read_reply token = with_word reply_word all_replies token
 
 -- The text of a reply: its word, and after a space the number of the object that was made, or the reason's word. (own)
 abbrev pub reply_text : Reply → List ℕ

@@ -20,6 +20,21 @@ pub enum ActionWord {
 }
 
 impl ActionWord {
+    /// All of them, in the order in which a word is looked for.
+    const ALL: [ActionWord; 11] = [
+        ActionWord::Get(Mode::Execute),
+        ActionWord::Get(Mode::Read),
+        ActionWord::Get(Mode::Append),
+        ActionWord::Get(Mode::Write),
+        ActionWord::Release,
+        ActionWord::Give,
+        ActionWord::Rescind,
+        ActionWord::Create,
+        ActionWord::Delete,
+        ActionWord::Level,
+        ActionWord::Relabel,
+    ];
+
     /// Which action this is.
     pub fn of(action: Action) -> ActionWord
         ensures { result ≡ word_of_action action }
@@ -66,30 +81,9 @@ impl ActionWord {
     pub fn read(word: &[u8]) -> Option<ActionWord>
         ensures { result ≡ read_action word.now }
     {
-        if ActionWord::Get(Mode::Execute).is_named(word) {
-            Some(ActionWord::Get(Mode::Execute))
-        } else if ActionWord::Get(Mode::Read).is_named(word) {
-            Some(ActionWord::Get(Mode::Read))
-        } else if ActionWord::Get(Mode::Append).is_named(word) {
-            Some(ActionWord::Get(Mode::Append))
-        } else if ActionWord::Get(Mode::Write).is_named(word) {
-            Some(ActionWord::Get(Mode::Write))
-        } else if ActionWord::Release.is_named(word) {
-            Some(ActionWord::Release)
-        } else if ActionWord::Give.is_named(word) {
-            Some(ActionWord::Give)
-        } else if ActionWord::Rescind.is_named(word) {
-            Some(ActionWord::Rescind)
-        } else if ActionWord::Create.is_named(word) {
-            Some(ActionWord::Create)
-        } else if ActionWord::Delete.is_named(word) {
-            Some(ActionWord::Delete)
-        } else if ActionWord::Level.is_named(word) {
-            Some(ActionWord::Level)
-        } else if ActionWord::Relabel.is_named(word) {
-            Some(ActionWord::Relabel)
-        } else {
-            None
-        }
+        ActionWord::ALL
+            .iter()
+            .find(|action| action.is_named(word))
+            .copied()
     }
 }

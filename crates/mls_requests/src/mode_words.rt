@@ -5,6 +5,9 @@ ghost use Rattle.mls_requests.specs.ModeWords.{mode_word, read_mode};
 
 use mls_tables::Mode;
 
+/// All modes, in the order in which a word is looked for.
+const MODES: [Mode; 4] = [Mode::Execute, Mode::Read, Mode::Append, Mode::Write];
+
 /// The word of a mode.
 pub fn mode_word(mode: Mode) -> &'static str
     ensures { result.now ≡ mode_word mode }
@@ -28,15 +31,5 @@ fn is_word(mode: Mode, word: &[u8]) -> bool
 pub fn read_mode(word: &[u8]) -> Option<Mode>
     ensures { result ≡ read_mode word.now }
 {
-    if is_word(Mode::Execute, word) {
-        Some(Mode::Execute)
-    } else if is_word(Mode::Read, word) {
-        Some(Mode::Read)
-    } else if is_word(Mode::Append, word) {
-        Some(Mode::Append)
-    } else if is_word(Mode::Write, word) {
-        Some(Mode::Write)
-    } else {
-        None
-    }
+    MODES.iter().find(|mode| is_word(**mode, word)).copied()
 }

@@ -27,6 +27,19 @@ pub enum Reason {
 }
 
 impl Reason {
+    /// All of them, in the order in which a word is looked for.
+    const ALL: [Reason; 9] = [
+        Reason::Discretionary,
+        Reason::Simple,
+        Reason::Star,
+        Reason::Integrity,
+        Reason::Authority,
+        Reason::Compatibility,
+        Reason::Ceiling,
+        Reason::Root,
+        Reason::Full,
+    ];
+
     /// The word of the reason.
     pub fn word(self) -> &'static str
         ensures { result.now ≡ reason_word self }
@@ -55,26 +68,9 @@ impl Reason {
     pub fn read(word: &[u8]) -> Option<Reason>
         ensures { result ≡ read_reason word.now }
     {
-        if Reason::Discretionary.is_named(word) {
-            Some(Reason::Discretionary)
-        } else if Reason::Simple.is_named(word) {
-            Some(Reason::Simple)
-        } else if Reason::Star.is_named(word) {
-            Some(Reason::Star)
-        } else if Reason::Integrity.is_named(word) {
-            Some(Reason::Integrity)
-        } else if Reason::Authority.is_named(word) {
-            Some(Reason::Authority)
-        } else if Reason::Compatibility.is_named(word) {
-            Some(Reason::Compatibility)
-        } else if Reason::Ceiling.is_named(word) {
-            Some(Reason::Ceiling)
-        } else if Reason::Root.is_named(word) {
-            Some(Reason::Root)
-        } else if Reason::Full.is_named(word) {
-            Some(Reason::Full)
-        } else {
-            None
-        }
+        Reason::ALL
+            .iter()
+            .find(|reason| reason.is_named(word))
+            .copied()
     }
 }

@@ -15,6 +15,14 @@ pub enum ReplyWord {
 }
 
 impl ReplyWord {
+    /// All of them, in the order in which a word is looked for.
+    const ALL: [ReplyWord; 4] = [
+        ReplyWord::Yes,
+        ReplyWord::Created,
+        ReplyWord::No,
+        ReplyWord::Undefined,
+    ];
+
     /// Which reply this is.
     pub fn of(reply: Reply) -> ReplyWord
         ensures { result ≡ word_of_reply reply }
@@ -50,16 +58,9 @@ impl ReplyWord {
     pub fn read(word: &[u8]) -> Option<ReplyWord>
         ensures { result ≡ read_reply word.now }
     {
-        if ReplyWord::Yes.is_named(word) {
-            Some(ReplyWord::Yes)
-        } else if ReplyWord::Created.is_named(word) {
-            Some(ReplyWord::Created)
-        } else if ReplyWord::No.is_named(word) {
-            Some(ReplyWord::No)
-        } else if ReplyWord::Undefined.is_named(word) {
-            Some(ReplyWord::Undefined)
-        } else {
-            None
-        }
+        ReplyWord::ALL
+            .iter()
+            .find(|reply| reply.is_named(word))
+            .copied()
     }
 }

@@ -5,7 +5,7 @@ use Rattle.std.specs.Io.KnownBytes.{Keeps}
 use Rattle.mls_scripts.specs.Lines.{lines_of, closed_lines, open_part, has_newline, kept_of, Cuts}
 use Rattle.mls_lines.specs.Names.{Names}
 use Rattle.mls_scripts.specs.Script.{Standing, answer_to, after_line}
-use Rattle.mls_scripts.specs.Serve.{Answers, Stops, AnswersOrStops, AnswersOrFails, Replies, Feeds, Takes}
+use Rattle.mls_scripts.specs.Serve.{Answers, Stops, AnswersOrStops, AnswersOrFails, Replies, Feeds, TakesPiece}
 use Rattle.mls_scripts.specs.declared.serving.ServeFault.{ServeFault}
 use Rattle.mls_scripts.specs.declared.serving.ServeFault.TheVariants.{Write, Memory}
 use Rattle.mls_scripts.proofs.LineLemmas.{closed_lines-cuts, open_part-cuts, closed_lines-open, open_none, has_newline-joined, last_line}
@@ -158,7 +158,7 @@ module _ (names : Names) (session : ℕ) where
   pub feeds_settled : (held holds flushed : Option (List ℕ)) (before after : Standing) (kept keeps piece : List ℕ) (outcome result : Result (Unit {0}) ServeFault)
       → Feeds names session held holds before after kept keeps piece outcome → Keeps holds flushed
       → MatchResult outcome (λ _. (result ≡ outcome) ⊎ (result ≡ Err Write)) (λ _. result ≡ outcome)
-      → Takes names session held flushed before after kept keeps piece result
+      → TakesPiece names session held flushed before after kept keeps piece result
   feeds_settled held holds flushed before after kept keeps piece (Ok x) result f k (inl same) line none is =
       rw same (Answers-kept names session held holds flushed before after (closed_lines (line ++ piece)) (f line none is).0 k, (f line none is).1)
   feeds_settled held holds flushed before after kept keeps piece (Ok x) result f k (inr failed) line none is =

@@ -11,7 +11,7 @@ use Rattle.mls_lines.specs.ScriptLine.{line_of}
 use Rattle.mls_requests.specs.declared.ask.Ask.TheVariants.{Submit, Check}
 use Rattle.mls_lines.specs.declared.fault.LineFault.{LineFault}
 use Rattle.mls_scripts.specs.Script.{Standing, after_lines, after_line, left_by}
-use Rattle.mls_scripts.specs.Serve.{Answers, AnswersUnlessRefused, Fails, Takes, Due, Ends}
+use Rattle.mls_scripts.specs.Serve.{Answers, AnswersUnlessRefused, Fails, TakesPiece, Due, ScriptEnds}
 use Rattle.mls_scripts.specs.declared.serving.ServeFault.{ServeFault}
 use Rattle.mls_scripts.specs.declared.serving.ServeFault.TheVariants.{Read, Write, Memory, TooLong}
 use Rattle.mls_scripts.proofs.LineLemmas.{open_part_is_open, open-append, lines_of-parts}
@@ -37,9 +37,9 @@ all_of script taken rest split end = sym (split ∙ ap (λ r. (taken ++ []) ++ r
 module _ (names : Names) (session : ℕ) where
   -- what a piece leaves, by the names and the session that are the same
   same_takes : {X : Type 0} (names_now : Names) (session_now : ℕ) (held holds : Option (List ℕ)) (before after : Standing) (kept keeps piece : List ℕ) (result : Result X ServeFault) → names_now ≡ names → session_now ≡ session
-      → Takes names_now session_now held holds before after kept keeps piece result → Takes names session held holds before after kept keeps piece result
+      → TakesPiece names_now session_now held holds before after kept keeps piece result → TakesPiece names session held holds before after kept keeps piece result
   same_takes names_now session_now held holds before after kept keeps piece result same_names same_session t =
-      subst (λ n. Takes n session held holds before after kept keeps piece result) same_names (subst (λ s. Takes names_now s held holds before after kept keeps piece result) same_session t)
+      subst (λ n. TakesPiece n session held holds before after kept keeps piece result) same_names (subst (λ s. TakesPiece names_now s held holds before after kept keeps piece result) same_session t)
 
   -- the bytes that were taken: their complete lines are answered, and what is needed of the open one is kept
   pub record SoFar (given left held holds : Option (List ℕ)) (before after : Standing) (kept : List ℕ) (room : ℕ) : Type 0 where
@@ -58,7 +58,7 @@ module _ (names : Names) (session : ℕ) where
   pub so_far_more : (names_now : Names) (session_now : ℕ) (given left next held holds later_holds : Option (List ℕ)) (before after later : Standing) (kept keeps bytes more : List ℕ) (room rest n : ℕ)
       → SoFar given left held holds before after kept room → Consumes left next bytes → length bytes ≡ n → rest + n ≡ room → more ≡ take room bytes
       → names_now ≡ names → session_now ≡ session
-      → Takes {X = Unit {0}} names_now session_now holds later_holds after later kept keeps more (Ok tt)
+      → TakesPiece {X = Unit {0}} names_now session_now holds later_holds after later kept keeps more (Ok tt)
       → SoFar given next held later_holds before later keeps rest
   so_far_more names_now session_now given left next held holds later_holds before after later kept keeps bytes more room rest n s c count fits is same_names same_session f =
       let all : more ≡ bytes = is ∙ take_all room bytes (omega (arith, count, fits)) in
@@ -72,27 +72,27 @@ module _ (names : Names) (session : ℕ) where
       }
 
   pub serves_read : (given left next held holds : Option (List ℕ)) (before after : Standing) (kept : List ℕ) (room : ℕ)
-      → SoFar given left held holds before after kept room → Keeps left next → Ends names session given next held holds before after (Err Read)
+      → SoFar given left held holds before after kept room → Keeps left next → ScriptEnds names session given next held holds before after (Err Read)
   serves_read given left next held holds before after kept room s k =
       record { taken = s.taken; consumed = Consumes-kept given left next s.taken s.consumed k; few = omega (arith, s.counted); answered = s.answered }
 
   -- a fault, by what was read and the lines that were to be answered
   fails_due : (given next held holds : Option (List ℕ)) (before after : Standing) (fault : ServeFault) (taken : List ℕ) (lines : List (List ℕ)) → Consumes given next taken → Due next taken lines
-      → Fails names session held holds before after lines fault → Ends names session given next held holds before after (Err fault)
+      → Fails names session held holds before after lines fault → ScriptEnds names session given next held holds before after (Err fault)
   fails_due given next held holds before after Read taken lines c d s = absurd s
   fails_due given next held holds before after Write taken lines c d s = record { taken = taken; lines = lines; consumed = c; due = d; holds = s }
   fails_due given next held holds before after Memory taken lines c d s = record { taken = taken; lines = lines; consumed = c; due = d; holds = s }
   fails_due given next held holds before after TooLong taken lines c d s = absurd s
 
   -- no memory for what a script needs: nothing was read
-  pub serves_nothing : (given held : Option (List ℕ)) (before : Standing) → Ends names session given given held held before before (Err Memory)
+  pub serves_nothing : (given held : Option (List ℕ)) (before : Standing) → ScriptEnds names session given given held held before before (Err Memory)
   serves_nothing given held before = record { taken = []; lines = []; consumed = Consumes-nil given; due = inl refl; holds = inl (answered_none names session held before) }
 
   -- a fault while the lines of the last bytes are answered
   pub serves_stop : (names_now : Names) (session_now : ℕ) (given left next held holds later_holds : Option (List ℕ)) (before after later : Standing) (kept keeps bytes more : List ℕ) (room : ℕ) (fault : ServeFault)
       → SoFar given left held holds before after kept room → Consumes left next bytes → more ≡ take room bytes
       → names_now ≡ names → session_now ≡ session
-      → Takes {X = Unit {0}} names_now session_now holds later_holds after later kept keeps more (Err fault) → Ends names session given next held later_holds before later (Err fault)
+      → TakesPiece {X = Unit {0}} names_now session_now holds later_holds after later kept keeps more (Err fault) → ScriptEnds names session given next held later_holds before later (Err fault)
   serves_stop names_now session_now given left next held holds later_holds before after later kept keeps bytes more room fault s c is same_names same_session f =
       fails_due given next held later_holds before later fault (s.taken ++ bytes) (closed_lines (s.taken ++ more))
       (Consumes-trans given left next s.taken bytes s.consumed c)
@@ -105,7 +105,7 @@ module _ (names : Names) (session : ℕ) where
       → SoFar given left held holds before after kept room → Consumes left next [] → IsAtEnd next
       → names_now ≡ names → session_now ≡ session
       → ((line : List ℕ) → has_newline line ≡ false → kept ≡ kept_of line → Fails names_now session_now holds later_holds after later (lines_of line) fault)
-      → Ends names session given next held later_holds before later (Err fault)
+      → ScriptEnds names session given next held later_holds before later (Err fault)
   serves_stop_last names_now session_now given left next held holds later_holds before after later kept room fault s c end same_names same_session stop =
       let all : Fails names session held later_holds before later (lines_of s.taken) fault =
       subst (λ ls. Fails names session held later_holds before later ls fault) (sym (lines_of-parts s.taken))
@@ -121,14 +121,14 @@ module _ (names : Names) (session : ℕ) where
       → SoFar given left held holds before after kept room → Consumes left next [] → IsAtEnd next
       → names_now ≡ names → session_now ≡ session
       → ((line : List ℕ) → has_newline line ≡ false → kept ≡ kept_of line → Answers names_now session_now holds later_holds after later (lines_of line))
-      → length later.entries ≡ length before.entries + n → Ends names session given next held later_holds before later (Ok n)
+      → length later.entries ≡ length before.entries + n → ScriptEnds names session given next held later_holds before later (Ok n)
   serves_all names_now session_now given left next held holds later_holds before after later kept room n s c end same_names same_session answered added =
       let all : Answers names session held later_holds before later (lines_of s.taken) =
       subst (Answers names session held later_holds before later) (sym (lines_of-parts s.taken))
       (Answers-trans names session held holds later_holds before after later _ _ s.answered
       (subst (λ n. Answers n session holds later_holds after later (lines_of (open_part s.taken))) same_names
       (subst (λ s'. Answers names_now s' holds later_holds after later (lines_of (open_part s.taken))) same_session (answered (open_part s.taken) (open_part_is_open s.taken) s.kept_is)))) in
-      whole given left next s.taken [] (Ends names session given next held later_holds before later (Ok n)) s.consumed c
+      whole given left next s.taken [] (ScriptEnds names session given next held later_holds before later (Ok n)) s.consumed c
       (λ script rest is split ends.
       let is_all : s.taken ≡ script = all_of script s.taken rest split (ends end) in
       let fits : length script ≤ 1048576 = subst (λ t. length t ≤ 1048576) is_all (omega (arith, s.counted)) in
@@ -138,13 +138,13 @@ module _ (names : Names) (session : ℕ) where
   pub serves_too_long : (names_now : Names) (session_now : ℕ) (given left next held holds later_holds : Option (List ℕ)) (before after later : Standing) (kept keeps bytes more : List ℕ) (room n : ℕ)
       → SoFar given left held holds before after kept room → Consumes left next bytes → length bytes ≡ n → room < n → more ≡ take room bytes
       → names_now ≡ names → session_now ≡ session
-      → Takes {X = Unit {0}} names_now session_now holds later_holds after later kept keeps more (Ok tt) → Ends names session given next held later_holds before later (Err TooLong)
+      → TakesPiece {X = Unit {0}} names_now session_now holds later_holds after later kept keeps more (Ok tt) → ScriptEnds names session given next held later_holds before later (Err TooLong)
   serves_too_long names_now session_now given left next held holds later_holds before after later kept keeps bytes more room n s c count beyond is same_names same_session f =
       let front = s.taken ++ more in
       let all : Answers names session held later_holds before later (closed_lines front) =
       answered_more names session held holds later_holds before after later s.taken more s.answered
       (same_takes {X = Unit {0}} names_now session_now holds later_holds after later kept keeps more (Ok tt) same_names same_session f (open_part s.taken) (open_part_is_open s.taken) s.kept_is).0 in
-      whole given left next s.taken bytes (Ends names session given next held later_holds before later (Err TooLong)) s.consumed c
+      whole given left next s.taken bytes (ScriptEnds names session given next held later_holds before later (Err TooLong)) s.consumed c
       (λ script rest is_script split ends.
       let is_front : take 1048576 script ≡ front =
       ap (take 1048576) split ∙ take-append-le 1048576 (s.taken ++ bytes) rest (simp length-append (omega (arith, s.counted, count, beyond)))
@@ -201,7 +201,7 @@ module _ (names : Names) (session : ℕ) where
   fails_start held holds before after lines TooLong s = absurd s
 
   -- whatever the result, the start stays
-  pub ends_start : (given left held holds : Option (List ℕ)) (before after : Standing) (result : Result ℕ ServeFault) → Ends names session given left held holds before after result → after.start ≡ before.start
+  pub ends_start : (given left held holds : Option (List ℕ)) (before after : Standing) (result : Result ℕ ServeFault) → ScriptEnds names session given left held holds before after result → after.start ≡ before.start
   ends_start given left held holds before after (Ok n) (script, is, (fits, s, added)) = ap (λ (t : Standing). t.start) s.stands ∙ lines_start before (lines_of script)
   ends_start given left held holds before after (Err Read) s = ap (λ (t : Standing). t.start) s.answered.stands ∙ lines_start before (closed_lines s.taken)
   ends_start given left held holds before after (Err Write) s = fails_start held holds before after s.lines Write s.holds

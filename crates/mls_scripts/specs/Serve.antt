@@ -113,9 +113,9 @@ Feeds names session held holds before after kept keeps piece result =
     (Stops names session held holds before after (closed_lines (line ++ piece)))
 
 -- What one more piece of a script leaves, once the writer was to be flushed. (own)
-abbrev pub Takes : {X : Type 0} → Names → ℕ → Option (List ℕ) → Option (List ℕ) → Standing → Standing → List ℕ → List ℕ
-    → List ℕ → Result X ServeFault → Type 0
-Takes names session held holds before after kept keeps piece result =
+abbrev pub TakesPiece : {X : Type 0} → Names → ℕ → Option (List ℕ) → Option (List ℕ) → Standing → Standing → List ℕ
+    → List ℕ → List ℕ → Result X ServeFault → Type 0
+TakesPiece names session held holds before after kept keeps piece result =
     (line : List ℕ) → has_newline line ≡ false → kept ≡ kept_of line →
     MatchResult result
     (λ _. Answers names session held holds before after (closed_lines (line ++ piece))
@@ -153,18 +153,18 @@ pub record FailsToRead (names : Names) (session : ℕ) (given left held holds : 
 
 -- What a script leaves: what the reader had to give, and has left, what the writer held, and holds, and where the
 -- script stood before and stands after, by the result. (own)
-abbrev pub Ends : Names → ℕ → Option (List ℕ) → Option (List ℕ) → Option (List ℕ) → Option (List ℕ) → Standing
+abbrev pub ScriptEnds : Names → ℕ → Option (List ℕ) → Option (List ℕ) → Option (List ℕ) → Option (List ℕ) → Standing
     → Standing → Result ℕ ServeFault → Type 0
-Ends names session given left held holds before after (Ok n) = OfScript given (λ script.
+ScriptEnds names session given left held holds before after (Ok n) = OfScript given (λ script.
     (length script ≤ SCRIPT_LIMIT) × Answers names session held holds before after (lines_of script)
     × (length after.entries ≡ length before.entries + n))
-Ends names session given left held holds before after (Err Read) =
+ScriptEnds names session given left held holds before after (Err Read) =
     FailsToRead names session given left held holds before after
-Ends names session given left held holds before after (Err Write) =
+ScriptEnds names session given left held holds before after (Err Write) =
     OfRead given left (λ lines. Fails names session held holds before after lines Write)
-Ends names session given left held holds before after (Err Memory) =
+ScriptEnds names session given left held holds before after (Err Memory) =
     OfRead given left (λ lines. Fails names session held holds before after lines Memory)
-Ends names session given left held holds before after (Err TooLong) = OfScript given (λ script.
+ScriptEnds names session given left held holds before after (Err TooLong) = OfScript given (λ script.
     (SCRIPT_LIMIT < length script)
     × Answers names session held holds before after (closed_lines (take SCRIPT_LIMIT script)))
 
@@ -174,4 +174,4 @@ abbrev pub Serves : Names → ℕ → Option (List ℕ) → Option (List ℕ) �
     → Monitor → Result ℕ ServeFault → Type 0
 Serves names session given left held holds old new result =
     (vars : List (List ℕ × ℕ))
-    × Ends names session given left held holds (standing_of [] old) (standing_of vars new) result
+    × ScriptEnds names session given left held holds (standing_of [] old) (standing_of vars new) result

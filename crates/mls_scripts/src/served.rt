@@ -2,7 +2,7 @@
 ghost use Rattle.std.specs.Prelude.{◌≡◌, ◌<◌, ◌≤◌, ◌+◌, ◌++◌, [], List, ℕ, false, length, vec_len, MatchOption, OnOk};
 ghost use Rattle.mls_scripts.specs.Lines.{lines_of, closed_lines, open_part, has_newline, kept_of};
 ghost use Rattle.mls_scripts.specs.Script.{standing_of, answer_to, after_line};
-ghost use Rattle.mls_scripts.specs.Serve.{Replies, AnswersOrStops, AnswersOrFails, Feeds, Takes};
+ghost use Rattle.mls_scripts.specs.Serve.{Replies, AnswersOrStops, AnswersOrFails, Feeds, TakesPiece};
 
 use crate::answering::Answering;
 use crate::lines::{cut_line, keep};
@@ -116,7 +116,7 @@ impl<N: Allocator, V: Allocator + Copy> Served<'_, N, V> {
         writer: &mut W,
     ) -> Result<(), ServeFault>
         requires { vec_len self.old.line ≤ MAX_LINE + 1 }
-        ensures taken { Takes self.old.answering.script.names.now self.old.answering.script.session
+        ensures taken { TakesPiece self.old.answering.script.names.now self.old.answering.script.session
             (W.contents writer.old) (W.contents writer.new)
             (standing_of self.old.answering.vars.bound monitor.old)
             (standing_of self.new.answering.vars.bound monitor.new)

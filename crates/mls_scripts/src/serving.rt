@@ -1,7 +1,7 @@
 //! Serving a script: its lines are read, answered and written, each before the next is asked for.
 ghost use Rattle.std.specs.Prelude.{◌≡◌, ◌<◌, ◌≤◌, ◌+◌, ◌-◌, [], length, take, vec_len, IfOk, IfErr};
 ghost use Rattle.mls_scripts.specs.Script.{standing_of};
-ghost use Rattle.mls_scripts.specs.Serve.{Ends, Serves};
+ghost use Rattle.mls_scripts.specs.Serve.{ScriptEnds, Serves};
 
 use crate::answer::Script;
 use crate::answering::Answering;
@@ -75,7 +75,7 @@ fn serve_pieces<R: Read, W: Write, A: Allocator, N: Allocator, V: Allocator + Co
 ) -> Result<u64, ServeFault>
     requires room { 0 < length buffer.old }
     requires line { served.old.line.items ≡ [] }
-    ensures { Ends served.old.answering.script.names.now served.old.answering.script.session
+    ensures { ScriptEnds served.old.answering.script.names.now served.old.answering.script.session
         (R.remaining reader.old) (R.remaining reader.new)
         (W.contents writer.old) (W.contents writer.new)
         (standing_of served.old.answering.vars.bound monitor.old)

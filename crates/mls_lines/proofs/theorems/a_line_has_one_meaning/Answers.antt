@@ -1,7 +1,7 @@
 use Rattle.std.proofs.Common.{◌≡◌, sym, ◌∙◌, Result, Ok, Err}
 use Rattle.mls_lines.specs.LineView.{LineView}
 use Rattle.mls_lines.specs.declared.fault.LineFault.{LineFault}
-use Rattle.mls_lines.proofs.grammar.a_line_has_one_meaning.Goals as goal
+use Rattle.mls_lines.proofs.theorems.a_line_has_one_meaning.Goals as goal
 
 pub returns : goal.returns
 returns g c = record {

@@ -1,7 +1,7 @@
 use Rattle.std.proofs.Common.{subst}
 use Rattle.mls_labels.specs.Scheme.{IsScheme}
 use Rattle.mls_lines.proofs.LinesRead.{Laws, line_says, line_reads, line_refused, refused_line}
-use Rattle.mls_lines.proofs.grammar.lines_law.Goals as goal
+use Rattle.mls_lines.proofs.theorems.lines_law.Goals as goal
 
 pub returns : goal.returns
 returns g c =
