@@ -1,5 +1,6 @@
 pub mod Bases
 pub mod Explained
+pub mod Files
 pub mod Obstacles
 pub mod Question
 pub mod Responses
