@@ -10,4 +10,5 @@ mod start_file;
 pub use checking::{START_LIMIT, check_start};
 pub use fault_line::write_fault;
 pub use mls_journal::JOURNAL_LIMIT;
-pub use replaying::replay_journal;
+pub use replaying::{replay_journal, replay_over};
+pub use start_file::load_start;

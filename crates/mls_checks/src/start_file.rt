@@ -1,20 +1,32 @@
 //! The start that a command's start file says.
 ghost use Rattle.std.specs.Prelude.{IfOk, IfErr};
 ghost use Rattle.mls_outcomes.specs.Loads.{SaysState, RefusesLoad};
+ghost use Rattle.mls_starts.specs.Says.{SaysStart};
 
 use mls_lines::Names;
 use mls_monitor::Start;
 use mls_outcomes::CommandFault;
-use mls_starts::read_start;
+use mls_starts::{Loaded, read_start};
 use std::alloc::Global;
 
-/// The start of a start file. Its names are not needed.
+/// The start of a start file, and the names in it.
+///
+/// # Errors
+/// `Load` where the file is refused, `Memory` where an allocation failed.
 #[tactic(auto, using(crate::proofs::Starts::load_refuses))]
+pub fn load_start(alloc: Global, bytes: &[u8]) -> Result<Loaded, CommandFault>
+    ensures ok { IfOk result (λ loaded. SaysStart bytes.now loaded) }
+    ensures fault { IfErr result (λ fault. RefusesLoad bytes.now fault) }
+{
+    Ok(read_start(alloc, bytes)?)
+}
+
+/// The start of a start file. Its names are not needed.
 pub(crate) fn load(alloc: Global, bytes: &[u8]) -> Result<Start, CommandFault>
     ensures ok { IfOk result (λ start. SaysState bytes.now start) }
     ensures fault { IfErr result (λ fault. RefusesLoad bytes.now fault) }
 {
-    let (names, start): (Names, Start) = read_start(alloc, bytes)?.into_parts();
+    let (names, start): (Names, Start) = load_start(alloc, bytes)?.into_parts();
     drop(names);
     Ok(start)
 }
