@@ -84,3 +84,8 @@ pub no_pairs : (v : State) (altered : List ℕ) (a : ℕ) (label : Label) (first
 no_pairs v altered a label first count is counted none =
     sym (none_more first (λ b. (a, b)) (filter (is_not_above v (table.get v.object_label a)) altered)
     (ap (λ l. length (filter (is_not_above v l) altered)) is ∙ sym counted ∙ none))
+
+-- the test of an object by the label that another has
+pub not_above : (v : State) (a b : ℕ) (label : Label) (test : Bool) → table.get v.object_label a ≡ Some label → test ≡ is_not_above v (Some label) b → test ≡ true
+    → is_not_above v (table.get v.object_label a) b ≡ true
+not_above v a b label test there is passes = ap (λ l. is_not_above v l b) there ∙ sym is ∙ passes

@@ -1,5 +1,5 @@
 -- What is suspicious in a state: permissions, objects and subjects of no use.
-use Rattle.std.specs.Prelude.{ℕ, Bool, not, ◌||◌, Option, Some, None, List, [], ◌∷◌, ◌++◌, filter, if◌then◌else◌}
+use Rattle.std.specs.Prelude.{ℕ, IsTrue, Bool, not, ◌||◌, Option, Some, None, List, [], ◌∷◌, ◌++◌, filter, if◌then◌else◌}
 use Rattle.std.specs.FinSet as set
 use Rattle.std.specs.List.{list_any, flat_map}
 use Rattle.mls_tables.specs.Rows.{listed}
@@ -8,7 +8,7 @@ use Rattle.mls_tables.specs.declared.mode.Mode.{Mode}
 use Rattle.mls_tables.specs.declared.mode.Mode.TheVariants.{Execute, Read, Append, Write}
 use Rattle.mls_requests.specs.declared.reason.Reason.{Reason}
 use Rattle.mls_state.specs.State.{State, is_subject, is_active}
-use Rattle.mls_lint.specs.Dead.{obstacle, is_live}
+use Rattle.mls_lint.specs.Dead.{IsDead, IsReason, obstacle, is_live}
 use Rattle.mls_lint.specs.declared.dead.Dead.{Dead}
 
 -- The known subjects, by number. (own)
@@ -39,6 +39,13 @@ dead_of v s = flat_map (dead_at v s) (objects v)
 -- The dead permissions, by subject, object and mode. (own)
 abbrev pub dead : State → List Dead
 dead v = flat_map (dead_of v) (subjects v)
+
+-- A finding is true: what it names is a permission and dead, and its reason is that of the first condition that fails
+-- throughout. (own)
+pub record IsTrueOf (v : State) (d : Dead) : Type 0 where
+  pub permitted : IsTrue (set.contains v.matrix (d.subject, d.object, d.mode))
+  pub dead : IsDead v (d.subject, d.object, d.mode)
+  pub reason : IsReason v (d.subject, d.object, d.mode) d.reason
 
 -- Whether a subject has a permission on an object that isn't dead. (own)
 abbrev pub may_use : State → ℕ → ℕ → Bool

@@ -3,7 +3,7 @@ ghost use Rattle.std.specs.Prelude.{◌≡◌, ◌++◌, IsTrue, IfOk, OnOk, All
 ghost use Rattle.std.specs.FinSet as set;
 ghost use Rattle.std.specs.List.{flat_map};
 ghost use Rattle.mls_state.specs.State.{is_subject, is_active};
-ghost use Rattle.mls_lint.specs.Findings.{subjects, objects, dead_in, dead_at, dead};
+ghost use Rattle.mls_lint.specs.Findings.{dead_in, dead_at, dead, IsTrueOf};
 
 use crate::known::{objects, subjects};
 use crate::live::obstacle;
@@ -105,7 +105,17 @@ fn dead_among<A: Allocator>(
     Ok(found)
 }
 
-/// Just the permissions that are dead, by subject, object and mode, each with its reason.
+/// The dead permissions of a state.
+fn dead_of_all<A: Allocator>(alloc: Global, state: &State<A>) -> Result<Vec<Dead>, AllocError>
+    ensures { IfOk result (λ found. found.items ≡ dead state.now) }
+{
+    let subjects = subjects(alloc, state)?;
+    let objects = objects(alloc, state)?;
+    dead_among(alloc, state, &subjects, &objects)
+}
+
+/// Just the permissions that are dead, by subject, object and mode, each with its reason: with each of them the get is
+/// granted at no current label that the subject's maximum dominates, nothing being held.
 ///
 /// # Errors
 /// `AllocError` where an allocation failed.
@@ -113,9 +123,10 @@ pub fn dead_permissions<A: Allocator>(
     alloc: Global,
     state: &State<A>,
 ) -> Result<Vec<Dead>, AllocError>
-    ensures { IfOk result (λ found. found.items ≡ dead state.now) }
+    ensures list { IfOk result (λ found. found.items ≡ dead state.now) }
+    ensures each { IfOk result (λ found. All (IsTrueOf state.now) found.items) }
 {
-    let subjects = subjects(alloc, state)?;
-    let objects = objects(alloc, state)?;
-    dead_among(alloc, state, &subjects, &objects)
+    state.agrees();
+    let found = dead_of_all(alloc, state)?;
+    Ok(found)
 }
