@@ -1,5 +1,6 @@
 -- What is suspicious in a state: permissions, objects and subjects of no use.
-use Rattle.std.specs.Prelude.{ℕ, IsTrue, Bool, not, ◌||◌, Option, Some, None, List, [], ◌∷◌, ◌++◌, filter, if◌then◌else◌}
+use Rattle.std.specs.Prelude.{ℕ, IsTrue, Bool, not, ◌||◌, Option, Some, None, List, [], ◌∷◌, ◌++◌, filter}
+use Rattle.std.specs.Prelude.{if◌then◌else◌}
 use Rattle.std.specs.FinSet as set
 use Rattle.std.specs.List.{list_any, flat_map}
 use Rattle.mls_tables.specs.Rows.{listed}
