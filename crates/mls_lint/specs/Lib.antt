@@ -1,0 +1,4 @@
+pub mod Dead
+pub mod Findings
+pub mod Flows
+pub mod LintText
