@@ -1,5 +1,6 @@
 //! The names of a start's subjects and objects, and its schemes of labels.
 ghost use Rattle.std.specs.Prelude.{◌≡◌, ◌≢◌, ◌≤◌, false, true, length, Some, None, IfNone, IfOk, IfErr, OnOk};
+ghost use Rattle.std.specs.Prelude.{option_map, slice_get};
 ghost use Rattle.mls_tables.specs.declared.limits.TheConstants.{MAX_SUBJECTS, MAX_OBJECTS};
 ghost use Rattle.mls_labels.specs.Names.{has_twice};
 ghost use Rattle.mls_labels.specs.Reading.{place_of};
@@ -89,6 +90,18 @@ fn name_sets<A: Allocator + Copy>(
     Ok((subjects, objects))
 }
 
+/// The name in a place, or nothing where there are fewer names.
+fn name_in<A: Allocator>(names: &NameSet<A>, place: u16) -> Option<&str>
+    ensures { option_map (λ name. name.now) result ≡ slice_get names.now place }
+{
+    let place = place as usize;
+    if place < names.len() {
+        Some(names.name(place))
+    } else {
+        None
+    }
+}
+
 impl<A: Allocator + Copy> Names<A> {
     /// The names of at most `MAX_SUBJECTS` subjects and `MAX_OBJECTS` objects in their order.
     ///
@@ -155,6 +168,20 @@ impl<A: Allocator> Names<A> {
     {
         let place = self.objects.place(name)?;
         Some(ObjectId(place as u16))
+    }
+
+    /// The name of a subject, or nothing where there is no subject of this number.
+    pub fn subject_name(&self, s: SubjectId) -> Option<&str>
+        ensures { option_map (λ name. name.now) result ≡ slice_get self.now.subjects s }
+    {
+        name_in(&self.subjects, s.0)
+    }
+
+    /// The name of an object, or nothing where the start has no object of this number.
+    pub fn object_name(&self, o: ObjectId) -> Option<&str>
+        ensures { option_map (λ name. name.now) result ≡ slice_get self.now.objects o }
+    {
+        name_in(&self.objects, o.0)
     }
 
     /// The scheme of the security labels.

@@ -1,0 +1,2 @@
+mod Categories
+mod Extending

@@ -1,0 +1,2 @@
+pub mod RequestText
+pub mod Wording
