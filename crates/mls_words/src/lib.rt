@@ -1,6 +1,13 @@
 //! The words of the program's command line.
 #![tactic(auto)]
 
+mod argument;
+mod command_rows;
+mod job;
+mod question;
+mod question_words;
 mod words;
 
-pub use words::{Job, RunWords, ServeWords, read_words};
+pub use job::{Job, RunWords, ServeWords};
+pub use question::{Question, Source};
+pub use words::read_words;

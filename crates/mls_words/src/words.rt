@@ -1,46 +1,11 @@
 //! The words of a command line.
-use clap::{Arg, ArgAction, ArgMatches, Command, Error};
+use crate::command_rows::{COMMANDS, CommandRow};
+use crate::job::{Job, RunWords, ServeWords};
+use crate::question_words::{operand, question};
+use clap::{ArgMatches, Command, Error};
 use mls_files::{NOT_WRITTEN, refused};
 use std::alloc::{AllocError, Global};
 use std::process::ExitCode;
-
-/// What a run of scripts is asked for.
-#[derive(Debug, Drop)]
-pub struct RunWords<'a> {
-    pub start: &'a str,
-    pub scripts: Vec<&'a str>,
-    /// The file that the journal is written to, where one is.
-    pub journal: Option<&'a str>,
-    /// Whether the scripts run one after the other, and not each in a thread of its own.
-    pub is_serial: bool,
-}
-
-/// What a service is asked for.
-#[derive(Clone, Copy, Debug)]
-pub struct ServeWords<'a> {
-    pub start: &'a str,
-    /// The journal's file.
-    pub journal: &'a str,
-    /// The number of the session that asks.
-    pub session: u32,
-    /// Whether a torn end of the journal is cut off.
-    pub is_recovering: bool,
-}
-
-/// What a command line asks for.
-#[derive(Debug, Drop)]
-pub enum Job<'a> {
-    /// To answer the script on standard input.
-    Answer,
-    /// To check a start file.
-    Check { start: &'a str },
-    /// To run scripts over a start file.
-    Run(RunWords<'a>),
-    /// To replay a journal over a start file.
-    Replay { start: &'a str, journal: &'a str },
-    /// To serve standard input over a start file and the file of a journal.
-    Serve(ServeWords<'a>),
-}
 
 /// The version, and the toolchain's line.
 const VERSION: &str = "0.2.0, proved with rattle-kit-13f logic dac8208d650f15bf";
@@ -51,157 +16,27 @@ const ABOUT: &str =
 
 const EXAMPLE: &str = "Example: printf 'ann get-read plans\\n' | mls";
 
-const CHECK_ABOUT: &str =
-    "Reads a start file and prints how many subjects, objects, cells and accesses it has, and that it opens secure";
-
-const CHECK_EXAMPLE: &str = "Example: mls check examples/office.json";
-
-const RUN_ABOUT: &str =
-    "Runs scripts over a start file and prints their answers, how many entries the journal has, and that the state is \
-    secure";
-
-const RUN_EXAMPLE: &str =
-    "Example: mls run --journal office.journal examples/office.json examples/office.script";
-
-const REPLAY_ABOUT: &str =
-    "Recomputes every reply of a journal over a start file, or tells the first entry that is wrong";
-
-const REPLAY_EXAMPLE: &str = "Example: mls replay examples/office.json office.journal";
-
-const SERVE_ABOUT: &str =
-    "Answers the lines on standard input over a start file, and goes on with the journal in FILE. The entries of lines are \
-     on the disk before their answers are written";
-
-const SERVE_EXAMPLE: &str = "Example: mls serve --journal office.journal examples/office.json";
-
-/// What is said of the journal that a run writes.
-const WRITES_JOURNAL: &str = "Writes the journal to FILE, which is made anew";
-
-/// What is said of the journal of a service.
-const KEEPS_JOURNAL: &str = "The journal, which is made where it isn't there";
-
-/// The operand `START`.
-fn start_operand<'a>(alloc: Global) -> Arg<'a> {
-    Arg::new(alloc, "START")
-        .help("The start file, JSON")
-        .required(true)
-}
-
-/// The command `check`.
-fn check_command<'a>(alloc: Global) -> Result<Command<'a>, AllocError> {
-    Command::new(alloc, "check")
-        .about(CHECK_ABOUT)
-        .after_help(CHECK_EXAMPLE)
-        .arg(start_operand(alloc))
-}
-
-/// The option `--serial`.
-fn serial_option<'a>(alloc: Global) -> Arg<'a> {
-    Arg::new(alloc, "serial")
-        .long("serial")
-        .help("Runs the scripts one after the other, and not each in a thread of its own")
-        .action(ArgAction::SetTrue)
-}
-
-/// The option `--journal`.
-fn journal_option<'a>(alloc: Global, help: &'a str) -> Arg<'a> {
-    Arg::new(alloc, "journal")
-        .long("journal")
-        .value_name("FILE")
-        .help(help)
-        .action(ArgAction::Set)
-}
-
-/// The option `--session`.
-fn session_option<'a>(alloc: Global) -> Arg<'a> {
-    Arg::new(alloc, "session")
-        .long("session")
-        .value_name("K")
-        .help("The number of the session that asks; without it 0")
-        .value_parser(clap::value_parser!(u32))
-        .action(ArgAction::Set)
-}
-
-/// The option `--recover`.
-fn recover_option<'a>(alloc: Global) -> Arg<'a> {
-    Arg::new(alloc, "recover")
-        .long("recover")
-        .help("Cuts off an end of the journal that a crash has torn, and keeps it in FILE.torn")
-        .action(ArgAction::SetTrue)
-}
-
-/// The operands `SCRIPT`.
-fn script_operands<'a>(alloc: Global) -> Arg<'a> {
-    Arg::new(alloc, "SCRIPT")
-        .help("The scripts, at most 64; the first is session 0")
-        .required(true)
-        .num_args(1..)
-        .action(ArgAction::Append)
-}
-
-/// The operand `JOURNAL`.
-fn journal_operand<'a>(alloc: Global) -> Arg<'a> {
-    Arg::new(alloc, "JOURNAL")
-        .help("The journal, as mls run writes it")
-        .required(true)
-}
-
-/// The command `run`.
-fn run_command<'a>(alloc: Global) -> Result<Command<'a>, AllocError> {
-    let run = Command::new(alloc, "run")
-        .about(RUN_ABOUT)
-        .after_help(RUN_EXAMPLE);
-    run.arg(serial_option(alloc))?
-        .arg(journal_option(alloc, WRITES_JOURNAL))?
-        .arg(start_operand(alloc))?
-        .arg(script_operands(alloc))
-}
-
-/// The command `replay`.
-fn replay_command<'a>(alloc: Global) -> Result<Command<'a>, AllocError> {
-    let replay = Command::new(alloc, "replay")
-        .about(REPLAY_ABOUT)
-        .after_help(REPLAY_EXAMPLE);
-    replay
-        .arg(start_operand(alloc))?
-        .arg(journal_operand(alloc))
-}
-
-/// The command `serve`.
-fn serve_command<'a>(alloc: Global) -> Result<Command<'a>, AllocError> {
-    let serve = Command::new(alloc, "serve")
-        .about(SERVE_ABOUT)
-        .after_help(SERVE_EXAMPLE);
-    serve
-        .arg(session_option(alloc))?
-        .arg(recover_option(alloc))?
-        .arg(journal_option(alloc, KEEPS_JOURNAL).required(true))?
-        .arg(start_operand(alloc))
-}
-
-/// A command line with one more command.
-fn with<'a>(
-    line: Command<'a>,
-    made: Result<Command<'a>, AllocError>,
-) -> Result<Command<'a>, AllocError> {
-    line.subcommand(made?)
+/// The command of a row.
+fn command_of<'a>(alloc: Global, row: &CommandRow) -> Result<Command<'a>, AllocError> {
+    let mut command = Command::new(alloc, row.name)
+        .about(row.about)
+        .after_help(row.example);
+    for argument in row.arguments {
+        command = command.arg(argument.built(alloc)?)?;
+    }
+    Ok(command)
 }
 
 /// The program's command line.
 fn command<'a>(alloc: Global) -> Result<Command<'a>, AllocError> {
-    let line = Command::new(alloc, "mls")
+    let mut line = Command::new(alloc, "mls")
         .version(VERSION)
         .about(ABOUT)
         .after_help(EXAMPLE);
-    let line = with(line, check_command(alloc))?;
-    let line = with(line, run_command(alloc))?;
-    let line = with(line, replay_command(alloc))?;
-    with(line, serve_command(alloc))
-}
-
-/// The text of an operand.
-fn operand<'a>(matches: &ArgMatches<'a>, name: &str) -> &'a str {
-    matches.get_str(name).unwrap_or("")
+    for row in COMMANDS {
+        line = line.subcommand(command_of(alloc, &row)?)?;
+    }
+    Ok(line)
 }
 
 /// What a run was asked for.
@@ -242,7 +77,11 @@ fn job_of<'a>(alloc: Global, matches: &ArgMatches<'a>) -> Result<Job<'a>, AllocE
             journal: operand(words, "JOURNAL"),
         }),
         Some(("serve", words)) => Ok(Job::Serve(serve_words(words))),
-        _ => Ok(Job::Answer),
+        Some((command, words)) => Ok(match question(command, words) {
+            Some(asked) => Job::Question(asked),
+            None => Job::Answer,
+        }),
+        None => Ok(Job::Answer),
     }
 }
 

@@ -1,0 +1,207 @@
+//! The commands of the program, as rows of a table.
+use crate::argument::{Argument, Kind};
+
+/// A command of the program.
+#[derive(Clone, Copy, Debug)]
+pub(crate) struct CommandRow {
+    pub name: &'static str,
+    pub about: &'static str,
+    pub example: &'static str,
+    pub arguments: &'static [Argument],
+}
+
+/// The operand `START`.
+const START: Argument = Argument {
+    name: "START",
+    kind: Kind::Operand,
+    help: "The start file, JSON",
+};
+
+/// The operand `JOURNAL`.
+const JOURNAL: Argument = Argument {
+    name: "JOURNAL",
+    kind: Kind::Operand,
+    help: "The journal, as mls run writes it",
+};
+
+/// The option `--journal` of a question.
+const OF_JOURNAL: Argument = Argument {
+    name: "journal",
+    kind: Kind::Text("FILE"),
+    help: "The journal whose state is looked at; without it, the state that START opens with",
+};
+
+/// The option `--at` of a question.
+const AT: Argument = Argument {
+    name: "at",
+    kind: Kind::EntryOfJournal,
+    help: "Looks at the state before entry N; without it, after the last",
+};
+
+/// The arguments of `check`.
+const CHECK_ARGUMENTS: [Argument; 1] = [START];
+
+/// The arguments of `run`.
+const RUN_ARGUMENTS: [Argument; 4] = [
+    Argument {
+        name: "serial",
+        kind: Kind::Flag,
+        help: "Runs the scripts one after the other, and not each in a thread of its own",
+    },
+    Argument {
+        name: "journal",
+        kind: Kind::Text("FILE"),
+        help: "Writes the journal to FILE, which is made anew",
+    },
+    START,
+    Argument {
+        name: "SCRIPT",
+        kind: Kind::Operands,
+        help: "The scripts, at most 64; the first is session 0",
+    },
+];
+
+/// The arguments of `replay`.
+const REPLAY_ARGUMENTS: [Argument; 2] = [START, JOURNAL];
+
+/// The arguments of `serve`.
+const SERVE_ARGUMENTS: [Argument; 4] = [
+    Argument {
+        name: "session",
+        kind: Kind::Session,
+        help: "The number of the session that asks; without it 0",
+    },
+    Argument {
+        name: "recover",
+        kind: Kind::Flag,
+        help: "Cuts off an end of the journal that a crash has torn, and keeps it in FILE.torn",
+    },
+    Argument {
+        name: "journal",
+        kind: Kind::NeededText("FILE"),
+        help: "The journal, which is made where it isn't there",
+    },
+    START,
+];
+
+/// The arguments of `ask`.
+const ASK_ARGUMENTS: [Argument; 4] = [
+    OF_JOURNAL,
+    AT,
+    START,
+    Argument {
+        name: "LINE",
+        kind: Kind::Operand,
+        help: "A line as a script has it, in one word",
+    },
+];
+
+/// The arguments of `explain`.
+const EXPLAIN_ARGUMENTS: [Argument; 4] = [
+    OF_JOURNAL,
+    AT,
+    START,
+    Argument {
+        name: "LINE",
+        kind: Kind::UnlessAt,
+        help: "A line as a script has it, in one word; without it, entry N is explained",
+    },
+];
+
+/// The arguments of `who`.
+const WHO_ARGUMENTS: [Argument; 5] = [
+    OF_JOURNAL,
+    AT,
+    START,
+    Argument {
+        name: "OBJ",
+        kind: Kind::Operand,
+        help: "An object: its name, or # and its number",
+    },
+    Argument {
+        name: "MODE",
+        kind: Kind::Mode,
+        help: "This mode alone",
+    },
+];
+
+/// The arguments of `lint`.
+const LINT_ARGUMENTS: [Argument; 1] = [START];
+
+/// The arguments of `lattice`.
+const LATTICE_ARGUMENTS: [Argument; 1] = [START];
+
+/// The arguments of `state`.
+const STATE_ARGUMENTS: [Argument; 3] = [
+    Argument {
+        name: "at",
+        kind: Kind::Entry,
+        help: "Looks at the state before entry N; without it, after the last",
+    },
+    START,
+    JOURNAL,
+];
+
+/// The commands, in the order of help.
+pub(crate) const COMMANDS: [CommandRow; 10] = [
+    CommandRow {
+        name: "check",
+        about: "Reads a start file and prints how many subjects, objects, cells and accesses it has, and that it opens secure",
+        example: "Example: mls check examples/office.json",
+        arguments: &CHECK_ARGUMENTS,
+    },
+    CommandRow {
+        name: "run",
+        about: "Runs scripts over a start file and prints their answers, how many entries the journal has, and that the state is secure",
+        example: "Example: mls run --journal office.journal examples/office.json examples/office.script",
+        arguments: &RUN_ARGUMENTS,
+    },
+    CommandRow {
+        name: "replay",
+        about: "Recomputes every reply of a journal over a start file, or tells the first entry that is wrong",
+        example: "Example: mls replay examples/office.json office.journal",
+        arguments: &REPLAY_ARGUMENTS,
+    },
+    CommandRow {
+        name: "serve",
+        about: "Answers the lines on standard input over a start file, and goes on with the journal in FILE. The entries of lines are on the disk before their answers are written",
+        example: "Example: mls serve --journal office.journal examples/office.json",
+        arguments: &SERVE_ARGUMENTS,
+    },
+    CommandRow {
+        name: "ask",
+        about: "Prints what a script would be answered to LINE, and changes nothing. The status is 0 where it is yes, created or held, else 4",
+        example: "Example: mls ask examples/standard.json 'bob get-read memo'",
+        arguments: &ASK_ARGUMENTS,
+    },
+    CommandRow {
+        name: "explain",
+        about: "Prints what LINE, or entry N of a journal, is answered, each condition of its rule with whether it holds and the labels that it compares, and for a get that is denied the least current label with which it is granted",
+        example: "Example: mls explain examples/standard.json 'bob get-read memo'",
+        arguments: &EXPLAIN_ARGUMENTS,
+    },
+    CommandRow {
+        name: "who",
+        about: "Prints which subjects are permitted OBJ, in which modes, whether a get is granted, and if not, why, and at which current label it is",
+        example: "Example: mls who examples/standard.json memo read",
+        arguments: &WHO_ARGUMENTS,
+    },
+    CommandRow {
+        name: "lint",
+        about: "Prints what is suspicious in a start file: permissions that are never granted, objects and subjects without any that is, and flows down by trusted subjects; or each place of its first fault",
+        example: "Example: mls lint examples/standard.json",
+        arguments: &LINT_ARGUMENTS,
+    },
+    CommandRow {
+        name: "lattice",
+        about: "Prints the security labels of a start file and their order, for dot of graphviz",
+        example: "Example: mls lattice examples/standard.json | dot -Tsvg > lattice.svg",
+        arguments: &LATTICE_ARGUMENTS,
+    },
+    CommandRow {
+        name: "state",
+        about: "Prints the state that a journal leads to: labels, permissions and accesses by name",
+        example: "Example: mls state examples/office.json office.journal",
+        arguments: &STATE_ARGUMENTS,
+    },
+];
