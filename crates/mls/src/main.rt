@@ -6,6 +6,7 @@ ghost use Rattle.std.specs.Prelude.{◌<◌, ◌≤◌, length, vec_len, All};
 
 use mls_commands::{check, ended_run, lent, read_scripts, replay, serve_standard, start_file};
 use mls_files::{NO_MEMORY, Progress, file_refused, refused};
+use mls_inquiries::answer;
 use mls_outcomes::MAX_SCRIPTS;
 use mls_runs::run_serial;
 use mls_scripts::SCRIPT_LIMIT;
@@ -115,6 +116,7 @@ fn run_words<R: Threads + Wait + Sync>(
         Ok(Job::Run(words)) => run(threads, rt, &words),
         Ok(Job::Replay { start, journal }) => replay(rt, start, journal),
         Ok(Job::Serve(words)) => serve_journal(rt, &words),
+        Ok(Job::Question(question)) => answer(rt, &question),
         Ok(Job::Answer) => serve_standard(rt),
         Err(status) => status,
     }

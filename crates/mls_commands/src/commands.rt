@@ -3,6 +3,7 @@ use crate::output::command_refused;
 use mls_checks::{JOURNAL_LIMIT, START_LIMIT, check_start, replay_journal};
 use mls_files::{Input, Progress, file_refused, print};
 use mls_outcomes::CommandFault;
+use mls_starts::{Loaded, read_start};
 use std::process::ExitCode;
 
 /// A start file.
@@ -14,10 +15,29 @@ pub fn start_file(path: &str) -> Input<'_> {
 }
 
 /// A journal file.
-fn journal_file(path: &str) -> Input<'_> {
+pub fn journal_file(path: &str) -> Input<'_> {
     Input {
         path,
         limit: JOURNAL_LIMIT,
+    }
+}
+
+/// Reads and judges a start file.
+///
+/// # Errors
+/// The status to end with: it is told why the file is refused.
+pub fn load_start(rt: &HostRuntime, path: &str) -> Result<Loaded, ExitCode> {
+    let mut progress = Progress::new(rt);
+    let bytes = match start_file(path).read(&mut progress) {
+        Ok(bytes) => bytes,
+        Err(fault) => return Err(file_refused(&mut progress, path, fault)),
+    };
+    progress.end();
+    let loaded = read_start(rt.alloc(), &bytes);
+    drop(bytes);
+    match loaded {
+        Ok(loaded) => Ok(loaded),
+        Err(fault) => Err(command_refused(rt, path, &CommandFault::from(fault))),
     }
 }
 
@@ -31,12 +51,12 @@ fn ended(
     progress.end();
     match done {
         Ok(text) => print(progress.rt(), text.as_bytes()),
-        Err(fault) => command_refused(progress.rt(), file_of(&fault, start, journal), &fault),
+        Err(fault) => command_refused(progress.rt(), fault_file(&fault, start, journal), &fault),
     }
 }
 
 /// The file that a fault is about.
-fn file_of<'a>(fault: &CommandFault, start: &'a str, journal: &'a str) -> &'a str {
+pub fn fault_file<'a>(fault: &CommandFault, start: &'a str, journal: &'a str) -> &'a str {
     match fault {
         CommandFault::Load(_) | CommandFault::Thread | CommandFault::Memory => start,
         CommandFault::Entry { .. } | CommandFault::Replay(_) => journal,

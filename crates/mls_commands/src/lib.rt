@@ -6,7 +6,7 @@ mod output;
 mod scripts;
 mod serving;
 
-pub use commands::{check, replay, start_file};
+pub use commands::{check, fault_file, journal_file, load_start, replay, start_file};
 pub use output::command_refused;
 pub use scripts::{ended_run, lent, read_scripts};
 pub use serving::serve_standard;

@@ -1,0 +1,10 @@
+//! The commands that answer questions about start files and journals, over files.
+#![tactic(auto)]
+
+mod answering;
+mod asking;
+mod listing;
+mod sources;
+mod starts;
+
+pub use answering::answer;
