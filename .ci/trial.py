@@ -19,6 +19,7 @@ TRIALS = [
     ([], FOUR),
     (["run", "--journal", "sub/journal", "sub/start.json", "script"], b""),
     (["check", "./refused.json"], b""),
+    (["explain", "sub/start.json", "bob get-read memo"], b""),
 ]
 
 
