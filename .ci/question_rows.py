@@ -1,0 +1,233 @@
+"""Questions about the examples, with answers that were worked out by hand from docs/POLICY.md and docs/FORMATS.md."""
+from outside import EXAMPLES, put, ran_program, same
+
+STANDARD, OFFICE, HELD = (f"{EXAMPLES}/{it}.json" for it in ("standard", "office", "held"))
+# The journal of examples/standard.script.
+MEMO = b"0 0 0 get-read 1 yes\n1 0 1 get-read 2 no star\n2 0 0 release read 1 yes\n"
+# A journal with a level that no scheme has, and with objects and subjects that aren't there.
+STRANGE = (
+    b"0 0 2 get-write 0 yes\n1 0 2 create 0 2:1 1 created 4\n2 1 2 relabel 4 9:7 undefined\n3 1 9 give read 9 9 undefined\n"
+    b"4 1 0 give read 8 9 undefined\n5 0 0 create 4 9 5 undefined\n6 0 2 delete 4 yes\n7 0 2 get-read 4 undefined\n"
+)
+
+ASKED = [
+    ("bob get-read memo", "no star\n", 4),
+    ("ann get-read plans", "yes\n", 0),
+    ("  ann   get-read plans ", "yes\n", 0),
+    ("ann check read plans", "not held\n", 4),
+    ("#0 get-read #1", "yes\n", 0),
+    ("#9 get-read #1", "undefined\n", 4),
+    ("ann release read plans", "yes\n", 0),
+    ("sec create root S:B hi", "no authority\n", 4),
+]
+
+EXPLAINED = [
+    ("bob get-read memo",
+     "no star\ndiscretionary holds: bob is permitted read of memo\nsimple holds: maximum C dominates C of memo\n"
+     "star fails: current U does not dominate C of memo\nintegrity holds: lo of memo dominates lo of bob\nremedy: bob level C\n", 4),
+    ("ann get-read plans",
+     "yes\ndiscretionary holds: ann is permitted read of plans\nsimple holds: maximum S:A dominates S:A of plans\n"
+     "star holds: current S:A dominates S:A of plans\nintegrity holds: hi of plans dominates hi of ann\n", 0),
+    ("bob get-append plans",
+     "no integrity\ndiscretionary holds: bob is permitted append of plans\nsimple holds: append does not observe\n"
+     "star holds: S:A of plans dominates current U\nintegrity fails: lo of bob does not dominate hi of plans\nremedy: none by level\n", 4),
+    ("bob get-execute tool",
+     "yes\ndiscretionary holds: bob is permitted execute of tool\nsimple holds: execute does not observe\n"
+     "star holds: execute neither observes nor alters\nintegrity holds: lo of tool dominates lo of bob\n", 0),
+    ("ann get-write memo",
+     "no discretionary\ndiscretionary fails: ann is not permitted write of memo\nsimple holds: maximum S:A dominates C of memo\n"
+     "star fails: current S:A does not equal C of memo\nintegrity fails: hi of ann does not equal lo of memo\nremedy: none by level\n", 4),
+    ("sec get-write root",
+     "yes\ndiscretionary holds: sec is permitted write of root\nsimple holds: maximum T:A,B dominates U of root\n"
+     "star holds: sec is trusted\nintegrity holds: hi of sec equals hi of root\n", 0),
+    ("ann release read plans", "yes\n", 0),
+    ("ann give read bob plans", "no authority\nauthority fails: ann does not hold write on root\n", 4),
+    ("ann give read bob root", "no authority\nauthority fails: ann is not trusted\n", 4),
+    ("aud rescind write sec root", "yes\nauthority holds: aud is trusted\n", 0),
+    ("sec create root S:B hi",
+     "no authority\nauthority fails: sec holds neither append nor write on root\n"
+     "compatibility holds: new S:B dominates U of root\nintegrity holds: hi of root dominates new hi\nfull holds: next number is 4\n", 4),
+    ("ann create memo U hi",
+     "no authority\nauthority fails: ann holds neither append nor write on memo\ncompatibility fails: new U does not dominate C of memo\n"
+     "integrity fails: lo of memo does not dominate new hi\nfull holds: next number is 4\n", 4),
+    ("ann delete root", "no root\nroot fails: root is the root\nauthority fails: root has no parent\n", 4),
+    ("ann delete memo", "no authority\nroot holds: memo is not the root\nauthority fails: ann does not hold write on root\n", 4),
+    ("bob level S", "no ceiling\nceiling fails: maximum C does not dominate new S\nstar holds: all that bob holds meets star at new S\n", 4),
+    ("sec level T:A,B", "yes\nceiling holds: maximum T:A,B dominates new T:A,B\nstar holds: sec is trusted\n", 0),
+    ("bob relabel memo S",
+     "no authority\nauthority fails: bob does not hold write on root, current U does not dominate C of memo, new S dominates C of memo\n"
+     "compatibility holds: new S dominates U of root, each child of memo dominates new S\n"
+     "simple holds: all that observe memo meet simple at new S\nstar holds: all that hold memo meet star at new S\n", 4),
+    ("sec relabel root C",
+     "no compatibility\nauthority holds: sec is trusted\ncompatibility fails: not each child of root dominates new C\n"
+     "simple holds: all that observe root meet simple at new C\nstar holds: all that hold root meet star at new C\n", 4),
+    ("bob check read memo", "not held\n", 4),
+    ("#9 give read #8 #7", "undefined\nunknown subject: #9\nunknown subject: #8\ninactive object: #7\n", 4),
+    ("#9 give read #9 root", "undefined\nunknown subject: #9\n", 4),
+]
+
+# over examples/held.json, in which ann holds read on plans
+HELD_EXPLAINED = [
+    ("ann level U",
+     "no star\nceiling holds: maximum S:A dominates new U\nstar fails: not all that ann holds meets star at new U\n  plans read\n", 4),
+    ("sec relabel plans T:A,B",
+     "no simple\nauthority holds: sec is trusted\ncompatibility holds: new T:A,B dominates U of root, each child of plans dominates new T:A,B\n"
+     "simple fails: not all that observe plans meet simple at new T:A,B\n  ann read\n"
+     "star fails: not all that hold plans meet star at new T:A,B\n  ann read\n", 4),
+    ("ann check read plans", "held\n", 0),
+]
+
+BAD_LINES = [
+    ("", "form"), ("   ", "form"), ("; ann get-read plans", "form"), ("ann get-read", "form"), ("ann get-read plans\n", "form"),
+    ("ann get-read plans\nbob get-read memo", "form"), ("ann get-read $x", "form"), ("$x = sec create root U hi", "form"),
+    ("ann frob plans", "form"), ("ann get-read #01", "form"), ("zoe get-read plans", "name"), ("ann get-read plan", "name"),
+    ("sec create root Q hi", "label"), ("bob level S:A,A", "label"),
+]
+
+WHO = [
+    (["memo"], "ann read no integrity, never\nbob read no star, level C\nsec append yes\nsec write no integrity, never\n", 0),
+    (["memo", "read"], "ann read no integrity, never\nbob read no star, level C\n", 4),
+    (["#2", "append"], "sec append yes\n", 0),
+    (["tool", "append"], "", 4),
+    (["#9"], "", 4),
+    (["plans"], "ann read yes\nann write yes\nbob append no integrity, never\nsec write yes\naud read yes\n", 0),
+]
+
+SUBJECTS = (
+    "subject ann maximum S:A current S:A integrity hi\nsubject bob maximum C current U integrity lo\n"
+    "subject sec maximum T:A,B current U integrity hi trusted\nsubject aud maximum S:A current U integrity hi trusted\n"
+)
+OBJECTS = (
+    "object root security U integrity hi\nobject plans security S:A integrity hi parent root\n"
+    "object memo security C integrity lo parent root\nobject tool security U integrity lo parent root\n"
+)
+PERMISSIONS = (
+    "permit ann read plans\npermit ann write plans\npermit ann read memo\npermit ann execute tool\npermit bob append plans\n"
+    "permit bob read memo\npermit bob execute tool\npermit sec write root\npermit sec write plans\npermit sec append memo\n"
+    "permit sec write memo\npermit aud read plans\n"
+)
+
+LATTICE = (
+    'digraph lattice {\nrankdir=BT;\nnode [shape=box];\n"S:A" [label="S:A\\nann maximum, current\\naud maximum\\nplans"];\n'
+    '"C" [label="C\\nbob maximum\\nmemo"];\n"U" [label="U\\nbob current\\nsec current\\naud current\\nroot\\ntool"];\n'
+    '"T:A,B" [label="T:A,B\\nsec maximum"];\n"S:A" -> "T:A,B";\n"C" -> "S:A";\n"U" -> "C";\n}\n'
+)
+
+STRANGE_EXPLAINED = [
+    (2, "undefined\nsecurity label outside the scheme: 9:7\n"),
+    (3, "undefined\nunknown subject: #9\ninactive object: #9\n"),
+    (4, "undefined\nunknown subject: #8\ninactive object: #9\n"),
+    (5, "undefined\nsecurity label outside the scheme: 9\nintegrity label outside the scheme: 5\n"),
+    (7, "undefined\ninactive object: #4\n"),
+]
+
+STATES = [
+    ([], "profile 1\nnext 4\n" + SUBJECTS + OBJECTS + PERMISSIONS, 0),
+    (["--at", "1"], "profile 1\nnext 4\n" + SUBJECTS + OBJECTS + PERMISSIONS + "access ann read plans\n", 0),
+]
+
+LINTED = [
+    (STANDARD, "dead: ann read memo: integrity\ndead: ann execute tool: integrity\ndead: bob append plans: integrity\n"
+     "dead: sec write memo: integrity\ndownflow: sec: 2 pairs, as plans to root\n", 4),
+    (OFFICE, "dead: petra read salaries: simple\ndead: petra read inbox: integrity\n"
+     "downflow: desk: 2 pairs, as staff to office\n", 4),
+]
+
+
+def answered(words, text, status):
+    same((words, *ran_program(words)), (words, status, text.encode(), b""))
+
+
+def refused(words, told, status=1):
+    same((words, *ran_program(words)), (words, status, b"", told.encode()))
+
+
+def lines_that_are_asked():
+    for line, text, status in ASKED:
+        answered(["ask", STANDARD, line], text, status)
+
+
+def lines_that_are_explained():
+    for line, text, status in EXPLAINED:
+        answered(["explain", STANDARD, line], text, status)
+    for line, text, status in HELD_EXPLAINED:
+        answered(["explain", HELD, line], text, status)
+
+
+def lines_that_ask_nothing():
+    for line, fault in BAD_LINES:
+        for command in ("ask", "explain"):
+            refused([command, STANDARD, line], f"mls: line: bad {fault}\n")
+    refused(["ask", STANDARD, "a" * 20001], "mls: line: bad form\n")
+
+
+def subjects_who_may():
+    for words, text, status in WHO:
+        answered(["who", STANDARD, *words], text, status)
+    refused(["who", STANDARD, "nobody"], "mls: nobody: bad name\n")
+    refused(["who", STANDARD, "$x"], "mls: $x: bad name\n")
+
+
+def entries_that_are_explained():
+    put("strange.journal", STRANGE)
+    for number, text in STRANGE_EXPLAINED:
+        answered(["explain", STANDARD, "--journal", "strange.journal", "--at", str(number)], text, 4)
+    put("memo.journal", MEMO)
+    answered(["explain", STANDARD, "--journal", "memo.journal", "--at", "1"], EXPLAINED[0][1], 4)
+    refused(["explain", STANDARD, "--journal", "memo.journal", "--at", "3"], "mls: memo.journal: no entry 3\n")
+    refused(["explain", STANDARD, "--journal", "memo.journal", "--at", "4"], "mls: memo.journal: at most 3\n")
+
+
+def states_before_entries():
+    put("memo.journal", MEMO)
+    for at, text, status in ((0, "not held\n", 4), (1, "held\n", 0), (2, "held\n", 0), (3, "not held\n", 4)):
+        answered(["ask", STANDARD, "--journal", "memo.journal", "--at", str(at), "ann check read plans"], text, status)
+    answered(["ask", STANDARD, "--journal", "memo.journal", "ann check read plans"], "not held\n", 4)
+
+
+def faults_in_their_order():
+    put("memo.journal", MEMO)
+    put("torn.journal", MEMO[:-1])
+    put("forged.journal", MEMO.replace(b"no star", b"yes"))
+    put("empty.json", b"")
+    line = "ann get-read"
+    asked = lambda start, journal, *more: ["ask", start, "--journal", journal, "--at", "9", *more, line]
+    refused(asked("no.json", "no.journal"), "mls: no.json: file\n")
+    refused(asked("empty.json", "no.journal"), "mls: no.journal: file\n")
+    refused(asked("empty.json", "torn.journal"), "mls: empty.json: start 1 Json\n")
+    refused(asked(STANDARD, "torn.journal"), "mls: torn.journal: line 3: entry 1 BadForm\n")
+    refused(asked(STANDARD, "forged.journal"), "mls: forged.journal: replay 2 Differs at 1 expected no star\n", 3)
+    refused(asked(STANDARD, "memo.journal"), "mls: memo.journal: at most 3\n")
+    refused(["ask", STANDARD, line], "mls: line: bad form\n")
+
+
+def words_that_no_question_has():
+    for words in (["ask", STANDARD], ["ask", STANDARD, "--at", "0", "ann get-read plans"], ["explain", STANDARD], ["who", STANDARD],
+                  ["who", STANDARD, "memo", "see"], ["explain", STANDARD, "--journal", "j"], ["ask"]):
+        status, output, error = ran_program(words)
+        same((words, status, output, bool(error)), (words, 2, b"", True))
+
+
+def states_of_a_journal():
+    put("memo.journal", MEMO)
+    for words, text, status in STATES:
+        answered(["state", *words, STANDARD, "memo.journal"], text, status)
+    refused(["state", "--at", "4", STANDARD, "memo.journal"], "mls: memo.journal: at most 3\n")
+
+
+def drawing_of_the_standard_start():
+    answered(["lattice", STANDARD], LATTICE, 0)
+    put("empty.json", b"")
+    for command in ("lattice", "lint"):
+        refused([command, "empty.json"], "mls: empty.json: start 1 Json\n")
+
+
+def suspicious_examples():
+    for start, text, status in LINTED:
+        answered(["lint", start], text, status)
+
+
+CHECKS = [
+    lines_that_are_asked, lines_that_are_explained, lines_that_ask_nothing, subjects_who_may, entries_that_are_explained, states_before_entries,
+    faults_in_their_order, words_that_no_question_has, states_of_a_journal, suspicious_examples, drawing_of_the_standard_start,
+]

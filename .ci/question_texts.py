@@ -1,0 +1,74 @@
+"""What `mls state` and `mls lint` print, and the pairs that `mls lattice` draws, in Python from docs/FORMATS.md over the policy of policy.py."""
+import copy
+
+from policy import MODES, dominates
+
+
+class Entry:
+    def __init__(self, number, session, subject, action, reply):
+        self.number, self.session, self.subject, self.action, self.reply = number, session, subject, action, reply
+
+
+def state_lines(state):
+    sec, own = state.security.text, state.integrity.text
+    lines = [f"profile {state.profile}\n", f"next {state.next}\n"]
+    for s in sorted(state.maximum):
+        trusted = " trusted" if s in state.trusted else ""
+        lines.append(
+            f"subject {state.subject(s)} maximum {sec(state.maximum[s])} current {sec(state.current[s])} integrity {own(state.own[s])}{trusted}\n")
+    for o in sorted(state.label):
+        parent = f" parent {state.object(state.parent[o])}" if o else ""
+        lines.append(f"object {state.object(o)} security {sec(state.label[o])} integrity {own(state.trust[o])}{parent}\n")
+    for word, table in (("permit", state.matrix), ("access", state.accesses)):
+        lines += [f"{word} {state.subject(s)} {MODES[x]} {state.object(o)}\n" for s, o, x in sorted(table)]
+    return "".join(lines), 0
+
+
+def below(state, label):
+    """All labels that a label dominates."""
+    level, categories = label
+    sets = [frozenset()]
+    for it in sorted(categories):
+        sets += [other | {it} for other in sets]
+    return [(height, it) for height in range(level + 1) for it in sets]
+
+
+def dead(state, s, mode, o):
+    """The reason of a permission that is dead, found by trying all labels; None where it isn't."""
+    free = copy.copy(state)
+    free.accesses, free.current = set(), dict(state.current)
+    tests = []
+    for label in below(state, state.maximum[s]):
+        free.current[s] = label
+        tests.append([(reason, holds) for reason, holds, _, _ in free.conditions(s, (f"get-{MODES[mode]}", mode, o))])
+    if any(all(holds for _, holds in test) for test in tests):
+        return None
+    return next(tests[0][k][0] for k in range(4) if not any(test[k][1] for test in tests))
+
+
+def lint(state):
+    cells = sorted(state.matrix)
+    reasons = {it: dead(state, it[0], it[2], it[1]) for it in cells}
+    alive = [it for it in cells if reasons[it] is None]
+    lines = [f"dead: {state.subject(s)} {MODES[x]} {state.object(o)}: {reasons[s, o, x]}\n" for s, o, x in cells if reasons[s, o, x]]
+    lines += [f"unused: {state.object(o)}\n" for o in sorted(state.label) if all(it[1] != o for it in alive)]
+    lines += [f"idle: {state.subject(s)}\n" for s in sorted(state.maximum) if all(it[0] != s for it in alive)]
+    for s in sorted(state.trusted):
+        seen = sorted({o for t, o, x in alive if t == s and x in (1, 3)})
+        changed = sorted({o for t, o, x in alive if t == s and x in (2, 3)})
+        pairs = [(a, b) for a in seen for b in changed if not dominates(state.label[b], state.label[a])]
+        if pairs:
+            count = "1 pair" if len(pairs) == 1 else f"{len(pairs)} pairs"
+            lines.append(f"downflow: {state.subject(s)}: {count}, as {state.object(pairs[0][0])} to {state.object(pairs[0][1])}\n")
+    return "".join(lines), 4 if lines else 0
+
+
+def covering(labels):
+    """The pairs of labels of which the second covers the first."""
+    above = lambda a, b: a != b and dominates(b, a)
+    return {(a, b) for a in labels for b in labels if above(a, b) and not any(above(a, c) and above(c, b) for c in labels)}
+
+
+def labels(state):
+    return {*state.maximum.values(), *state.current.values(), *state.label.values()}
+

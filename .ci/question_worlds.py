@@ -1,0 +1,93 @@
+"""Random starts that are accepted, and journals of them, made with the policy of policy.py."""
+import json
+
+from policy import KINDS, MODES, State, entry_text, join
+from question_texts import Entry
+
+# The integrity label that dominates all.
+HIGHEST = 1, frozenset([0])
+LEVELS, CATEGORIES = ["U", "C", "S", "T"], ["A", "B", "N"]
+
+
+def any_label(rnd, levels, categories):
+    return rnd.randrange(levels), frozenset(it for it in range(categories) if rnd.random() < 0.4)
+
+
+def subject_rows(rnd, security, integrity):
+    rows = []
+    for k in range(rnd.randint(1, 4)):
+        current = any_label(rnd, 4, 3)
+        maximum = join(current, any_label(rnd, 4, 3))
+        own = rnd.choice((any_label(rnd, 2, 1), HIGHEST))
+        rows.append({"name": f"s{k}", "maximum": security(maximum), "current": security(current), "integrity": integrity(own),
+                     "trusted": rnd.random() < 0.4})
+    return rows
+
+
+def object_rows(rnd, security, integrity):
+    """Objects of which each has a label above its parent's, and integrity below it; the root is lowest and most to be trusted."""
+    rows, labels = [], []
+    for k in range(rnd.randint(1, 6)):
+        parent = rnd.randrange(k) if k else None
+        low, high = labels[parent] if k else ((0, frozenset()), HIGHEST)
+        own = any_label(rnd, 2, 1)
+        labels.append((join(low, any_label(rnd, 3, 3)) if k else low, (min(high[0], own[0]), high[1] & own[1]) if k else high))
+        rows.append({"name": f"o{k}", "parent": f"o{parent}" if k else None, "security": security(labels[k][0]),
+                     "integrity": integrity(labels[k][1])})
+    return rows
+
+
+def start(rnd):
+    """The text of a start file that is accepted."""
+    data = {"security": {"levels": LEVELS, "categories": CATEGORIES}, "integrity": {"levels": ["lo", "hi"], "categories": ["I"]}}
+    text = lambda names: lambda label: names["levels"][label[0]] + (
+        ":" + ",".join(names["categories"][it] for it in sorted(label[1])) if label[1] else "")
+    data["subjects"] = subject_rows(rnd, text(data["security"]), text(data["integrity"]))
+    data["objects"] = object_rows(rnd, text(data["security"]), text(data["integrity"]))
+    data["matrix"] = [
+        {"subject": s["name"], "object": o["name"], "modes": [it for it in MODES if rnd.random() < 0.6]}
+        for s in data["subjects"] for o in data["objects"] if o["parent"] is None or rnd.random() < 0.8
+    ]
+    data["profile"] = rnd.choice((1, 2))
+    opening = State(json.dumps(data))
+    data["accesses"] = [
+        {"subject": opening.subject(s), "object": opening.object(o), "modes": [MODES[x]]}
+        for s, o, x in sorted(opening.matrix) if rnd.random() < 0.2 and opening.decide(s, (f"get-{MODES[x]}", x, o)) == "yes"
+    ]
+    return json.dumps(data, indent=1)
+
+
+def action(rnd, state):
+    """A request of a subject, most of whose operands are there."""
+    word = rnd.choice([*[f"get-{it}" for it in MODES] * 2, *list(KINDS)])
+    some = lambda known: rnd.choice(sorted(known)) if rnd.random() < 0.95 else rnd.randrange(9)
+    make = {"mode": lambda: rnd.randrange(4), "subject": lambda: some(state.maximum), "object": lambda: some(state.label),
+            "security": lambda: any_label(rnd, 4, 3), "integrity": lambda: any_label(rnd, 2, 1)}
+    operands = [make[kind]() for kind in KINDS[word]]
+    if word.startswith("get-"):
+        operands[0] = MODES.index(word[4:])
+    if word == "create" and operands[0] in state.label and rnd.random() < 0.7:
+        operands[1:] = join(operands[1], state.label[operands[0]]), (0, frozenset())
+    return some(state.maximum), (word, *operands)
+
+
+def some_action(rnd, state):
+    """A request; half of them are tried until one is granted, or some times."""
+    for _ in range(rnd.choice((1, 12))):
+        s, asked = action(rnd, state)
+        if state.decide(s, asked) == "yes" or state.decide(s, asked).startswith("created"):
+            break
+    return s, asked
+
+
+def journal(rnd, state, count):
+    """So many random requests, asked of a state: their entries."""
+    entries = []
+    for number in range(count):
+        s, asked = some_action(rnd, state)
+        entries.append(Entry(number, rnd.randrange(3), s, asked, state.apply(s, asked)))
+    return entries
+
+
+def lines_of(entries):
+    return "".join(f"{it.number} {it.session} {it.subject} {entry_text(it.action)} {it.reply}\n" for it in entries)
