@@ -28,14 +28,14 @@ const JOURNAL: Argument = Argument {
 const OF_JOURNAL: Argument = Argument {
     name: "journal",
     kind: Kind::Text("FILE"),
-    help: "The journal whose state is looked at; without it, the state that START opens with",
+    help: "A journal of START, whose state is looked at; without it, the state that START opens with",
 };
 
 /// The option `--at` of a question.
 const AT: Argument = Argument {
     name: "at",
     kind: Kind::EntryOfJournal,
-    help: "Looks at the state before entry N; without it, after the last",
+    help: "The state before entry N, counted from 0; without it, after the last entry",
 };
 
 /// The arguments of `check`.
@@ -51,7 +51,7 @@ const RUN_ARGUMENTS: [Argument; 4] = [
     Argument {
         name: "journal",
         kind: Kind::Text("FILE"),
-        help: "Writes the journal to FILE, which is made anew",
+        help: "Writes the journal to FILE; what FILE had is lost",
     },
     START,
     Argument {
@@ -92,7 +92,7 @@ const ASK_ARGUMENTS: [Argument; 4] = [
     Argument {
         name: "LINE",
         kind: Kind::Operand,
-        help: "A line as a script has it, in one word",
+        help: "A line as a script has it, quoted",
     },
 ];
 
@@ -104,7 +104,7 @@ const EXPLAIN_ARGUMENTS: [Argument; 4] = [
     Argument {
         name: "LINE",
         kind: Kind::UnlessAt,
-        help: "A line as a script has it, in one word; without it, entry N is explained",
+        help: "A line as a script has it, quoted; without it, entry N of --at is explained",
     },
 ];
 
@@ -116,7 +116,7 @@ const WHO_ARGUMENTS: [Argument; 5] = [
     Argument {
         name: "OBJ",
         kind: Kind::Operand,
-        help: "An object: its name, or # and its number",
+        help: "An object: its name, or # and its number (quoted)",
     },
     Argument {
         name: "MODE",
@@ -136,7 +136,7 @@ const STATE_ARGUMENTS: [Argument; 3] = [
     Argument {
         name: "at",
         kind: Kind::Entry,
-        help: "Looks at the state before entry N; without it, after the last",
+        help: "The state before entry N, counted from 0; without it, after the last entry",
     },
     START,
     JOURNAL,
@@ -146,13 +146,15 @@ const STATE_ARGUMENTS: [Argument; 3] = [
 pub(crate) const COMMANDS: [CommandRow; 10] = [
     CommandRow {
         name: "check",
-        about: "Reads a start file and prints how many subjects, objects, cells and accesses it has, and that it opens secure",
+        about: "Reads a start file and prints how many subjects, objects, cells and accesses it has, and that it \
+            opens secure",
         example: "Example: mls check examples/office.json",
         arguments: &CHECK_ARGUMENTS,
     },
     CommandRow {
         name: "run",
-        about: "Runs scripts over a start file and prints their answers, how many entries the journal has, and that the state is secure",
+        about: "Runs scripts over a start file and prints their answers, how many entries the journal has, and \
+            that the state is secure",
         example: "Example: mls run --journal office.journal examples/office.json examples/office.script",
         arguments: &RUN_ARGUMENTS,
     },
@@ -164,31 +166,43 @@ pub(crate) const COMMANDS: [CommandRow; 10] = [
     },
     CommandRow {
         name: "serve",
-        about: "Answers the lines on standard input over a start file, and goes on with the journal in FILE. The entries of lines are on the disk before their answers are written",
+        about: "Answers the lines on standard input over a start file, and goes on with the journal in FILE. The \
+            entries of lines are on the disk before their answers are written",
         example: "Example: mls serve --journal office.journal examples/office.json",
         arguments: &SERVE_ARGUMENTS,
     },
     CommandRow {
         name: "ask",
-        about: "Prints what a script would be answered to LINE, and changes nothing. The status is 0 where it is yes, created or held, else 4",
-        example: "Example: mls ask examples/standard.json 'bob get-read memo'",
+        about: "Prints what a script would be answered to LINE, and changes nothing. The status is 0 for yes, \
+            created and held, else 4",
+        example: "Example: mls ask examples/standard.json 'bob get-read memo'. LINE is quoted, and asks as a line \
+            of a script: SUBJECT get-execute, get-read, get-append or get-write OBJECT; release, check MODE \
+            OBJECT; give, rescind MODE SUBJECT OBJECT; create OBJECT LABEL LABEL; delete OBJECT; level \
+            LABEL; relabel OBJECT LABEL",
         arguments: &ASK_ARGUMENTS,
     },
     CommandRow {
         name: "explain",
-        about: "Prints what LINE, or entry N of a journal, is answered, each condition of its rule with whether it holds and the labels that it compares, and for a get that is denied the least current label with which it is granted",
-        example: "Example: mls explain examples/standard.json 'bob get-read memo'",
+        about: "Prints the answer to LINE, or without LINE to entry N of a journal; each condition of its rule, \
+            with the labels that it compares; and for a get that is denied the lowest current label with \
+            which it is granted. The status is 0 for yes, created and held, else 4",
+        example: "Examples: mls explain examples/standard.json 'bob get-read memo'; mls explain --journal \
+            office.journal --at 1 examples/office.json",
         arguments: &EXPLAIN_ARGUMENTS,
     },
     CommandRow {
         name: "who",
-        about: "Prints which subjects are permitted OBJ, in which modes, whether a get is granted, and if not, why, and at which current label it is",
+        about: "Prints which subjects are permitted OBJ and in which modes, and for each whether a get would be \
+            granted now, or else why not and with which current label it would be. The status is 0 where one \
+            would be, else 4",
         example: "Example: mls who examples/standard.json memo read",
         arguments: &WHO_ARGUMENTS,
     },
     CommandRow {
         name: "lint",
-        about: "Prints what is suspicious in a start file: permissions that are never granted, objects and subjects without any that is, and flows down by trusted subjects; or each place of its first fault",
+        about: "Prints what is suspicious in a start file: permissions with which a get is never granted, \
+            objects and subjects that have no other, and flows down by trusted subjects. The status is 4 \
+            where there is something, else 0",
         example: "Example: mls lint examples/standard.json",
         arguments: &LINT_ARGUMENTS,
     },
