@@ -121,6 +121,23 @@ STRANGE_EXPLAINED = [
     (7, "undefined\ninactive object: #4\n"),
 ]
 
+LISTED = [
+    ([], "0 session 0 sec get-write root: yes\n1 session 0 sec create root S:B hi: created 4\n2 session 1 sec relabel #4 9:7: undefined\n"
+     "3 session 1 #9 give read #9 #9: undefined\n4 session 1 ann give read #8 #9: undefined\n5 session 0 ann create #4 9 5: undefined\n"
+     "6 session 0 sec delete #4: yes\n7 session 0 sec get-read #4: undefined\n", 0),
+    (["--reply", "created"], "1 session 0 sec create root S:B hi: created 4\n", 0),
+    (["--object", "#4", "--to", "5"], "1 session 0 sec create root S:B hi: created 4\n2 session 1 sec relabel #4 9:7: undefined\n"
+     "5 session 0 ann create #4 9 5: undefined\n", 0),
+    (["--subject", "#9"], "3 session 1 #9 give read #9 #9: undefined\n", 0),
+    (["--subject", "ann", "--session", "0"], "5 session 0 ann create #4 9 5: undefined\n", 0),
+    (["--from", "6", "--to", "6"], "6 session 0 sec delete #4: yes\n", 0),
+    (["--from", "7", "--to", "6"], "", 4),
+    (["--reply", "no star"], "", 4),
+    (["--reply", "creat"], "", 4),
+    (["--summary"], "entries 8\nann undefined 2\nsec yes 2\nsec created 1\nsec undefined 2\n#9 undefined 1\n", 0),
+    (["--summary", "--reply", "no"], "entries 0\n", 4),
+]
+
 STATES = [
     ([], "profile 1\nnext 4\n" + SUBJECTS + OBJECTS + PERMISSIONS, 0),
     (["--at", "1"], "profile 1\nnext 4\n" + SUBJECTS + OBJECTS + PERMISSIONS + "access ann read plans\n", 0),
@@ -208,6 +225,14 @@ def words_that_no_question_has():
         same((words, status, output, bool(error)), (words, 2, b"", True))
 
 
+def listed_entries():
+    put("strange.journal", STRANGE)
+    for words, text, status in LISTED:
+        answered(["journal", *words, STANDARD, "strange.journal"], text, status)
+    refused(["journal", "--subject", "zoe", STANDARD, "strange.journal"], "mls: zoe: bad name\n")
+    refused(["journal", "--object", "file", STANDARD, "strange.journal"], "mls: file: bad name\n")
+
+
 def states_of_a_journal():
     put("memo.journal", MEMO)
     for words, text, status in STATES:
@@ -229,5 +254,5 @@ def suspicious_examples():
 
 CHECKS = [
     lines_that_are_asked, lines_that_are_explained, lines_that_ask_nothing, subjects_who_may, entries_that_are_explained, states_before_entries,
-    faults_in_their_order, words_that_no_question_has, states_of_a_journal, suspicious_examples, drawing_of_the_standard_start,
+    faults_in_their_order, words_that_no_question_has, listed_entries, states_of_a_journal, suspicious_examples, drawing_of_the_standard_start,
 ]

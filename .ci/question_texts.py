@@ -1,12 +1,50 @@
-"""What `mls state` and `mls lint` print, and the pairs that `mls lattice` draws, in Python from docs/FORMATS.md over the policy of policy.py."""
+"""What `mls journal`, `mls state` and `mls lint` print, and the pairs that `mls lattice` draws, in Python from docs/FORMATS.md over the policy of policy.py."""
 import copy
 
-from policy import MODES, dominates
+from policy import KINDS, MODES, REASONS, dominates, words_of
+
+REPLIES = ("yes", "created", "no", "undefined")
 
 
 class Entry:
     def __init__(self, number, session, subject, action, reply):
         self.number, self.session, self.subject, self.action, self.reply = number, session, subject, action, reply
+
+    def objects(self):
+        """The objects that an entry names or makes."""
+        named = [it for kind, it in zip(KINDS[self.action[0]], self.action[1:]) if kind == "object"]
+        return named + ([int(self.reply.split()[1])] if self.reply.startswith("created") else [])
+
+
+def listed(state, entries, subject=None, object=None, session=None, reply=None, first=0, last=None):
+    """The entries that meet all that is asked for."""
+    words = reply.split() if reply else []
+    return [
+        it for it in entries
+        if (subject is None or it.subject == subject) and (object is None or object in it.objects())
+        and (session is None or it.session == session) and it.reply.split()[: len(words)] == words
+        and it.number >= first and (last is None or it.number <= last)
+    ]
+
+
+def entry_line(state, entry):
+    return f"{entry.number} session {entry.session} {state.subject(entry.subject)} {words_of(state, entry.action)}: {entry.reply}\n"
+
+
+def journal(state, entries):
+    return "".join(entry_line(state, it) for it in entries), 0 if entries else 4
+
+
+def summary(state, entries):
+    lines = [f"entries {len(entries)}\n"]
+    for s in sorted({it.subject for it in entries}):
+        for word in REPLIES:
+            count = sum(it.subject == s and it.reply.split()[0] == word for it in entries)
+            lines += [f"{state.subject(s)} {word} {count}\n"] if count else []
+    for reason in REASONS:
+        count = sum(it.reply == f"no {reason}" for it in entries)
+        lines += [f"no {reason} {count}\n"] if count else []
+    return "".join(lines), 0 if entries else 4
 
 
 def state_lines(state):

@@ -1,6 +1,6 @@
 //! The command of a question, and how it ends.
 use crate::asking::{ask, explain, who};
-use crate::listing::state;
+use crate::listing::{journal, state};
 use crate::starts::{lattice, lint};
 use mls_commands::{command_refused, fault_file};
 use mls_files::{Progress, print, refused};
@@ -113,6 +113,7 @@ pub fn answer(rt: &HostRuntime, question: &Question<'_>) -> ExitCode {
         } => who(rt, source, object, *mode),
         Question::Lint { start } => lint(rt, start),
         Question::Lattice { start } => lattice(rt, start),
+        Question::Journal(words) => journal(rt, words),
         Question::State { source } => state(rt, source),
     }
 }

@@ -131,6 +131,47 @@ const LINT_ARGUMENTS: [Argument; 1] = [START];
 /// The arguments of `lattice`.
 const LATTICE_ARGUMENTS: [Argument; 1] = [START];
 
+/// The arguments of `journal`.
+const JOURNAL_ARGUMENTS: [Argument; 9] = [
+    Argument {
+        name: "subject",
+        kind: Kind::Text("SUBJ"),
+        help: "Entries whose caller it is",
+    },
+    Argument {
+        name: "object",
+        kind: Kind::Text("OBJ"),
+        help: "Entries that name it or made it",
+    },
+    Argument {
+        name: "session",
+        kind: Kind::Session,
+        help: "Entries of session K",
+    },
+    Argument {
+        name: "reply",
+        kind: Kind::Text("WORDS"),
+        help: "Entries whose reply begins with these words: no, 'no star', created",
+    },
+    Argument {
+        name: "from",
+        kind: Kind::Entry,
+        help: "Entries from number N on",
+    },
+    Argument {
+        name: "to",
+        kind: Kind::Entry,
+        help: "Entries to number N",
+    },
+    Argument {
+        name: "summary",
+        kind: Kind::Flag,
+        help: "Prints how many there are, by subject and reply, and by reason",
+    },
+    START,
+    JOURNAL,
+];
+
 /// The arguments of `state`.
 const STATE_ARGUMENTS: [Argument; 3] = [
     Argument {
@@ -143,7 +184,7 @@ const STATE_ARGUMENTS: [Argument; 3] = [
 ];
 
 /// The commands, in the order of help.
-pub(crate) const COMMANDS: [CommandRow; 10] = [
+pub(crate) const COMMANDS: [CommandRow; 11] = [
     CommandRow {
         name: "check",
         about: "Reads a start file and prints how many subjects, objects, cells and accesses it has, and that it \
@@ -211,6 +252,13 @@ pub(crate) const COMMANDS: [CommandRow; 10] = [
         about: "Prints the security labels of a start file and their order, for dot of graphviz",
         example: "Example: mls lattice examples/standard.json | dot -Tsvg > lattice.svg",
         arguments: &LATTICE_ARGUMENTS,
+    },
+    CommandRow {
+        name: "journal",
+        about: "Prints the entries of a journal by name, or those that meet all options. The status is 0 where \
+            there is one, else 4",
+        example: "Example: mls journal --reply no examples/office.json office.journal",
+        arguments: &JOURNAL_ARGUMENTS,
     },
     CommandRow {
         name: "state",

@@ -9,5 +9,5 @@ mod question_words;
 mod words;
 
 pub use job::{Job, RunWords, ServeWords};
-pub use question::{Question, Source};
+pub use question::{JournalWords, Question, Source};
 pub use words::read_words;

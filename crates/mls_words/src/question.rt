@@ -10,6 +10,26 @@ pub struct Source<'a> {
     pub at: Option<u64>,
 }
 
+/// Which entries of a journal are asked for, and in what form.
+#[derive(Clone, Copy, Debug)]
+pub struct JournalWords<'a> {
+    pub start: &'a str,
+    pub journal: &'a str,
+    /// The word of the subject that asked.
+    pub subject: Option<&'a str>,
+    /// The word of an object that is named or was made.
+    pub object: Option<&'a str>,
+    pub session: Option<u32>,
+    /// What the reply begins with, in whole words.
+    pub reply: Option<&'a str>,
+    /// The number of the first entry that is looked at.
+    pub from: Option<u64>,
+    /// The number of the last entry that is looked at.
+    pub to: Option<u64>,
+    /// Whether counts stand in place of the entries.
+    pub is_summary: bool,
+}
+
 /// A question about start files or journals.
 #[derive(Clone, Copy, Debug)]
 pub enum Question<'a> {
@@ -37,6 +57,8 @@ pub enum Question<'a> {
     Lattice {
         start: &'a str,
     },
+    /// Entries of a journal.
+    Journal(JournalWords<'a>),
     /// The state that a journal leads to.
     State {
         source: Source<'a>,

@@ -1,5 +1,5 @@
 //! What the words of a question ask for.
-use crate::question::{Question, Source};
+use crate::question::{JournalWords, Question, Source};
 use clap::ArgMatches;
 
 /// The text of an operand.
@@ -13,6 +13,21 @@ fn source<'a>(matches: &ArgMatches<'a>) -> Source<'a> {
         start: operand(matches, "START"),
         journal: matches.get_str("journal"),
         at: matches.get_one("at"),
+    }
+}
+
+/// What `journal` was asked for.
+fn journal_words<'a>(matches: &ArgMatches<'a>) -> JournalWords<'a> {
+    JournalWords {
+        start: operand(matches, "START"),
+        journal: operand(matches, "JOURNAL"),
+        subject: matches.get_str("subject"),
+        object: matches.get_str("object"),
+        session: matches.get_one("session"),
+        reply: matches.get_str("reply"),
+        from: matches.get_one("from"),
+        to: matches.get_one("to"),
+        is_summary: matches.get_flag("summary"),
     }
 }
 
@@ -54,6 +69,7 @@ pub(crate) fn question<'a>(command: &str, words: &ArgMatches<'a>) -> Option<Ques
         "lattice" => Some(Question::Lattice {
             start: operand(words, "START"),
         }),
+        "journal" => Some(Question::Journal(journal_words(words))),
         "state" => Some(state_words(words)),
         _ => None,
     }
