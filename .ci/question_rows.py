@@ -136,6 +136,14 @@ LISTED = [
     (["--reply", "creat"], "", 4),
     (["--summary"], "entries 8\nann undefined 2\nsec yes 2\nsec created 1\nsec undefined 2\n#9 undefined 1\n", 0),
     (["--summary", "--reply", "no"], "entries 0\n", 4),
+    (["--json", "--to", "1"],
+     '{"number":0,"session":0,"subject":2,"subject_name":"sec","action":"get-write","object":0,"object_name":"root","reply":"yes"}\n'
+     '{"number":1,"session":0,"subject":2,"subject_name":"sec","action":"create","parent":0,"parent_name":"root","security":"S:B",'
+     '"integrity":"hi","reply":"created","created":4}\n', 0),
+    (["--json", "--from", "2", "--to", "4"],
+     '{"number":2,"session":1,"subject":2,"subject_name":"sec","action":"relabel","object":4,"security":"9:7","reply":"undefined"}\n'
+     '{"number":3,"session":1,"subject":9,"action":"give","mode":"read","whose":9,"object":9,"reply":"undefined"}\n'
+     '{"number":4,"session":1,"subject":0,"subject_name":"ann","action":"give","mode":"read","whose":8,"object":9,"reply":"undefined"}\n', 0),
 ]
 
 STATES = [

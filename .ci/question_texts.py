@@ -1,6 +1,8 @@
 """What `mls journal`, `mls state` and `mls lint` print, and the pairs that `mls lattice` draws, in Python from docs/FORMATS.md over the policy of policy.py."""
 import copy
 
+import json
+
 from policy import KINDS, MODES, REASONS, dominates, words_of
 
 REPLIES = ("yes", "created", "no", "undefined")
@@ -33,6 +35,38 @@ def entry_line(state, entry):
 
 def journal(state, entries):
     return "".join(entry_line(state, it) for it in entries), 0 if entries else 4
+
+
+JSON_KEYS = {"mode": "mode", "subject": "whose", "object": "object", "security": "security", "integrity": "integrity"}
+
+
+def entry_json(state, entry):
+    """The JSON object of an entry, in a line."""
+    row = {"number": entry.number, "session": entry.session}
+
+    def put(key, number, names):
+        row[key] = number
+        if number < len(names):
+            row[f"{key}_name"] = names[number]
+
+    put("subject", entry.subject, state.subjects)
+    word = row["action"] = entry.action[0]
+    for kind, value in zip(KINDS[word], entry.action[1:]):
+        key = "parent" if word == "create" and kind == "object" else JSON_KEYS[kind]
+        if kind in ("subject", "object"):
+            put(key, value, getattr(state, f"{kind}s"))
+        elif kind == "mode":
+            row.update({} if word.startswith("get-") else {key: MODES[value]})
+        else:
+            row[key] = getattr(state, kind).text(value)
+    row["reply"], _, rest = entry.reply.partition(" ")
+    if rest:
+        row["created" if row["reply"] == "created" else "reason"] = int(rest) if rest.isdigit() else rest
+    return json.dumps(row, separators=(",", ":")) + "\n"
+
+
+def objects(state, entries):
+    return "".join(entry_json(state, it) for it in entries), 0 if entries else 4
 
 
 def summary(state, entries):

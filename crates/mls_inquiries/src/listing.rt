@@ -22,6 +22,8 @@ fn filter<'a>(words: &JournalWords<'a>) -> Filter<'a> {
 fn form(words: &JournalWords<'_>) -> Form {
     if words.is_summary {
         Form::Summary
+    } else if words.is_json {
+        Form::Json
     } else {
         Form::Lines
     }

@@ -25,6 +25,8 @@ pub(crate) enum Kind {
     EntryOfJournal,
     /// An option without a value.
     Flag,
+    /// An option without a value that can't stand beside the option `--summary`.
+    FlagWithoutSummary,
 }
 
 /// An argument of a command.
@@ -69,6 +71,7 @@ impl Argument {
             Kind::Entry => Ok(with_entry(arg, self.name)),
             Kind::EntryOfJournal => with_entry(arg, self.name).requires_arg("journal"),
             Kind::Flag => Ok(as_flag(arg, self.name)),
+            Kind::FlagWithoutSummary => as_flag(arg, self.name).conflicts_with("summary"),
         }
     }
 

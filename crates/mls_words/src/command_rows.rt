@@ -132,7 +132,7 @@ const LINT_ARGUMENTS: [Argument; 1] = [START];
 const LATTICE_ARGUMENTS: [Argument; 1] = [START];
 
 /// The arguments of `journal`.
-const JOURNAL_ARGUMENTS: [Argument; 9] = [
+const JOURNAL_ARGUMENTS: [Argument; 10] = [
     Argument {
         name: "subject",
         kind: Kind::Text("SUBJ"),
@@ -167,6 +167,11 @@ const JOURNAL_ARGUMENTS: [Argument; 9] = [
         name: "summary",
         kind: Kind::Flag,
         help: "Prints how many there are, by subject and reply, and by reason",
+    },
+    Argument {
+        name: "json",
+        kind: Kind::FlagWithoutSummary,
+        help: "Prints a JSON object for each, in a line",
     },
     START,
     JOURNAL,

@@ -28,6 +28,8 @@ pub struct JournalWords<'a> {
     pub to: Option<u64>,
     /// Whether counts stand in place of the entries.
     pub is_summary: bool,
+    /// Whether entries are written as JSON.
+    pub is_json: bool,
 }
 
 /// A question about start files or journals.

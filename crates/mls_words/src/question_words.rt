@@ -28,6 +28,7 @@ fn journal_words<'a>(matches: &ArgMatches<'a>) -> JournalWords<'a> {
         from: matches.get_one("from"),
         to: matches.get_one("to"),
         is_summary: matches.get_flag("summary"),
+        is_json: matches.get_flag("json"),
     }
 }
 
