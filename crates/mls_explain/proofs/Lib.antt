@@ -1,6 +1,5 @@
 mod Cells
 mod Covering
 mod Joins
-mod LevelTests
 mod Lists
 mod LowerLevels

@@ -13,10 +13,10 @@ ghost use Rattle.mls_explain.specs.Grounds.{relabel_ground, place_ground};
 use crate::condition::Condition;
 use crate::get::{security_of, trust_of_object};
 use crate::ground::{Ground, Place, Relabelling};
-use crate::levels::children_fit;
 use crate::term::Term;
 use mls_labels::{IntLabel, SecLabel};
 use mls_requests::Reason;
+use mls_rules::children_dominate;
 use mls_state::State;
 use mls_tables::{MAX_OBJECTS, Mode, ObjectId, SubjectId};
 use std::alloc::Allocator;
@@ -206,7 +206,7 @@ pub(crate) fn fits<A: Allocator>(state: &State<A>, o: ObjectId, l: SecLabel) -> 
       basis = place_ground state.now o l (map.get state.now.parent o);
     } }
 {
-    let below = children_fit(state, o, l);
+    let below = children_dominate(state, o, &l);
     match state.parent(o) {
         None => Condition::new(Reason::Compatibility, below, Ground::Children(o, l)),
         Some(parent) => {

@@ -10,7 +10,6 @@ mod ground;
 mod helping;
 mod join;
 mod least;
-mod levels;
 mod missing;
 mod permitted;
 mod prospect;

@@ -15,10 +15,10 @@ use crate::controls::{
 use crate::demand::Demand;
 use crate::get::{discretionary, integrity, maximum_of, simple, star};
 use crate::ground::Ground;
-use crate::levels::{object_meets, subject_meets};
 use crate::term::Term;
 use mls_labels::{IntLabel, SecLabel};
 use mls_requests::{Action, Reason, Request};
+use mls_rules::{SimpleAtLabel, StarAtLabel, StarAtLevel, object_meets, subject_meets};
 use mls_state::State;
 use mls_tables::{Mode, ObjectId, SubjectId};
 use std::alloc::{AllocError, Allocator};
@@ -46,7 +46,11 @@ fn holdings<A: Allocator>(state: &State<A>, s: SubjectId, l: SecLabel) -> Condit
       basis = holdings_ground state.now s l;
     } }
 {
-    let holds = subject_meets(state, s, &Demand::StarAtLevel(s, l));
+    let star = StarAtLevel {
+        subject: s,
+        level: l,
+    };
+    let holds = subject_meets(state, s, star);
     let basis = if state.is_trusted(s) {
         Ground::Trust(s)
     } else {
@@ -64,7 +68,11 @@ fn observers<A: Allocator>(state: &State<A>, o: ObjectId, l: SecLabel) -> Condit
       basis = Ground.Observers o l;
     } }
 {
-    let holds = object_meets(state, o, &Demand::SimpleAtLabel(o, l));
+    let simple = SimpleAtLabel {
+        object: o,
+        label: l,
+    };
+    let holds = object_meets(state, o, simple);
     Condition::new(Reason::Simple, holds, Ground::Observers(o, l))
 }
 
@@ -77,7 +85,11 @@ fn holders<A: Allocator>(state: &State<A>, o: ObjectId, l: SecLabel) -> Conditio
       basis = Ground.Holders o l;
     } }
 {
-    let holds = object_meets(state, o, &Demand::StarAtLabel(o, l));
+    let star = StarAtLabel {
+        object: o,
+        label: l,
+    };
+    let holds = object_meets(state, o, star);
     Condition::new(Reason::Star, holds, Ground::Holders(o, l))
 }
 

@@ -12,7 +12,7 @@ use std::alloc::Allocator;
 
 /// A property that is demanded of each access. It goes by value, so that a loop over accesses keeps its label in
 /// registers.
-pub trait Demand: Copy {
+pub trait LevelDemand: Copy {
     ghost use Rattle.std.specs.Prelude.{Bool};
     ghost use Rattle.mls_tables.specs.Triples.{Triple};
     ghost use Rattle.mls_state.specs.State.{State};
@@ -33,7 +33,7 @@ pub struct StarAtLevel {
     pub level: SecLabel,
 }
 
-impl Demand for StarAtLevel {
+impl LevelDemand for StarAtLevel {
     ghost asked = { λ d v t. star_holds (with_current v d.subject d.level) t };
 
     fn is_met<A: Allocator>(self, state: &State<A>, s: SubjectId, o: ObjectId, x: Mode) -> bool {
@@ -52,7 +52,7 @@ pub struct SimpleAtLabel {
     pub label: SecLabel,
 }
 
-impl Demand for SimpleAtLabel {
+impl LevelDemand for SimpleAtLabel {
     ghost asked = { λ d v t. simple_holds (with_object_label v d.object d.label) t };
 
     fn is_met<A: Allocator>(self, state: &State<A>, s: SubjectId, o: ObjectId, x: Mode) -> bool {
@@ -71,7 +71,7 @@ pub struct StarAtLabel {
     pub label: SecLabel,
 }
 
-impl Demand for StarAtLabel {
+impl LevelDemand for StarAtLabel {
     ghost asked = { λ d v t. star_holds (with_object_label v d.object d.label) t };
 
     fn is_met<A: Allocator>(self, state: &State<A>, s: SubjectId, o: ObjectId, x: Mode) -> bool {

@@ -8,7 +8,7 @@ ghost use Rattle.mls_rules.specs.Levels.{each_of_subject, each_of_object, each_c
 ghost use Rattle.mls_rules.specs.Rules.{verdict};
 
 use crate::authority::may_relabel;
-use crate::demand::{Demand, SimpleAtLabel, StarAtLabel, StarAtLevel};
+use crate::demand::{LevelDemand, SimpleAtLabel, StarAtLabel, StarAtLevel};
 use mls_labels::SecLabel;
 use mls_requests::{Reason, Reply};
 use mls_state::State;
@@ -16,7 +16,7 @@ use mls_tables::{Mode, ObjectId, SubjectId};
 use std::alloc::Allocator;
 
 /// Whether the accesses of a subject to an object meet the demand.
-fn cell_meets<A: Allocator, D: Demand>(
+fn cell_meets<A: Allocator, D: LevelDemand>(
     state: &State<A>,
     s: SubjectId,
     o: ObjectId,
@@ -33,8 +33,12 @@ fn cell_meets<A: Allocator, D: Demand>(
                 && (!modes.has(Mode::Write) || demand.is_met(state, s, o, Mode::Write))))
 }
 
-/// Whether all accesses of the subject meet the demand.
-fn subject_meets<A: Allocator, D: Demand>(state: &State<A>, s: SubjectId, demand: D) -> bool
+/// Whether all accesses of the subject meet the demand; one that isn't known has none.
+pub fn subject_meets<A: Allocator, D: LevelDemand>(
+    state: &State<A>,
+    s: SubjectId,
+    demand: D,
+) -> bool
     ensures { result ≡ each_of_subject state.now s (D.asked demand state.now) }
 {
     state.agrees();
@@ -49,8 +53,8 @@ fn subject_meets<A: Allocator, D: Demand>(state: &State<A>, s: SubjectId, demand
     true
 }
 
-/// Whether all accesses to the object meet the demand.
-fn object_meets<A: Allocator, D: Demand>(state: &State<A>, o: ObjectId, demand: D) -> bool
+/// Whether all accesses to the object meet the demand; to one that isn't active there are none.
+pub fn object_meets<A: Allocator, D: LevelDemand>(state: &State<A>, o: ObjectId, demand: D) -> bool
     ensures { result ≡ each_of_object state.now o (D.asked demand state.now) }
 {
     state.agrees();
@@ -66,7 +70,7 @@ fn object_meets<A: Allocator, D: Demand>(state: &State<A>, o: ObjectId, demand: 
 }
 
 /// Whether the labels of all children of the object dominate this label.
-fn children_dominate<A: Allocator>(state: &State<A>, o: ObjectId, l: &SecLabel) -> bool
+pub fn children_dominate<A: Allocator>(state: &State<A>, o: ObjectId, l: &SecLabel) -> bool
     requires { IsTrue (is_active state.now o) }
     ensures { result ≡ each_child state.now o (λ c. is_above (map.get state.now.object_label c) (Some l.now)) }
 {

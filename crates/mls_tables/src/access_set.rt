@@ -66,7 +66,7 @@ impl<A: Allocator> AccessSet<A> {
         ensures ok { OnOk result (self.new ≡ record self.old { columns = self.old.columns + 1 }) }
         ensures err { OnErr result (self.new ≡ self.old) }
     {
-        self.index.spare_column(self.matrix.columns())?;
+        self.index.ensure_column(self.matrix.columns())?;
         self.matrix.add_object()?;
         Ok(())
     }

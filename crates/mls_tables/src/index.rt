@@ -55,7 +55,7 @@ impl<A: Allocator> Index<A> {
     ///
     /// # Errors
     /// Where allocation fails. The lists are then unchanged.
-    pub(crate) fn spare_column(&mut self, next: u16) -> Result<(), AllocError>
+    pub(crate) fn ensure_column(&mut self, next: u16) -> Result<(), AllocError>
         requires { next ≤ length self.old.subjects.lists }
         ensures room { OnOk result (next < length self.new.subjects.lists) }
         ensures longer { length self.old.subjects.lists ≤ length self.new.subjects.lists }
@@ -63,7 +63,7 @@ impl<A: Allocator> Index<A> {
         ensures subjects { (o : ℕ)
             → slice_index_or self.new.subjects.lists o [] ≡ slice_index_or self.old.subjects.lists o [] }
     {
-        self.subjects.spare_list(usize::from(next))?;
+        self.subjects.ensure_list(usize::from(next))?;
         Ok(())
     }
 

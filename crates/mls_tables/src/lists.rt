@@ -63,7 +63,7 @@ impl<T: Copy, A: Allocator> Lists<T, A> {
     ///
     /// # Errors
     /// Where allocation fails. The lists are then unchanged.
-    pub fn spare_list(&mut self, next: usize) -> Result<(), AllocError>
+    pub fn ensure_list(&mut self, next: usize) -> Result<(), AllocError>
         requires { next ≤ length self.old.lists }
         ensures room { OnOk result (next < length self.new.lists) }
         ensures longer { length self.old.lists ≤ length self.new.lists }

@@ -40,8 +40,8 @@ fn enter(lists: &mut Lists<ObjectId>) -> Result<(), AllocError>
     ensures two { OnOk result (1 < length lists.new.lists) }
     ensures second { OnOk result (slice_index_or lists.new.lists 1 [] ≡ 2 ∷ 3 ∷ 5 ∷ []) }
 {
-    lists.spare_list(0)?;
-    lists.spare_list(1)?;
+    lists.ensure_list(0)?;
+    lists.ensure_list(1)?;
     lists.push(1, ObjectId(2))?;
     lists.push(0, ObjectId(7))?;
     lists.push(1, ObjectId(3))?;

@@ -131,7 +131,7 @@ impl<A: Allocator> Tree<A> {
         if next >= MAX_OBJECTS {
             return Err(TreeFault::Full);
         }
-        self.children.spare_list(next as usize)?;
+        self.children.ensure_list(next as usize)?;
         fields::enter(&mut self.parents, &mut self.children, parent, next)?;
         self.active.insert(next);
         Ok(ObjectId::new(next))
@@ -200,7 +200,7 @@ impl<A: Allocator + Clone> Tree<A> {
         let parents = fields::root_alone(alloc.clone()?)?;
         let active = fields::root_active(alloc.clone()?)?;
         let mut children = Lists::new(alloc)?;
-        children.spare_list(0)?;
+        children.ensure_list(0)?;
         Ok(Tree {
             profile,
             parents,

@@ -5,4 +5,4 @@ use Rattle.mls_rules.proofs.levels.object_meets.Given as goal
 
 -- the accesses that were looked at meet the demand
 abbrev pub invariant-loop-s : goal.invariant-loop-s
-invariant-loop-s g l = list_all (λ s. each_mode l.state.accesses s l.o (g.D.Demand.asked l.demand l.state)) (take l.s-index l.s-items) ≡ true
+invariant-loop-s g l = list_all (λ s. each_mode l.state.accesses s l.o (g.D.LevelDemand.asked l.demand l.state)) (take l.s-index l.s-items) ≡ true
