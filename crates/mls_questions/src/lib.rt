@@ -9,5 +9,7 @@ mod told;
 
 pub use asked::ask;
 pub use explained::explain;
-pub use mls_explanations::{Answer, Response, answer_in, answer_to, explain_in, read_question, who_in};
+pub use mls_explanations::{
+    Answer, Response, answer_in, answer_to, explain_in, read_question, who_in,
+};
 pub use told::who;
