@@ -9,12 +9,15 @@ import fcntl
 import os
 import shutil
 import subprocess
+import sys
 
 TOP = os.path.dirname(os.path.dirname(os.path.realpath(__file__)))
 ROOMS = f"{TOP}/out/rooms"
 SOURCES = ("src", "specs", "proofs")
 # What a build keeps in out/ of a library.
 BUILT = ("rlib", "incremental")
+# The command rt, which for the program alone would compute the sums of crates thousands of times.
+RT = (sys.executable, f"{TOP}/bin/remembering.py")
 
 
 def rows_of_crates():
@@ -109,7 +112,7 @@ def build_library(name, crates, jobs, toolchain):
         # (as rt does, so that no rt works on this crate meanwhile)
         fcntl.flock(folder, fcntl.LOCK_EX)
         move_built(name, TOP, room)
-        fault = toolchain.fault(["rt", "lib", "--jobs", str(jobs)], f"{room}/crates/{name}")
+        fault = toolchain.fault([*RT, "lib", "--jobs", str(jobs)], f"{room}/crates/{name}")
         move_built(name, room, TOP)
     finally:
         os.close(folder)
@@ -120,4 +123,4 @@ def build_library(name, crates, jobs, toolchain):
 def build_last(name, jobs, toolchain):
     """Builds a crate in place, and runs a program once, on nothing. Returns as build_library does."""
     verb = "run" if is_program(name) else "lib"
-    return toolchain.fault(["rt", verb, "--jobs", str(jobs)], f"{TOP}/crates/{name}")
+    return toolchain.fault([*RT, verb, "--jobs", str(jobs)], f"{TOP}/crates/{name}")

@@ -12,10 +12,10 @@ use Rattle.mls_replays.specs.Naming.{object_word}
 use Rattle.mls_replays.specs.Replays.{Replayed, ReplaysAt, RefusesAt}
 use Rattle.mls_replays.specs.declared.question_fault.QuestionFault.{QuestionFault}
 use Rattle.mls_replays.specs.declared.question_fault.QuestionFault.TheVariants.{Files, NoEntry, Line, Object}
-use Rattle.mls_questions.specs.Explained.{Explains}
-use Rattle.mls_questions.specs.Question.{question_of}
-use Rattle.mls_questions.specs.Responses.{response_to, response_line, is_positive}
-use Rattle.mls_questions.specs.Who.{TellsWho}
+use Rattle.mls_explanations.specs.Explained.{Explains}
+use Rattle.mls_explanations.specs.Question.{question_of}
+use Rattle.mls_explanations.specs.Responses.{response_to, response_line, is_positive}
+use Rattle.mls_explanations.specs.Who.{TellsWho}
 
 -- A text and whether it is positive are the answer to what is asked, in the state that is seen. (own)
 pub record AnswersAsk (r : Replayed) (asked : Ask) (told : List ℕ) (positive : Bool) : Type 0 where

@@ -1,8 +1,1 @@
-pub mod Bases
-pub mod Explained
 pub mod Files
-pub mod Obstacles
-pub mod Question
-pub mod Responses
-pub mod Terms
-pub mod Who

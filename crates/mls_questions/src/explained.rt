@@ -6,9 +6,8 @@ ghost use Rattle.mls_questions.specs.Files.{RefusesEntry, RefusesEither, SeesTha
 ghost use Rattle.mls_outcomes.specs.declared.command.CommandFault.TheVariants.{Memory};
 ghost use Rattle.mls_replays.specs.declared.question_fault.QuestionFault.TheVariants.{Files};
 
-use crate::explaining::explain_in;
-use crate::question::read_question;
 use crate::sources::journal_bytes;
+use mls_explanations::{explain_in, read_question};
 use mls_replays::{QuestionFault, Replay, replay_at};
 use mls_requests::Ask;
 use mls_wording::Answer;

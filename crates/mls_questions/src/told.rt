@@ -2,8 +2,8 @@
 ghost use Rattle.std.specs.Prelude.{◌≡◌, string_bytes, option_map, IfErr, IfOk};
 ghost use Rattle.mls_questions.specs.Files.{modes_asked, TellsWord, RefusesWord, SeesThat, RefusesThat};
 
-use crate::permitted::who_in;
 use crate::sources::journal_bytes;
+use mls_explanations::who_in;
 use mls_replays::{QuestionFault, Replay, named_object, replay_at};
 use mls_tables::{Mode, Modes};
 use mls_wording::Answer;
