@@ -33,7 +33,8 @@ RefusesSnapshot bytes journal at (Question cause) = RefusesAt bytes journal at c
 RefusesSnapshot bytes journal at TooLong = (r : Replayed) × ReplaysAt bytes journal at r
 RefusesSnapshot bytes journal at Differs = (r : Replayed) × ReplaysAt bytes journal at r
 
--- A fault that writing and reading back may have: memory, or that the text is too long or isn't one of that state. (own)
+-- A fault that writing and reading back may have: memory, or that the text is too long or isn't one of that state.
+-- (own)
 abbrev pub IsOwnFault : SnapshotFault → Type 0
 IsOwnFault (Question cause) = cause ≡ Files Memory
 IsOwnFault TooLong = Unit {0}

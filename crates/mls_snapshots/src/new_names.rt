@@ -1,4 +1,4 @@
-//! The names that objects get in a start file. No clause says which: what is written with them is read back and compared.
+//! The names that objects get in a start file. No clause says which: what is written is read back and compared.
 use mls_lines::Names;
 use mls_tables::{MAX_OBJECTS, ObjectId};
 use mls_wording::push_number;

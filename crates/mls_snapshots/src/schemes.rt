@@ -50,7 +50,8 @@ fn is_written_alike(alloc: Global, a: &Scheme, b: &Scheme, label: Label) -> Resu
 
 /// Whether two schemes write the same of each level alone.
 fn are_levels_alike(alloc: Global, a: &Scheme, b: &Scheme) -> Result<bool, AllocError>
-    ensures { IfOk result (λ alike. IsTrue alike → (n : ℕ) → n < MAX_LEVELS → IsWrittenAlike a.now b.now (level_alone n)) }
+    ensures { IfOk result
+        (λ alike. IsTrue alike → (n : ℕ) → n < MAX_LEVELS → IsWrittenAlike a.now b.now (level_alone n)) }
 {
     for n in 0..MAX_LEVELS {
         if !is_written_alike(alloc, a, b, level_label(n as u8))? {
@@ -62,7 +63,8 @@ fn are_levels_alike(alloc: Global, a: &Scheme, b: &Scheme) -> Result<bool, Alloc
 
 /// Whether two schemes write the same of each category with the lowest level.
 fn are_categories_alike(alloc: Global, a: &Scheme, b: &Scheme) -> Result<bool, AllocError>
-    ensures { IfOk result (λ alike. IsTrue alike → (n : ℕ) → n < MAX_CATEGORIES → IsWrittenAlike a.now b.now (lowest_with n)) }
+    ensures { IfOk result
+        (λ alike. IsTrue alike → (n : ℕ) → n < MAX_CATEGORIES → IsWrittenAlike a.now b.now (lowest_with n)) }
 {
     for n in 0..MAX_CATEGORIES {
         if !is_written_alike(alloc, a, b, category_label(n as u8))? {

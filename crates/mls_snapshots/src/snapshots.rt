@@ -55,10 +55,11 @@ fn snapshot_of(alloc: Global, replay: &Replay) -> Result<String, SnapshotFault>
 }
 
 /// The state that a journal leads to from a start file, or the one before the entry of a number, as a start file that
-/// opens with it: of at most [`START_LIMIT`](mls_checks::START_LIMIT), with the same subjects and schemes. Its objects are numbered anew,
-/// parents before their children. They have the names that the start has for their numbers; one without has `o` and its
-/// number, or where that is taken the next number whose name is free. What is written is read back and compared with
-/// the state before it is given.
+/// opens with it: of at most [`START_LIMIT`](mls_checks::START_LIMIT) bytes, with the same subjects and schemes. Its
+/// objects are numbered anew: parents before their children, and of those whose parents are named the one of the least
+/// number next. They have the names that the start has for their numbers; one without has `o` and its number, or where
+/// that is taken the next number whose name is free. What is written is read back and compared with the state before it
+/// is given.
 ///
 /// # Errors
 /// - `Question` as a question about these files is refused, and with `Memory` where an allocation failed.
