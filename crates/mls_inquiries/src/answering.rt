@@ -1,6 +1,7 @@
 //! The command of a question, and how it ends.
 use crate::asking::{ask, explain, who};
 use crate::listing::{journal, state};
+use crate::snapshots::start_of_state;
 use crate::starts::{lattice, lint};
 use mls_commands::{command_refused, fault_file};
 use mls_files::{Progress, print, refused};
@@ -114,6 +115,13 @@ pub fn answer(rt: &HostRuntime, question: &Question<'_>) -> ExitCode {
         Question::Lint { start } => lint(rt, start),
         Question::Lattice { start } => lattice(rt, start),
         Question::Journal(words) => journal(rt, words),
-        Question::State { source } => state(rt, source),
+        Question::State {
+            source,
+            is_start: false,
+        } => state(rt, source),
+        Question::State {
+            source,
+            is_start: true,
+        } => start_of_state(rt, source),
     }
 }

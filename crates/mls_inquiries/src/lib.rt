@@ -4,6 +4,7 @@
 mod answering;
 mod asking;
 mod listing;
+mod snapshots;
 mod sources;
 mod starts;
 

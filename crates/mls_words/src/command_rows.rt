@@ -178,11 +178,16 @@ const JOURNAL_ARGUMENTS: [Argument; 10] = [
 ];
 
 /// The arguments of `state`.
-const STATE_ARGUMENTS: [Argument; 3] = [
+const STATE_ARGUMENTS: [Argument; 4] = [
     Argument {
         name: "at",
         kind: Kind::Entry,
         help: "The state before entry N, counted from 0; without it, after the last entry",
+    },
+    Argument {
+        name: "start",
+        kind: Kind::Flag,
+        help: "Prints a start file that opens with the state, its objects numbered anew: for a new journal",
     },
     START,
     JOURNAL,
@@ -267,8 +272,10 @@ pub(crate) const COMMANDS: [CommandRow; 11] = [
     },
     CommandRow {
         name: "state",
-        about: "Prints the state that a journal leads to: labels, permissions and accesses by name",
-        example: "Example: mls state examples/office.json office.journal",
+        about: "Prints the state that a journal leads to: labels, permissions and accesses by name; or a start file \
+            that opens with it",
+        example: "Examples: mls state examples/office.json office.journal; mls state --start \
+            examples/office.json office.journal > next.json",
         arguments: &STATE_ARGUMENTS,
     },
 ];

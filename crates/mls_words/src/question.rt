@@ -64,5 +64,7 @@ pub enum Question<'a> {
     /// The state that a journal leads to.
     State {
         source: Source<'a>,
+        /// Whether it is written as a start file.
+        is_start: bool,
     },
 }

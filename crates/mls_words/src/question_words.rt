@@ -40,6 +40,7 @@ fn state_words<'a>(matches: &ArgMatches<'a>) -> Question<'a> {
             journal: matches.get_str("JOURNAL"),
             at: matches.get_one("at"),
         },
+        is_start: matches.get_flag("start"),
     }
 }
 

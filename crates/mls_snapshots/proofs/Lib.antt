@@ -1,0 +1,5 @@
+pub mod Gets
+pub mod Likes
+pub mod Modes
+pub mod SchemeTexts
+pub mod SubjectTables

@@ -1,0 +1,60 @@
+-- Tables of subjects are the same where they are the same at each subject.
+use Rattle.std.proofs.Common.{◌≡◌, ℕ, ◌<◌, ◌≤◌, Bool, true, false, Option, Some, None, refl, sym, ap, ◌∙◌, arith}
+use Rattle.std.proofs.lemmas.Bool.Decides.{nat_tests}
+use Rattle.std.specs.Prelude.{nat_lt, is_some, IsTrue}
+use Rattle.std.specs.Cmp.{nat_cmp_total}
+use Rattle.std.specs.Ordering.{nat_cmp}
+use Rattle.std.specs.FinMap as map
+use Rattle.std.specs.FinMap.{FinMap, same_map}
+use Rattle.std.specs.FinSet as set
+use Rattle.std.specs.FinSet.{FinSet, same_set, nat_cmp-IsAntisymmetric}
+use Rattle.mls_labels.specs.Label.{Label}
+use Rattle.mls_state.specs.State.{State, is_subject}
+use Rattle.mls_state.specs.Properties.{HasWholeTables}
+use Rattle.mls_snapshots.specs.Renumbering.{IsSameSubject, HasSameSubjects}
+
+-- below a number or not
+by_count : (count s : ℕ) (P : Type 0) → (s < count → P) → (nat_lt s count ≡ false → P) → P
+by_count count s P below above = from (nat_lt s count) refl where
+  from : (b : Bool) → nat_lt s count ≡ b → P
+  from true is = below (grind (arith, nat_tests, is))
+  from false is = above is
+
+-- a map has nothing where it has no key
+unknown_get : (m : FinMap nat_cmp Label) (s : ℕ) → map.contains_key m s ≡ false → map.get m s ≡ None
+unknown_get m s unknown = from (map.get m s) refl where
+  from : (there : Option Label) → map.get m s ≡ there → map.get m s ≡ None
+  from None is = is
+  from (Some l) is = absurd (let no : true ≡ false = sym (ap is_some is) ∙ unknown in cc)
+
+same_labels : (m n : FinMap nat_cmp Label) (count : ℕ) → ((s : ℕ) → map.contains_key m s ≡ nat_lt s count) → ((s : ℕ) → map.contains_key n s ≡ nat_lt s count)
+    → ((s : ℕ) → s < count → map.get n s ≡ map.get m s) → n ≡ m
+same_labels m n count first second same =
+    same_map nat_cmp_total nat_cmp-IsAntisymmetric n m
+    (λ s. by_count count s (map.get n s ≡ map.get m s) (same s)
+    (λ above. unknown_get n s (second s ∙ above) ∙ sym (unknown_get m s (first s ∙ above))))
+
+untrusted : (t : FinSet nat_cmp) (s : ℕ) (known : Bool) → known ≡ false → (IsTrue (set.contains t s) → IsTrue known) → set.contains t s ≡ false
+untrusted t s known unknown within = from (set.contains t s) refl where
+  from : (b : Bool) → set.contains t s ≡ b → set.contains t s ≡ false
+  from false is = is
+  from true is = absurd (let no : true ≡ false = sym (within is) ∙ unknown in cc)
+
+same_trusted : (v w : State) (count : ℕ) → ((s : ℕ) → is_subject v s ≡ nat_lt s count) → ((s : ℕ) → is_subject w s ≡ nat_lt s count)
+    → HasWholeTables v → HasWholeTables w → ((s : ℕ) → s < count → set.contains w.trusted s ≡ set.contains v.trusted s) → w.trusted ≡ v.trusted
+same_trusted v w count first second whole others same =
+    same_set nat_cmp_total nat_cmp-IsAntisymmetric w.trusted v.trusted
+    (λ s. by_count count s (set.contains w.trusted s ≡ set.contains v.trusted s) (same s)
+    (λ above. untrusted w.trusted s (is_subject w s) (second s ∙ above) (others.trusted s)
+    ∙ sym (untrusted v.trusted s (is_subject v s) (first s ∙ above) (whole.trusted s))))
+
+-- states with as many subjects, each of which is the same, have the same subjects
+pub subjects_same : (v w : State) (count : ℕ) → ((s : ℕ) → is_subject v s ≡ nat_lt s count) → ((s : ℕ) → is_subject w s ≡ nat_lt s count)
+    → HasWholeTables v → HasWholeTables w → ((s : ℕ) → s < count → IsSameSubject v w s) → HasSameSubjects v w
+subjects_same v w count first second whole others same = record {
+  maximum = same_labels v.maximum w.maximum count first second (λ s below. (same s below).maximum);
+  current = same_labels v.current w.current count (λ s. whole.current s ∙ first s) (λ s. others.current s ∙ second s) (λ s below. (same s below).current);
+  integrity = same_labels v.subject_integrity w.subject_integrity count (λ s. whole.subject_integrity s ∙ first s) (λ s. others.subject_integrity s ∙ second s)
+      (λ s below. (same s below).integrity);
+  trusted = same_trusted v w count first second whole others (λ s below. (same s below).trusted);
+}

@@ -1,0 +1,6 @@
+pub mod Orders
+pub mod Renaming
+pub mod Renumbering
+pub mod Schemes
+pub mod Snapshots
+pub mod Tables

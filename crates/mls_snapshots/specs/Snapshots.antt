@@ -1,0 +1,41 @@
+-- When a text is a start file that opens with a state, up to numbers of objects.
+use Rattle.std.specs.Prelude.{◌≡◌, ℕ, List, Option}
+use Rattle.mls_outcomes.specs.declared.command.CommandFault.TheVariants.{Memory}
+use Rattle.mls_replays.specs.Replays.{Replayed, ReplaysAt, RefusesAt}
+use Rattle.mls_replays.specs.declared.question_fault.QuestionFault.TheVariants.{Files}
+use Rattle.mls_starts.specs.Says.{SaysStart}
+use Rattle.mls_starts.specs.Ties.{Loaded}
+use Rattle.mls_snapshots.specs.Orders.{IsOrder}
+use Rattle.mls_snapshots.specs.Renaming.{AreRenamed}
+use Rattle.mls_snapshots.specs.Renumbering.{IsSameBy}
+use Rattle.mls_snapshots.specs.declared.snapshot_fault.SnapshotFault.{SnapshotFault}
+use Rattle.mls_snapshots.specs.declared.snapshot_fault.SnapshotFault.TheVariants.{Question, TooLong, Differs}
+
+-- A text says a start and names that are a replay's state and names, but that the objects are numbered by their places
+-- in an order of the active ones. (own)
+pub record IsSnapshotOf (r : Replayed) (text : List ℕ) : Type 0 where
+  pub order : List ℕ
+  pub opened : Loaded
+  pub says : SaysStart text opened
+  pub ordered : IsOrder r.state order
+  pub state : IsSameBy r.state opened.start order
+  pub names : AreRenamed r.names opened.names order
+
+-- A start file and a journal are replayed, and the state before the entry of a number, or the last, is the one that the
+-- text says a start of. (own)
+abbrev pub SnapshotsAt : List ℕ → List ℕ → Option ℕ → List ℕ → Type 0
+SnapshotsAt bytes journal at text = (r : Replayed) × ReplaysAt bytes journal at r × IsSnapshotOf r text
+
+-- Why there is no text: as of a question about these files, or else they are replayed, and the text is too long or
+-- isn't one of that state. (own)
+abbrev pub RefusesSnapshot : List ℕ → List ℕ → Option ℕ → SnapshotFault → Type 0
+RefusesSnapshot bytes journal at (Question cause) = RefusesAt bytes journal at cause
+RefusesSnapshot bytes journal at TooLong = (r : Replayed) × ReplaysAt bytes journal at r
+RefusesSnapshot bytes journal at Differs = (r : Replayed) × ReplaysAt bytes journal at r
+
+-- A fault that writing and reading back may have: memory, or that the text is too long or isn't one of that state.
+-- (own)
+abbrev pub IsOwnFault : SnapshotFault → Type 0
+IsOwnFault (Question cause) = cause ≡ Files Memory
+IsOwnFault TooLong = Unit {0}
+IsOwnFault Differs = Unit {0}

@@ -1,0 +1,44 @@
+//! Why there is no start file of a state.
+
+use mls_outcomes::CommandFault;
+use mls_replays::QuestionFault;
+use std::alloc::AllocError;
+use thiserror::Error;
+
+/// Why there is no start file of the state that a journal leads to.
+#[derive(Clone, Copy, Debug, PartialEq, Eq, Error)]
+pub enum SnapshotFault {
+    /// The files are refused, there is no such state, or an allocation failed.
+    #[error("{0}")]
+    Question(QuestionFault),
+    /// The start file would be longer than [`START_LIMIT`](mls_checks::START_LIMIT).
+    #[error("the start file is too long")]
+    TooLong,
+    /// What was written doesn't open with the state. No state is known for which this happens.
+    #[error("the start file differs from the state")]
+    Differs,
+}
+
+impl From<QuestionFault> for SnapshotFault {
+    ghost use Rattle.std.specs.Prelude.{◌≡◌};
+    ghost use Rattle.mls_snapshots.specs.declared.snapshot_fault.SnapshotFault.TheVariants.{Question};
+
+    ghost from_gives = { λ cause fault. fault ≡ Question cause };
+
+    fn from(cause: QuestionFault) -> SnapshotFault {
+        SnapshotFault::Question(cause)
+    }
+}
+
+impl From<AllocError> for SnapshotFault {
+    ghost use Rattle.std.specs.Prelude.{◌≡◌};
+    ghost use Rattle.mls_outcomes.specs.declared.command.CommandFault.TheVariants.{Memory};
+    ghost use Rattle.mls_replays.specs.declared.question_fault.QuestionFault.TheVariants.{Files};
+    ghost use Rattle.mls_snapshots.specs.declared.snapshot_fault.SnapshotFault.TheVariants.{Question};
+
+    ghost from_gives = { λ _ fault. fault ≡ Question (Files Memory) };
+
+    fn from(_: AllocError) -> SnapshotFault {
+        SnapshotFault::Question(QuestionFault::Files(CommandFault::Memory))
+    }
+}

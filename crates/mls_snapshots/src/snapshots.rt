@@ -1,0 +1,82 @@
+//! The state that a journal leads to, as a start file.
+ghost use Rattle.std.specs.Prelude.{◌≡◌, ◌≤◌, IsTrue, IfOk, IfErr, OnOk, string_bytes, string_len};
+ghost use Rattle.mls_snapshots.specs.Snapshots.{IsSnapshotOf, SnapshotsAt, RefusesSnapshot, IsOwnFault};
+ghost use Rattle.mls_checks.specs.declared.checking.TheConstants.{START_LIMIT};
+
+use crate::order::object_order;
+use crate::same::is_like;
+use crate::snapshot_fault::SnapshotFault;
+use crate::start_text::start_text;
+use mls_checks::START_LIMIT;
+use mls_replays::{Replay, replay_at};
+use mls_starts::{LoadFault, read_start};
+use mls_tables::ObjectId;
+use std::alloc::{AllocError, Global};
+
+/// Whether a text opens with a replay's state, but that its objects are numbered by an order.
+fn opens_alike(
+    alloc: Global,
+    replay: &Replay,
+    order: &[ObjectId],
+    text: &str,
+) -> Result<bool, AllocError>
+    ensures { IfOk result (λ alike. IsTrue alike → IsSnapshotOf replay.now text.now) }
+{
+    match read_start(alloc, text.as_bytes()) {
+        Ok(loaded) => {
+            let alike = is_like(alloc, replay.names(), replay.state(), order, &loaded);
+            drop(loaded);
+            alike
+        }
+        Err(LoadFault::Memory) => Err(AllocError),
+        Err(_) => Ok(false),
+    }
+}
+
+/// The start file of a replay's state.
+///
+/// # Errors
+/// `TooLong` where it has too many bytes, `Differs` where it doesn't open with that state, `Question` where an
+/// allocation failed.
+fn snapshot_of(alloc: Global, replay: &Replay) -> Result<String, SnapshotFault>
+    ensures ok { IfOk result (λ text. IsSnapshotOf replay.now (string_bytes text)) }
+    ensures few { IfOk result (λ text. string_len text ≤ START_LIMIT) }
+    ensures fault { IfErr result (λ fault. IsOwnFault fault) }
+{
+    let order = object_order(alloc, replay.state())?;
+    let text = start_text(alloc, replay.names(), replay.state(), &order)?;
+    if text.len() > START_LIMIT {
+        return Err(SnapshotFault::TooLong);
+    }
+    if !opens_alike(alloc, replay, &order, text.as_str())? {
+        return Err(SnapshotFault::Differs);
+    }
+    Ok(text)
+}
+
+/// The state that a journal leads to from a start file, or the one before the entry of a number, as a start file that
+/// opens with it: of at most [`START_LIMIT`](mls_checks::START_LIMIT) bytes, with the same subjects and schemes. Its
+/// objects are numbered anew: parents before their children, and of those whose parents are named the one of the least
+/// number next. They have the names that the start has for their numbers; one without has `o` and its number, or where
+/// that is taken the next number whose name is free. What is written is read back and compared with the state before it
+/// is given.
+///
+/// # Errors
+/// - `Question` as a question about these files is refused, and with `Memory` where an allocation failed.
+/// - `TooLong` where the start file would be longer.
+/// - `Differs` where what was written doesn't open with the state. No state is known for which this happens.
+pub fn snapshot(
+    alloc: Global,
+    start: &[u8],
+    journal: &[u8],
+    at: Option<u64>,
+) -> Result<String, SnapshotFault>
+    ensures ok { IfOk result (λ text. SnapshotsAt start.now journal.now at (string_bytes text)) }
+    ensures few { IfOk result (λ text. string_len text ≤ START_LIMIT) }
+    ensures fault { IfErr result (λ fault. RefusesSnapshot start.now journal.now at fault) }
+{
+    let replay = replay_at(alloc, start, journal, at)?;
+    let text = snapshot_of(alloc, &replay);
+    drop(replay);
+    text
+}
