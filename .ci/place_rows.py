@@ -79,10 +79,12 @@ TWICE_WRONG = ["/subjects/0/trusted: not true or false"]
 
 OTHER_JSON = ["/security: missing", *times(6, "/: not an object"), "/security/levels: missing", "/: not an object"]
 
-# Where JSON breaks off; None where no table says at which byte of a number, a string or a nesting it does.
-NO_JSON = ["1, column 0", "1, column 1", "1, column 1", "1, column 1", "1, column 3", "1, column 4", None, None, "UTF-8", "1, column 1", None]
+# Where JSON breaks off: at the end, where a part begins that is no whole one, behind a number out of range, behind the bracket that nests too deep.
+NO_JSON = ["line 1, column 0", "line 1, column 1", "line 1, column 1", "line 1, column 1", "line 1, column 3", "line 1, column 4", "line 1, column 11",
+           "line 1, column 1", "not UTF-8", "line 1, column 1", "line 1, column 129"]
 MORE_NO_JSON = [
-    (b'{"security": [1,]', "/: line 1, column 17"), (b'{\n "a": 1\n "b": 2\n}', "/: line 3, column 2"), (b'{"a": tru}', None),
+    (b'{"security": [1,]', "/: line 1, column 17"), (b'{\n "a": 1\n "b": 2\n}', "/: line 3, column 2"), (b'{"a": tru}', "/: line 1, column 7"),
+    (b'{"a":1.}', "/: line 1, column 6"), (b'["a\\x"]', "/: line 1, column 2"),
     (b"[\xff]", "/: not UTF-8"), (b'{}\n\n  "\xc3"', "/: not UTF-8"), (b"{}\n\n  x", "/: line 3, column 3"),
 ]
 
@@ -124,7 +126,7 @@ ACCESSES = [
 ]
 STANDARD_ACCESSES = ["star", "discretionary", "integrity"]
 
-PROFILES = [*times(18, "/profile: not 1 or 2"), "/: line 1, column 13", "/: line 1, column 12"]
+PROFILES = [*times(18, "/profile: not 1 or 2"), "/: line 1, column 12", "/: line 1, column 12"]
 
 TWO_FAULTS = [
     "/matrix/0/modes: missing", "/subjects/0/trusted: not true or false", "/integrity/levels: no level", "/security/levels/1: repeated name",
@@ -205,25 +207,26 @@ def values_of_other_types():
 
 
 def texts_that_are_no_json():
-    told = [place and (f"/: not {place}" if place == "UTF-8" else f"/: line {place}") for place in NO_JSON]
-    for text, place in [*zip(rows.NO_JSON, told, strict=True), *MORE_NO_JSON]:
-        found = places(text)
-        if place:
-            same((text, found), (text, [place]))
-        else:
-            same(len(found), 1)
-            line, column = re.fullmatch(r"/: line (\d+), column (\d+)", found[0]).groups()
-            assert line == "1" and 2 < int(column) <= len(text), f"{text}: {found}"
+    for text, place in [*zip(rows.NO_JSON, (f"/: {it}" for it in NO_JSON), strict=True), *MORE_NO_JSON]:
+        same((text, places(text)), (text, [place]))
+
+
+def cut_off(head):
+    """Where a file breaks off that is cut here: where the string or the word begins that isn't whole, or at its end."""
+    word = re.search(rb"[a-z]+\Z", head)
+    if head.count(b'"') % 2:
+        place = head.rfind(b'"') + 1
+    elif word and word[0] not in (b"true", b"false", b"null"):
+        place = word.start() + 1
+    else:
+        place = len(head)
+    return f"/: line {head[:place].count(10) + 1}, column {place - head.rfind(10, 0, place) - 1}"
 
 
 def files_that_are_cut():
-    """A file that is cut breaks off where it ends, or in the word that is cut."""
     text = example("standard.json").rstrip()
     for count in range(0, len(text), 7):
-        head = text[:count]
-        line, column = map(int, re.fullmatch(r"/: line (\d+), column (\d+)", places(head)[0]).groups())
-        same(line, head.count(b"\n") + 1)
-        assert len(head) - head.rfind(b"\n") - 1 - len("false") < column <= max(len(head) - head.rfind(b"\n") - 1, 0), f"{count}: {column}"
+        same((count, places(text[:count])), (count, [cut_off(text[:count])]))
 
 
 def numbers_and_surrogates():
