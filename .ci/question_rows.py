@@ -251,8 +251,7 @@ def states_of_a_journal():
 def drawing_of_the_standard_start():
     answered(["lattice", STANDARD], LATTICE, 0)
     put("empty.json", b"")
-    for command in ("lattice", "lint"):
-        refused([command, "empty.json"], "mls: empty.json: start 1 Json\n")
+    refused(["lattice", "empty.json"], "mls: empty.json: start 1 Json\n")
 
 
 def suspicious_examples():

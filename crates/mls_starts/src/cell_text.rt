@@ -13,7 +13,7 @@ use std::alloc::Global;
 /// A cell of the matrix or of the accesses: the names of a subject and of an object, and a list of texts that are to be
 /// words of modes.
 #[derive(Clone, Copy)]
-pub(crate) struct CellText<'a> {
+pub struct CellText<'a> {
     pub subject: &'a str,
     pub object: &'a str,
     pub modes: &'a [Value],

@@ -14,7 +14,7 @@ use std::alloc::Global;
 
 /// The names in a start file, however many there are.
 #[derive(Drop)]
-pub(crate) struct FileNames {
+pub struct FileNames {
     pub schemes: Schemes,
     pub sets: NameSets,
 }
@@ -25,7 +25,7 @@ impl FileNames {
     /// # Errors
     /// `Scheme` where a scheme is refused, `Name` where a name isn't one or stands twice, `Memory` where an allocation
     /// failed.
-    pub(crate) fn make(alloc: Global, file: &FileText<'_>) -> Result<FileNames, LoadFault>
+    pub fn make(alloc: Global, file: &FileText<'_>) -> Result<FileNames, LoadFault>
         ensures ok { IfOk result (λ names. names_view names ≡ names_of (file_view file.now)) }
         ensures faultless { OnOk result (names_fault (file_view file.now) ≡ None) }
         ensures fault { IfErr result

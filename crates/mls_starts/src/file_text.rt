@@ -17,7 +17,7 @@ use std::alloc::Global;
 
 /// A start file: its profile, schemes, subjects, objects, cells and accesses.
 #[derive(Drop)]
-pub(crate) struct FileText<'a> {
+pub struct FileText<'a> {
     pub profile: Profile,
     pub security: SchemeText<'a>,
     pub integrity: SchemeText<'a>,
@@ -163,7 +163,7 @@ impl FileText<'_> {
     ///
     /// # Errors
     /// `Members` where it has not, `Memory` where an allocation failed.
-    pub(crate) fn read<'a>(alloc: Global, tree: &'a Value) -> Result<FileText<'a>, LoadFault>
+    pub fn read<'a>(alloc: Global, tree: &'a Value) -> Result<FileText<'a>, LoadFault>
         ensures ok { IfOk result (λ file. file_of (view tree.now) ≡ Some (file_view file)) }
         ensures fault { IfErr result
             (λ fault. fault ≢ LoadFault.Memory → (fault ≡ LoadFault.Members) × (file_of (view tree.now) ≡ None)) }

@@ -19,14 +19,14 @@ use std::alloc::Global;
 
 /// An object below the root: the place of its parent, where its parent's name is an object's, and its labels.
 #[derive(Clone, Copy)]
-pub(crate) struct LabelledChild {
+pub struct LabelledChild {
     pub parent: Option<usize>,
     pub labels: ObjectLabels,
 }
 
 /// The labels of a start file: the subjects, the root's labels, and the objects below it.
 #[derive(Drop)]
-pub(crate) struct FileLabels {
+pub struct FileLabels {
     pub subjects: Vec<Subject>,
     pub root: ObjectLabels,
     pub children: Vec<LabelledChild>,
@@ -138,7 +138,7 @@ impl FileLabels {
     ///
     /// # Errors
     /// `Label` where a text spells no label in its scheme, `Memory` where an allocation failed.
-    pub(crate) fn read(
+    pub fn read(
         alloc: Global,
         names: &FileNames,
         file: &FileText<'_>,

@@ -76,8 +76,10 @@ fn label_start(alloc: Global, names: &FileNames, file: &FileText<'_>) -> Result<
 /// The names and the start of a file.
 ///
 /// # Errors
-/// `Scheme` where a scheme is refused, `Name` where a name isn't one or stands twice, and those of `label_start`.
-fn load_file(alloc: Global, file: &FileText<'_>) -> Result<Loaded, LoadFault>
+/// The first of these that applies to any part of the file: `Scheme` where a scheme is refused, `Name` where a name
+/// isn't one or stands twice, `Label` where a text spells no label in its scheme, `Unknown` where a name or a mode's
+/// word is unknown, `Start` with the first fault of the start; `Memory` as soon as an allocation fails.
+pub fn load_file(alloc: Global, file: &FileText<'_>) -> Result<Loaded, LoadFault>
     ensures ok { IfOk result (λ loaded. load_of_file (file_view file.now) ≡ Ok loaded) }
     ensures fault { IfErr result (λ fault. fault ≢ LoadFault.Memory → load_of_file (file_view file.now) ≡ Err fault) }
 {

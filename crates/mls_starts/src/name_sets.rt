@@ -15,7 +15,7 @@ use std::alloc::Global;
 
 /// The names of the subjects and of the objects, whose places are their numbers.
 #[derive(Drop)]
-pub(crate) struct NameSets {
+pub struct NameSets {
     pub subjects: NameSet,
     pub objects: NameSet,
 }

@@ -12,7 +12,7 @@ use std::alloc::Global;
 
 /// An object, but for its parent: its name and its labels' texts.
 #[derive(Clone, Copy)]
-pub(crate) struct ObjectText<'a> {
+pub struct ObjectText<'a> {
     pub name: &'a str,
     pub security: &'a str,
     pub integrity: &'a str,
@@ -20,7 +20,7 @@ pub(crate) struct ObjectText<'a> {
 
 /// An object below the root, and its parent's name.
 #[derive(Clone, Copy)]
-pub(crate) struct ChildText<'a> {
+pub struct ChildText<'a> {
     pub parent: &'a str,
     pub object: ObjectText<'a>,
 }

@@ -23,7 +23,7 @@ pub(crate) struct PlacedTriple {
 }
 
 /// The mode of a text that is a mode's word.
-fn mode_of(value: &Value) -> Option<Mode>
+pub fn mode_of(value: &Value) -> Option<Mode>
     ensures { result ≡ read_mode (text_view value.now) }
 {
     match value.as_str() {

@@ -12,7 +12,7 @@ use std::alloc::Global;
 
 /// The names of a scheme's levels and categories.
 #[derive(Drop)]
-pub(crate) struct SchemeText<'a> {
+pub struct SchemeText<'a> {
     pub levels: Vec<&'a str>,
     pub categories: Vec<&'a str>,
 }

@@ -12,7 +12,7 @@ use std::alloc::Global;
 
 /// The schemes of security and of integrity.
 #[derive(Drop)]
-pub(crate) struct Schemes {
+pub struct Schemes {
     pub security: Scheme,
     pub integrity: Scheme,
 }

@@ -12,7 +12,7 @@ use std::alloc::Global;
 
 /// A subject: its name, its labels' texts, and whether it is trusted.
 #[derive(Clone, Copy)]
-pub(crate) struct SubjectText<'a> {
+pub struct SubjectText<'a> {
     pub name: &'a str,
     pub maximum: &'a str,
     pub current: &'a str,

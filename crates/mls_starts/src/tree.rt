@@ -13,7 +13,7 @@ use std::alloc::Global;
 ///
 /// # Errors
 /// `Json` where they aren't JSON in UTF-8 or nest more than 127 deep, `Memory` where an allocation failed.
-pub(crate) fn read_tree(alloc: Global, bytes: &[u8]) -> Result<Value, LoadFault>
+pub fn read_tree(alloc: Global, bytes: &[u8]) -> Result<Value, LoadFault>
     ensures ok { IfOk result (λ tree. IsReadAs bytes.now (view tree)) }
     ensures json { result ≡ Err LoadFault.Json → (d : Data) → ¬ IsReadAs bytes.now d }
     ensures kinds { IfErr result IsJsonOrMemory }

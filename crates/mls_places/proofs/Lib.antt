@@ -1,0 +1,4 @@
+pub mod Each
+pub mod NameLists
+pub mod Known
+pub mod Trees

@@ -1,0 +1,11 @@
+pub mod Places
+pub mod Each
+pub mod Members
+pub mod Rows
+pub mod NameFaults
+pub mod Naming
+pub mod Labels
+pub mod Unknowns
+pub mod Starts
+pub mod Accesses
+pub mod PlaceText
