@@ -18,7 +18,7 @@ const LOOKS: u32 = 10_000_000;
 
 /// Counts one more feed that is asked, and looks until all are, or for long: where a thread can't be started one never
 /// is.
-fn gather(asked: &AtomicU64) {
+fn wait_for_all(asked: &AtomicU64) {
     asked.fetch_add(1, Ordering::SeqCst);
     for _ in 0..LOOKS {
         if asked.load(Ordering::SeqCst) >= FEEDS {
@@ -102,7 +102,7 @@ impl<'a> Feed for Keeper<'a> {
 
     fn next(&mut self) -> Option<Ask> {
         if self.left == ASKS {
-            gather(self.asked);
+            wait_for_all(self.asked);
         }
         if self.left == 0 {
             self.stage = Stage::Done;

@@ -12,7 +12,7 @@ use Rattle.mls_sessions.specs.Rule.{begun, base, news, member}
 use Rattle.mls_sessions.specs.Sessions.{Office, Session, session_at, IsOf, HasAll, newcomers, history, own, member_of, number_of}
 use Rattle.mls_sessions.specs.declared.gate_table.View.TheVariants.{Sessions}
 use Rattle.mls_sessions.specs.Runs.{Returned}
-use Rattle.mls_sessions.specs.Feeds.{Learns, Tells, Halts, TakesTurn, BreaksOff, Ends, Serves, Row, NoWorse, IsWorst, AllNoWorse, AllServe, AllServed, AllTold}
+use Rattle.mls_sessions.specs.Feeds.{Learns, Tells, Halts, TakesTurn, BreaksOff, FeedEnds, Serves, Row, NoWorse, IsWorst, AllNoWorse, AllServe, AllServed, AllTold}
 use Rattle.mls_feeds.specs.Feeds.{Exchange, Turn, asks_of, answers_of, in_turns, AreTold, GaveAhead, Heard, Halted, Gave, Talks, AllFed}
 use Rattle.mls_sessions.specs.declared.asked.Asked.{Asked}
 use Rattle.mls_sessions.specs.declared.asked.Asked.TheVariants.{ToTheEnd, UntilRefused, NotAtAll}
@@ -286,7 +286,7 @@ module _ {F : Type 0} (gives : F → Option Ask → F → Type 0) (gives_ahead :
   rows_fed o j k [] all end numbered returned has = tt
   rows_fed o j k (row ∷ rows) all end numbered returned has =
       let is = all.0 in
-      let fed : Ends gives gives_ahead hears stops ToTheEnd row.feed is.turns is.last row.feed_back = subst (λ (a : Asked). Ends gives gives_ahead hears stops a row.feed is.turns is.last row.feed_back) end.0 is.ends in
+      let fed : FeedEnds gives gives_ahead hears stops ToTheEnd row.feed is.turns is.last row.feed_back = subst (λ (a : Asked). FeedEnds gives gives_ahead hears stops a row.feed is.turns is.last row.feed_back) end.0 is.ends in
       let are = own_told o j k row.session row.session_back is.since (in_turns is.turns ++ is.last) numbered.0 numbered.1 returned.0 returned.1 has.0 has.1 is.grew is.told in (
         (is.turns, fed.0, subst (AreTold (begun o.charter) k (base o.charter) (news o.charter j)) (ap (λ xs. in_turns is.turns ++ xs) fed.1 ∙ append-nil (in_turns is.turns)) are),
         rows_fed o j (k + 1) rows all.1 end.1 numbered.2 returned.2 has.2,

@@ -148,10 +148,10 @@ module _ {F : Type 0} (gives : F → Option Ask → F → Type 0) (gives_ahead :
 
   -- How a feed comes back that was asked so far: to its end; until it was stopped, or left alone where there was no
   -- room for what it asks; or left alone. (own)
-  abbrev pub Ends : Asked → F → List Turn → List Exchange → F → Type 0
-  Ends ToTheEnd f turns last g = Fed gives gives_ahead hears f turns g × (last ≡ [])
-  Ends UntilRefused f turns last g = Stopped f turns last g ⊎ LeftAlone f turns last g
-  Ends NotAtAll f turns last g = LeftAlone f turns last g
+  abbrev pub FeedEnds : Asked → F → List Turn → List Exchange → F → Type 0
+  FeedEnds ToTheEnd f turns last g = Fed gives gives_ahead hears f turns g × (last ≡ [])
+  FeedEnds UntilRefused f turns last g = Stopped f turns last g ⊎ LeftAlone f turns last g
+  FeedEnds NotAtAll f turns last g = LeftAlone f turns last g
 
   -- A session asked for what the feed gave, so far, and told it the answers. (own)
   pub record Serves (o : Office) (s : Session) (f : F) (asked : Asked) (t : Session) (g : F) : Type 0 where
@@ -160,7 +160,7 @@ module _ {F : Type 0} (gives : F → Option Ask → F → Type 0) (gives_ahead :
     pub since : List Entry
     pub grew : history t.view ≡ history s.view ++ since
     pub told : AreTold (begun o.charter) (number_of s.view) (history s.view) since (in_turns turns ++ last)
-    pub ends : Ends asked f turns last g
+    pub ends : FeedEnds asked f turns last g
 
   -- Each of the sessions asked so. (own)
   abbrev pub AllServe : Office → List (Row F) → Type 0
@@ -184,7 +184,7 @@ module _ {F : Type 0} (gives : F → Option Ask → F → Type 0) (gives_ahead :
   abbrev pub AllTold : Asked → State → List Entry → List Entry → ℕ → List F → List F → Type 0
   AllTold worst start before since k [] [] = Unit {0}
   AllTold worst start before since k (f ∷ fs) (g ∷ gs) =
-      ((asked : Asked) × (turns : List Turn) × (last : List Exchange) × NoWorse asked worst × Ends asked f turns last g
+      ((asked : Asked) × (turns : List Turn) × (last : List Exchange) × NoWorse asked worst × FeedEnds asked f turns last g
       × AreTold start k before since (in_turns turns ++ last))
       × AllTold worst start before since (k + 1) fs gs
   AllTold worst start before since k fs gs = ⊥

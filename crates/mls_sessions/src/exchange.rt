@@ -3,7 +3,7 @@ ghost use Rattle.std.specs.Prelude.{◌≡◌, ◌<◌, ◌≤◌, ◌∷◌, []
 ghost use Rattle.mls_sessions.specs.Sessions.{IsOf, number_of};
 ghost use Rattle.mls_sessions.specs.Feeds.{Tells, Halts, TakesTurn, BreaksOff};
 
-use crate::gathering::{gather, halt, tell};
+use crate::gathering::{halt, take_asks, tell};
 use crate::given::Given;
 use crate::limits::AHEAD;
 use crate::office::Office;
@@ -112,7 +112,7 @@ pub(crate) fn take_turn<R: Wait, F: Feed>(
     ensures broke { OnErr result
         (BreaksOff F.gives F.gives_ahead F.hears F.stops office.now session.old feed.old session.new feed.new) }
 {
-    match gather(feed, asks) {
+    match take_asks(feed, asks) {
         Given::Nothing => return Ok(false),
         Given::One(ask) => ask_one(rt, office, session, feed, ask)?,
         Given::Several => ask_several(rt, office, session, feed, asks, answers)?,

@@ -10,7 +10,7 @@ use mls_requests::Ask;
 
 /// What the feed asks next, and what it asks ahead, as long as there is room. One ask alone isn't put into the list.
 #[tactic(auto, using(crate::proofs::Feeds::gave_first, crate::proofs::Feeds::gave_two, crate::proofs::Feeds::gave_one))]
-pub(crate) fn gather<F: Feed>(feed: &mut F, asks: &mut Vec<Ask>) -> Given
+pub(crate) fn take_asks<F: Feed>(feed: &mut F, asks: &mut Vec<Ask>) -> Given
     requires ready { F.stands_at feed.old ≡ Stage.Ready }
     requires room { AHEAD ≤ vec_capacity asks.old }
     ensures room { AHEAD ≤ vec_capacity asks.new }

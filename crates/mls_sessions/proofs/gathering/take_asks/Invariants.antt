@@ -2,7 +2,7 @@ use Rattle.std.proofs.Common.{◌≡◌, ◌<◌, ◌≤◌, vec_len, vec_capaci
 use Rattle.mls_feeds.specs.declared.feed.Stage.TheVariants.{Waiting}
 use Rattle.mls_sessions.specs.declared.limits.TheConstants.{AHEAD}
 use Rattle.mls_feeds.specs.Feeds.{Gave}
-use Rattle.mls_sessions.proofs.gathering.gather.Given as goal
+use Rattle.mls_sessions.proofs.gathering.take_asks.Given as goal
 
 abbrev pub invariant-loop-feed : goal.invariant-loop-feed
 invariant-loop-feed g l = record {
