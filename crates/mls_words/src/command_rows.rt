@@ -238,22 +238,25 @@ pub(crate) const COMMANDS: [CommandRow; 11] = [
             with the labels that it compares; and for a get that is denied the lowest current label with \
             which it is granted. The status is 0 for yes, created and held, else 4",
         example: "Examples: mls explain examples/standard.json 'bob get-read memo'; mls explain --journal \
-            office.journal --at 1 examples/office.json",
+            office.journal --at 1 examples/office.json, of the entry that mls journal --from 1 --to 1 \
+            examples/office.json office.journal prints",
         arguments: &EXPLAIN_ARGUMENTS,
     },
     CommandRow {
         name: "who",
         about: "Prints which subjects are permitted OBJ and in which modes, and for each whether a get would be \
-            granted now, or else why not and with which current label it would be. The status is 0 where one \
-            would be, else 4",
-        example: "Example: mls who examples/standard.json memo read",
+            granted now, or else why not and with which current label it would be; nothing for an OBJ that \
+            isn't there. The status is 0 where one would be granted, else 4",
+        example: "Example: mls who examples/standard.json memo read. Who holds an access, and who may give \
+            permissions (whoever holds write on the parent), mls state prints",
         arguments: &WHO_ARGUMENTS,
     },
     CommandRow {
         name: "lint",
         about: "Prints what is suspicious in a start file: permissions with which a get is never granted, \
-            objects and subjects that have no other, and flows down by trusted subjects. The status is 4 \
-            where there is something, else 0",
+            objects and subjects that have no other, and flows down by trusted subjects; of a file that is \
+            refused each place where its fault applies. The status is 4 where something is suspicious, 1 where \
+            the file is refused, else 0",
         example: "Example: mls lint examples/standard.json",
         arguments: &LINT_ARGUMENTS,
     },
