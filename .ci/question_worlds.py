@@ -57,6 +57,47 @@ def start(rnd):
     return json.dumps(data, indent=1)
 
 
+def shuffled(rnd, data):
+    """The rows of a start in another order: the root first, and each object after its parent."""
+    rnd.shuffle(data["subjects"])
+    rows, left = data["objects"][:1], data["objects"][1:]
+    while left:
+        known = [it["name"] for it in rows]
+        rows.append(left.pop(rnd.choice([n for n, it in enumerate(left) if it["parent"] in known])))
+    data["objects"] = rows
+
+
+def renamed(data, names):
+    """A start with other names of levels, categories, subjects and objects, where it has these."""
+    label = lambda text: ":".join(",".join(names.get(it, it) for it in part.split(",")) for part in text.split(":"))
+    change = {"levels": lambda it: [names.get(name, name) for name in it], "categories": lambda it: [names.get(name, name) for name in it],
+              **dict.fromkeys(("name", "parent", "subject", "object"), lambda it: names.get(it, it)),
+              **dict.fromkeys(("maximum", "current"), label)}
+    walk = lambda it: (
+        {key: change[key](value) if key in change else label(value) if key in KINDS["create"] and isinstance(value, str) else walk(value)
+         for key, value in it.items()} if isinstance(it, dict) else [walk(row) for row in it] if isinstance(it, list) else it)
+    return walk(data)
+
+
+def swaps(rnd, names):
+    """Two names in place of each other, or a new name in place of one."""
+    one, other = rnd.choice(names), rnd.choice(names)
+    return rnd.choice(({one: other, other: one}, {one: one + "x"}, {}, {}, {}))
+
+
+def other(rnd, text):
+    """The text of a start file that is accepted and shares some names with another: it is like that one, or random."""
+    data = json.loads(text if rnd.random() < 0.8 else start(rnd))
+    if rnd.random() < 0.7:
+        data["accesses"] = []
+        for row in data["matrix"]:
+            row["modes"] = [it for it in MODES if (it in row["modes"]) != (rnd.random() < 0.05)]
+    data["profile"] = rnd.choice((1, 2))
+    shuffled(rnd, data)
+    names = {**swaps(rnd, [it["name"] for it in data["subjects"]]), **swaps(rnd, [it["name"] for it in data["objects"]])}
+    return json.dumps(renamed(data, {**names, **swaps(rnd, LEVELS), **swaps(rnd, CATEGORIES)}), indent=1)
+
+
 def action(rnd, state):
     """A request of a subject, most of whose operands are there."""
     word = rnd.choice([*[f"get-{it}" for it in MODES] * 2, *list(KINDS)])

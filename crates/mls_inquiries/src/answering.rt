@@ -1,5 +1,6 @@
 //! The command of a question, and how it ends.
 use crate::asking::{ask, explain, who};
+use crate::comparison::compare;
 use crate::listing::{journal, state};
 use crate::snapshots::start_of_state;
 use crate::starts::{lattice, lint};
@@ -77,7 +78,7 @@ pub(crate) fn question_refused(
 }
 
 /// Prints an answer.
-fn answered(rt: &HostRuntime, answer: Answer) -> ExitCode {
+pub(crate) fn answered(rt: &HostRuntime, answer: Answer) -> ExitCode {
     let Answer { text, is_positive } = answer;
     let printed = print(rt, text.as_bytes());
     drop(text);
@@ -123,5 +124,10 @@ pub fn answer(rt: &HostRuntime, question: &Question<'_>) -> ExitCode {
             source,
             is_start: true,
         } => start_of_state(rt, source),
+        Question::Compare {
+            first,
+            second,
+            journal,
+        } => compare(rt, first, second, *journal),
     }
 }

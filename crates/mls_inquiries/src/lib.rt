@@ -3,6 +3,7 @@
 
 mod answering;
 mod asking;
+mod comparison;
 mod listing;
 mod snapshots;
 mod sources;

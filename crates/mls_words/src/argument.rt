@@ -7,6 +7,8 @@ use std::alloc::{AllocError, Global};
 pub(crate) enum Kind {
     /// An operand that has to be there.
     Operand,
+    /// An operand that may be left out.
+    Optional,
     /// An operand that has to be there unless the option `--at` is.
     UnlessAt,
     /// An operand that is the word of a mode, and may be left out.
@@ -60,6 +62,7 @@ impl Argument {
     fn of_kind<'a>(&self, arg: Arg<'a>) -> Result<Arg<'a>, AllocError> {
         match self.kind {
             Kind::Operand => Ok(arg.required(true)),
+            Kind::Optional => Ok(arg),
             Kind::UnlessAt => arg.required_unless_present("at"),
             Kind::Mode => Ok(arg.value_parser(MODES.as_slice())),
             Kind::Operands => Ok(arg.required(true).num_args(1..).action(ArgAction::Append)),

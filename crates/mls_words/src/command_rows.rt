@@ -193,8 +193,27 @@ const STATE_ARGUMENTS: [Argument; 4] = [
     JOURNAL,
 ];
 
+/// The arguments of `compare`.
+const COMPARE_ARGUMENTS: [Argument; 3] = [
+    Argument {
+        name: "START1",
+        kind: Kind::Operand,
+        help: "The start file to compare with, JSON",
+    },
+    Argument {
+        name: "START2",
+        kind: Kind::Operand,
+        help: "The start file that is compared, JSON",
+    },
+    Argument {
+        name: "JOURNAL",
+        kind: Kind::Optional,
+        help: "A journal of START1, whose requests are asked of both; without it, all gets in their openings are",
+    },
+];
+
 /// The commands, in the order of help.
-pub(crate) const COMMANDS: [CommandRow; 11] = [
+pub(crate) const COMMANDS: [CommandRow; 12] = [
     CommandRow {
         name: "check",
         about: "Reads a start file and prints how many subjects, objects, cells and accesses it has, and that it \
@@ -280,5 +299,13 @@ pub(crate) const COMMANDS: [CommandRow; 11] = [
         example: "Examples: mls state examples/office.json office.journal; mls state --start \
             examples/office.json office.journal > next.json",
         arguments: &STATE_ARGUMENTS,
+    },
+    CommandRow {
+        name: "compare",
+        about: "Prints how START2 differs from START1: names that only one of them has, and gets that they answer \
+            otherwise; with a journal of START1 the entries that START2 would have answered otherwise. The \
+            status is 4 where something is printed, else 0",
+        example: "Example: mls compare examples/office.json new.json office.journal",
+        arguments: &COMPARE_ARGUMENTS,
     },
 ];

@@ -67,4 +67,11 @@ pub enum Question<'a> {
         /// Whether it is written as a start file.
         is_start: bool,
     },
+    /// How a second start differs from a first one, or from its journal's replies.
+    Compare {
+        first: &'a str,
+        second: &'a str,
+        /// The file of a journal of the first start, where its requests are asked of both.
+        journal: Option<&'a str>,
+    },
 }

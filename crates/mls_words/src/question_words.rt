@@ -73,6 +73,11 @@ pub(crate) fn question<'a>(command: &str, words: &ArgMatches<'a>) -> Option<Ques
         }),
         "journal" => Some(Question::Journal(journal_words(words))),
         "state" => Some(state_words(words)),
+        "compare" => Some(Question::Compare {
+            first: operand(words, "START1"),
+            second: operand(words, "START2"),
+            journal: words.get_str("JOURNAL"),
+        }),
         _ => None,
     }
 }

@@ -1,0 +1,164 @@
+"""Comparisons of the examples with variants of themselves, with answers that were worked out by hand from docs/POLICY.md and docs/FORMATS.md."""
+import json
+
+from outside import put, ran_program, same
+from question_rows import MEMO, OFFICE, STANDARD, STRANGE
+
+# sec makes #4, permits it to ann, who is below it; then ann takes the label that she has.
+MADE = (
+    b"0 0 2 get-write 0 yes\n1 0 2 create 0 2:1 1 created 4\n2 0 2 give read 0 4 yes\n3 0 0 get-read 4 no simple\n4 0 0 level 2:0 yes\n"
+)
+# the number of a deleted object is used again
+AGAIN = (
+    b"0 0 2 get-write 0 yes\n1 0 2 create 0 2:1 1 created 4\n2 0 2 delete 4 yes\n3 0 2 create 0 2:0 1 created 4\n4 0 2 give read 0 4 yes\n"
+    b"5 0 0 get-read 4 yes\n"
+)
+# sec may not write root
+DENIED = b"0 0 2 get-write 0 no discretionary\n1 0 2 delete 3 no authority\n2 0 2 create 0 0 1 no authority\n3 0 1 get-execute 3 yes\n"
+
+
+def standard():
+    with open(STANDARD, encoding="ascii") as file:
+        return json.load(file)
+
+
+def row(data, kind, name):
+    return next(it for it in data[kind] if it["name"] == name)
+
+
+def cell(data, subject, thing):
+    return next(it for it in data["matrix"] if (it["subject"], it["object"]) == (subject, thing))
+
+
+def as_it_is(data):
+    pass
+
+
+def profile_2(data):
+    data["profile"] = 2
+
+
+def newer(data):
+    row(data, "objects", "memo")["security"] = "U"
+    data["objects"].append({"name": "draft", "parent": "root", "security": "U", "integrity": "hi"})
+    cell(data, "sec", "root")["modes"].append("read")
+
+
+def higher(data):
+    row(data, "objects", "plans")["security"] = "T:A"
+
+
+def without_bob(data):
+    data["subjects"].remove(row(data, "subjects", "bob"))
+    data["matrix"] = [it for it in data["matrix"] if it["subject"] != "bob"]
+
+
+def reordered(data):
+    data["objects"][1:] = reversed(data["objects"][1:])
+    data["subjects"].reverse()
+    data["security"]["categories"].reverse()
+
+
+def of_other_categories(data):
+    data["security"]["categories"][0] = "ALPHA"
+    for it in (*data["subjects"], *data["objects"]):
+        for key in {"maximum", "current", "security"} & set(it):
+            it[key] = it[key].replace(":A", ":ALPHA")
+
+
+def of_other_levels(data):
+    data["integrity"]["levels"][1] = "high"
+    for it in (*data["subjects"], *data["objects"]):
+        it["integrity"] = it["integrity"].replace("hi", "high")
+
+
+def without_write(data):
+    data["matrix"].remove(cell(data, "sec", "root"))
+
+
+# a start, another, and what is told of them
+STARTS = [
+    (as_it_is, as_it_is, ""),
+    (as_it_is, newer, "only in second.json: draft\nbob read memo: no star > yes\nsec read root: no discretionary > yes\n"),
+    (newer, as_it_is, "only in first.json: draft\nbob read memo: yes > no star\nsec read root: yes > no discretionary\n"),
+    (as_it_is, higher, "ann read plans: yes > no simple\nann write plans: yes > no simple\naud read plans: yes > no simple\n"),
+    (as_it_is, without_bob, "only in first.json: bob\n"),
+    (without_bob, newer, "only in second.json: bob\nonly in second.json: draft\nsec read root: no discretionary > yes\n"),
+    (newer, without_bob, "only in first.json: bob\nonly in first.json: draft\nsec read root: yes > no discretionary\n"),
+    (as_it_is, reordered, ""),
+    (as_it_is, of_other_categories, ""),
+    (as_it_is, of_other_levels, ""),
+    (as_it_is, profile_2, ""),
+    (as_it_is, without_write, "sec write root: yes > no discretionary\n"),
+]
+
+# a start, another, a journal of the first, and what is told of them
+JOURNALS = [
+    (as_it_is, newer, MEMO, "entry 1 bob get-read memo: no star > yes\n"),
+    (as_it_is, newer, MADE, ""),
+    (as_it_is, without_bob, MEMO, "entry 1 bob get-read memo: no star > undefined\n"),
+    (as_it_is, reordered, MEMO, ""),
+    (as_it_is, reordered, MADE, ""),
+    (as_it_is, reordered, STRANGE, ""),
+    (as_it_is, of_other_categories, MADE, "entry 4 ann level S:A: yes > undefined\n"),
+    (as_it_is, of_other_levels, MADE,
+     "entry 1 sec create root S:B hi: created 4 > undefined\nentry 2 sec give read ann #4: yes > undefined\n"
+     "entry 3 ann get-read #4: no simple > undefined\n"),
+    (as_it_is, without_write, MADE,
+     "entry 0 sec get-write root: yes > no discretionary\nentry 1 sec create root S:B hi: created 4 > no authority\n"
+     "entry 2 sec give read ann #4: yes > undefined\nentry 3 ann get-read #4: no simple > undefined\n"),
+    (profile_2, as_it_is, AGAIN, ""),
+    (profile_2, newer, AGAIN, ""),
+    (without_write, profile_2, DENIED,
+     "entry 0 sec get-write root: no discretionary > yes\nentry 1 sec delete tool: no authority > yes\n"
+     "entry 2 sec create root U hi: no authority > created 3\nentry 3 bob get-execute tool: yes > undefined\n"),
+    (as_it_is, as_it_is, b"", ""),
+]
+
+
+def variant(name, change):
+    data = standard()
+    change(data)
+    return put(name, json.dumps(data).encode())
+
+
+def told(words, text):
+    same((words, *ran_program(["compare", *words])), (words, 4 if text else 0, text.encode(), b""))
+
+
+def refused(words, text, status=1):
+    same((words, *ran_program(["compare", *words])), (words, status, b"", text.encode()))
+
+
+def starts_that_are_compared():
+    for first, second, text in STARTS:
+        told([variant("first.json", first), variant("second.json", second)], text)
+    told([OFFICE, OFFICE], "")
+
+
+def journals_that_are_asked_of_another_start():
+    for first, second, journal, text in JOURNALS:
+        told([variant("first.json", first), variant("second.json", second), put("first.journal", journal)], text)
+
+
+def faults_of_a_comparison():
+    put("torn.journal", MEMO[:-1])
+    put("forged.journal", MEMO.replace(b"no star", b"yes"))
+    put("empty.json", b"")
+    put("broken.json", b"{")
+    refused(["no.json", "none.json", "no.journal"], "mls: no.json: file\n")
+    refused(["empty.json", "none.json", "no.journal"], "mls: none.json: file\n")
+    refused(["empty.json", "broken.json", "no.journal"], "mls: no.journal: file\n")
+    refused(["empty.json", "broken.json", "torn.journal"], "mls: empty.json: start 1 Json\n")
+    refused([STANDARD, "broken.json", "torn.journal"], "mls: broken.json: start 1 Json\n")
+    refused([STANDARD, "broken.json", "forged.journal"], "mls: broken.json: start 1 Json\n")
+    refused([STANDARD, STANDARD, "torn.journal"], "mls: torn.journal: line 3: entry 1 BadForm\n")
+    refused([STANDARD, STANDARD, "forged.journal"], "mls: forged.journal: replay 2 Differs at 1 expected no star\n", 3)
+    refused(["empty.json", "broken.json"], "mls: empty.json: start 1 Json\n")
+    refused([STANDARD, "broken.json"], "mls: broken.json: start 1 Json\n")
+    for words in ([STANDARD], [], [STANDARD, STANDARD, "j", "k"], ["--at", "0", STANDARD, STANDARD]):
+        status, output, error = ran_program(["compare", *words])
+        same((words, status, output, bool(error)), (words, 2, b"", True))
+
+
+CHECKS = [starts_that_are_compared, journals_that_are_asked_of_another_start, faults_of_a_comparison]

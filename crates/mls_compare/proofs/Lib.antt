@@ -1,0 +1,6 @@
+mod Few
+mod Followed
+mod Growing
+mod Labels
+mod Refusals
+mod Tables

@@ -1,0 +1,176 @@
+//! How start files differ.
+ghost use Rattle.std.specs.Prelude.{◌≡◌, ℕ, List, option_map, IfOk, IfErr, None, Some};
+ghost use Rattle.mls_starts.specs.Says.{SaysStart};
+ghost use Rattle.mls_journal.specs.EntryText.{journal_text};
+ghost use Rattle.mls_compare.specs.Comparing.{Compares, ComparesWith, FollowsJournal, Tells};
+ghost use Rattle.mls_compare.specs.Comparing.{RefusesComparison, RefusesSecond, RefusesOther, RefusesReplies};
+ghost use Rattle.mls_compare.specs.Counterparts.{HasFewNames};
+
+use crate::compare_fault::CompareFault;
+use crate::following::compare_replies;
+use crate::starts::{compare_starts, has_few_names};
+use mls_checks::{load_start, replay_over};
+use mls_lines::Names;
+use mls_monitor::{Monitor, Start};
+use mls_outcomes::journal_is_legal;
+use mls_starts::Loaded;
+use mls_wording::Answer;
+use std::alloc::Global;
+
+/// The start of the second file.
+///
+/// # Errors
+/// `Second` where the file is refused or an allocation failed.
+fn load_second(alloc: Global, bytes: &[u8]) -> Result<Loaded, CompareFault>
+    ensures ok { IfOk result (λ loaded. SaysStart bytes.now loaded) }
+    ensures fault { IfErr result (λ fault. RefusesOther bytes.now fault) }
+{
+    match load_start(alloc, bytes) {
+        Ok(loaded) => Ok(loaded),
+        Err(fault) => Err(CompareFault::Second(fault)),
+    }
+}
+
+/// How a start differs from the one of a second file, by names and openings.
+fn compare_openings(
+    alloc: Global,
+    words: (&str, &str),
+    first: &Loaded,
+    second: &[u8],
+) -> Result<Answer, CompareFault>
+    ensures ok { IfOk result (λ answer.
+        ComparesWith words.entry.0.now words.entry.1.now first.now second.now None answer) }
+    ensures fault { IfErr result (λ fault. RefusesSecond first.now.start second.now None fault) }
+{
+    let second = load_second(alloc, second)?;
+    let answer = compare_starts(alloc, words, first, &second);
+    drop(second);
+    Ok(answer?)
+}
+
+/// The monitor of a start over which a journal is replayed.
+///
+/// # Errors
+/// `Journal` where the journal is refused or an allocation failed.
+fn replayed(alloc: Global, start: Start, journal: &[u8]) -> Result<Monitor, CompareFault>
+    ensures start { IfOk result (λ monitor. monitor.start ≡ start) }
+    ensures text { IfOk result (λ monitor. journal.now ≡ journal_text monitor.entries) }
+    ensures fault { IfErr result (λ fault. RefusesReplies start journal.now fault) }
+{
+    match replay_over(alloc, start, journal) {
+        Ok(monitor) => Ok(monitor),
+        Err(fault) => Err(CompareFault::Journal(fault)),
+    }
+}
+
+/// How a start with these names and another differ over a journal of the first.
+fn compare_over(
+    alloc: Global,
+    names: &Names,
+    start: Start,
+    second: &Loaded,
+    journal: &[u8],
+) -> Result<Answer, CompareFault>
+    requires { HasFewNames names.now }
+    ensures ok { IfOk result (λ answer. FollowsJournal names.now start second.now journal.now answer) }
+    ensures fault { IfErr result (λ fault. RefusesReplies start journal.now fault) }
+{
+    let monitor = replayed(alloc, start, journal)?;
+    journal_is_legal(&monitor);
+    let answer = compare_replies(alloc, names, second, monitor.entries());
+    drop(monitor);
+    Ok(answer?)
+}
+
+/// How a start and another differ over a journal of the first.
+fn compare_parts(
+    alloc: Global,
+    first: Loaded,
+    second: &Loaded,
+    journal: &[u8],
+) -> Result<Answer, CompareFault>
+    ensures ok { IfOk result (λ answer. FollowsJournal first.names first.start second.now journal.now answer) }
+    ensures fault { IfErr result (λ fault. RefusesReplies first.start journal.now fault) }
+{
+    has_few_names(&first);
+    let (names, start): (Names, Start) = first.into_parts();
+    let answer = compare_over(alloc, &names, start, second, journal);
+    drop(names);
+    answer
+}
+
+/// How a start and the one of a second file differ over a journal of the first.
+fn compare_journal(
+    alloc: Global,
+    first: Loaded,
+    second: &[u8],
+    journal: &[u8],
+) -> Result<Answer, CompareFault>
+    ensures ok { (file other : List ℕ) → IfOk result
+        (λ answer. ComparesWith file other first second.now (Some journal.now) answer) }
+    ensures fault { IfErr result (λ fault. RefusesSecond first.start second.now (Some journal.now) fault) }
+{
+    match load_second(alloc, second) {
+        Ok(second) => {
+            let answer = compare_parts(alloc, first, &second, journal);
+            drop(second);
+            answer
+        }
+        Err(fault) => {
+            drop(first);
+            Err(fault)
+        }
+    }
+}
+
+/// How a start and the one of a second file differ.
+fn compare_with(
+    alloc: Global,
+    words: (&str, &str),
+    first: Loaded,
+    second: &[u8],
+    journal: Option<&[u8]>,
+) -> Result<Answer, CompareFault>
+    ensures ok { IfOk result (λ answer.
+        ComparesWith words.entry.0.now words.entry.1.now first second.now
+        (option_map (λ bytes. bytes.now) journal.entry) answer) }
+    ensures fault { IfErr result (λ fault.
+        RefusesSecond first.start second.now (option_map (λ bytes. bytes.now) journal.entry) fault) }
+{
+    match journal {
+        Some(journal) => compare_journal(alloc, first, second, journal),
+        None => {
+            let answer = compare_openings(alloc, words, &first, second);
+            drop(first);
+            answer
+        }
+    }
+}
+
+/// How the start of a second file differs from that of a first, a line each. The files have these words. Without a
+/// journal: the names that only one start has, and the gets, of subjects and objects that both have, that the two
+/// openings answer otherwise. With a journal of the first start: the entries that the second start answers otherwise,
+/// where all that they name is carried over by name. The answer is positive where there is no line.
+///
+/// # Errors
+/// - `First` where the first file is refused, else `Second` where the second is.
+/// - `Journal` where the journal is refused as one of the first start: its lines before its replay.
+/// - One of these with `Memory` where an allocation failed.
+pub fn compare(
+    alloc: Global,
+    words: (&str, &str),
+    first: &[u8],
+    second: &[u8],
+    journal: Option<&[u8]>,
+) -> Result<Answer, CompareFault>
+    ensures ok { IfOk result (λ answer.
+        Compares words.entry.0.now words.entry.1.now first.now second.now
+        (option_map (λ bytes. bytes.now) journal.entry) answer) }
+    ensures fault { IfErr result (λ fault.
+        RefusesComparison first.now second.now (option_map (λ bytes. bytes.now) journal.entry) fault) }
+{
+    match load_start(alloc, first) {
+        Ok(first) => compare_with(alloc, words, first, second, journal),
+        Err(fault) => Err(CompareFault::First(fault)),
+    }
+}

@@ -1,0 +1,100 @@
+//! How two starts differ.
+ghost use Rattle.std.specs.Prelude.{◌≡◌, ◌++◌, ◌==◌, length, string_bytes, IfOk, OnOk};
+ghost use Rattle.mls_tables.specs.declared.limits.TheConstants.{MAX_SUBJECTS, MAX_OBJECTS};
+ghost use Rattle.mls_compare.specs.Comparing.{IsAnswer};
+ghost use Rattle.mls_compare.specs.Counterparts.{HasFewNames, shared};
+ghost use Rattle.mls_compare.specs.Differences.{gets_text, starts_text};
+
+use crate::gets::push_gets;
+use crate::only::push_only;
+use crate::shared::{shared_objects, shared_subjects};
+use mls_lines::Names;
+use mls_rules::State;
+use mls_starts::Loaded;
+use mls_wording::Answer;
+use std::alloc::{AllocError, Global};
+
+/// A start has no more names than subjects and objects can have. The function does nothing: what it says is so of every
+/// start.
+pub(crate) fn has_few_names(loaded: &Loaded)
+    ensures { HasFewNames loaded.now.names }
+{
+    // that the names go with the start, and how many subjects and objects that has
+    let _ = loaded.names();
+    let start = loaded.start();
+    let _ = start.subject_count();
+    let _ = start.object_count();
+}
+
+/// Appends the lines of the gets, of subjects and objects that both starts have, that two states answer otherwise.
+fn push_shared(
+    alloc: Global,
+    text: &mut String,
+    first: &Names,
+    second: &Names,
+    states: (&State, &State),
+) -> Result<(), AllocError>
+    ensures { OnOk result (string_bytes text.new ≡ string_bytes text.old
+        ++ gets_text first.now states.entry.0.now states.entry.1.now
+        (shared first.now.subjects second.now.subjects MAX_SUBJECTS)
+        (shared first.now.objects second.now.objects MAX_OBJECTS)) }
+{
+    let subjects = shared_subjects(alloc, first, second)?;
+    let objects = shared_objects(alloc, first, second)?;
+    push_gets(text, first, states, &subjects, &objects)?;
+    Ok(())
+}
+
+/// Appends the lines of the gets, of subjects and objects that both starts have, that the two openings answer
+/// otherwise.
+fn push_openings(
+    alloc: Global,
+    text: &mut String,
+    first: &Loaded,
+    second: &Loaded,
+) -> Result<(), AllocError>
+    ensures { OnOk result (string_bytes text.new ≡ string_bytes text.old
+        ++ gets_text first.now.names first.now.start second.now.start
+        (shared first.now.names.subjects second.now.names.subjects MAX_SUBJECTS)
+        (shared first.now.names.objects second.now.names.objects MAX_OBJECTS)) }
+{
+    let opened = first.start().opening(alloc)?;
+    let other = second.start().opening(alloc)?;
+    push_shared(
+        alloc,
+        text,
+        first.names(),
+        second.names(),
+        (&opened, &other),
+    )
+}
+
+/// A text of differences as an answer: a positive one where there is none.
+pub(crate) fn answer(text: String) -> Answer
+    ensures { IsAnswer (string_bytes text) result }
+{
+    let is_positive = text.len() == 0;
+    Answer { text, is_positive }
+}
+
+/// How the second of two starts differs from the first, a line each: the names that only one of them has, and the gets,
+/// of subjects and objects that both have, that the two openings answer otherwise. Files of these words say them.
+///
+/// # Errors
+/// `AllocError` where an allocation failed.
+pub(crate) fn compare_starts(
+    alloc: Global,
+    words: (&str, &str),
+    first: &Loaded,
+    second: &Loaded,
+) -> Result<Answer, AllocError>
+    ensures { IfOk result
+        (λ found. IsAnswer (starts_text words.entry.0.now words.entry.1.now first.now second.now) found) }
+{
+    has_few_names(first);
+    has_few_names(second);
+    let mut text = String::new(alloc);
+    push_only(&mut text, words, first.names(), second.names())?;
+    push_openings(alloc, &mut text, first, second)?;
+    Ok(answer(text))
+}
