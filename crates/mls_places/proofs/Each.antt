@@ -1,5 +1,5 @@
 -- What is written of each item of a list, item by item.
-use Rattle.std.proofs.Common.{◌≡◌, ℕ, zero, suc, ◌+◌, ◌<◌, ◌≤◌, List, [], ◌∷◌, ◌++◌, map, length, take, get_or, refl, ap, sym, ◌∙◌, append-nil, arith}
+use Rattle.std.proofs.Common.{◌≡◌, ℕ, suc, ◌+◌, ◌<◌, List, [], ◌∷◌, ◌++◌, map, length, take, get_or, ap, sym, ◌∙◌, append-nil, arith}
 use Rattle.std.proofs.lemmas.List.{append_assoc, length-map, length-take-le, map_more, take_more}
 use Rattle.mls_places.specs.Each.{at_each}
 

@@ -58,7 +58,7 @@ abbrev pub by_start : (Loaded → List ℕ) → Result Loaded LoadFault → List
 by_start lines (Ok loaded) = lines loaded
 by_start lines (Err fault) = []
 
--- The lines of a file's accesses, each judged in the state that the file opens with when it has no accesses: no property
--- of one access speaks of another. (own)
+-- The lines of a file's accesses, each judged in the state that the file opens with when it has no accesses: no
+-- property of one access speaks of another. (own)
 abbrev pub accesses_text : SaidFile → List ℕ
 accesses_text file = by_start (accesses_lines file.accesses) (load_of_file (without_accesses file))

@@ -8,7 +8,7 @@ use Rattle.mls_labels.specs.declared.scheme_fault.SchemeFault.TheVariants.{BadNa
 use Rattle.mls_starts.specs.Texts.{SaidFile, subject_names, object_names}
 use Rattle.mls_places.specs.Each.{at_each}
 use Rattle.mls_places.specs.NameFaults.{name_faults}
-use Rattle.mls_places.specs.Places.{line, on_list, on_member, on_names, on_name}
+use Rattle.mls_places.specs.Places.{line, on_member, on_names, on_name}
 use Rattle.mls_places.specs.declared.name_fault.NameFault.{NameFault}
 use Rattle.mls_places.specs.declared.name_fault.NameFault.TheVariants.{Bad, Repeated}
 

@@ -1,5 +1,5 @@
 -- Where a start file names what isn't there.
-use Rattle.std.specs.Prelude.{ℕ, List, [], ◌++◌, codes, Option, Some, None, is_some, if◌then◌else◌}
+use Rattle.std.specs.Prelude.{ℕ, List, [], ◌++◌, codes, is_some, if◌then◌else◌}
 use Rattle.mls_labels.specs.Reading.{place_of}
 use Rattle.mls_requests.specs.ModeWords.{read_mode}
 use Rattle.mls_starts.specs.Texts.{SaidFile, SaidChild, SaidCell, subject_names, object_names}

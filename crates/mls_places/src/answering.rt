@@ -35,7 +35,7 @@ fn file_text(alloc: Global, fault: LoadFault, file: FileText<'_>) -> Result<Stri
 /// The lines of a tree for a fault of its file.
 ///
 /// # Errors
-/// `AllocError` where an allocation failed; also where the tree hasn't the members of a file, which no caller's has not.
+/// `AllocError` where an allocation failed; also where the tree hasn't the members of a file, as each caller's has.
 fn read_text(alloc: Global, fault: LoadFault, tree: &Value) -> Result<String, AllocError>
     ensures { IfOk result (λ text. string_bytes text ≡ by_file (file_text fault) (view tree.now)) }
 {
@@ -71,8 +71,8 @@ fn bytes_text(alloc: Global, bytes: &[u8], fault: LoadFault) -> Result<String, A
 }
 
 /// The places where the fault applies for which [`read_start`](mls_starts::read_start) refuses the bytes of a start
-/// file, a line each: a JSON pointer, a colon, a space and some words, in the file's order. Of `Members` it is the first
-/// place alone; of `Json` it is where the JSON breaks off, which no clause says.
+/// file, a line each: a JSON pointer, a colon, a space and some words, in the file's order. Of `Members` it is the
+/// first place alone; of `Json` it is where the JSON breaks off, which no clause says.
 ///
 /// # Errors
 /// `AllocError` where an allocation failed.

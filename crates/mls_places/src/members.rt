@@ -8,7 +8,8 @@ ghost use Rattle.mls_starts.specs.Each.{having};
 ghost use Rattle.mls_places.specs.Members.{rows_wrong, objects_wrong, has_none, optional, profile_wrong, file_keys};
 ghost use Rattle.mls_places.specs.Members.{known_wrong, members_text};
 ghost use Rattle.mls_places.specs.Places.{key, place_view, spot_view};
-ghost use Rattle.mls_places.specs.Rows.{within, first_found, required, first_of, unknown_among, scheme_wrong, row_wrong};
+ghost use Rattle.mls_places.specs.Rows.{within, first_found, required, first_of, unknown_among, scheme_wrong};
+ghost use Rattle.mls_places.specs.Rows.{row_wrong};
 
 use crate::place::{Place, Spot};
 use crate::rows::{Row, row_spot, scheme_spot, unknown_key};

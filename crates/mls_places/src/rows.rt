@@ -5,9 +5,9 @@ ghost use Rattle.std.specs.Str.{bytes_eq};
 ghost use Rattle.serde_json.specs.Find.{get, as_object};
 ghost use Rattle.serde_json.specs.View.{view, members_view};
 ghost use Rattle.mls_places.specs.Places.{number, spot_view};
-ghost use Rattle.mls_places.specs.Rows.{first_found, required, text_wrong, bool_wrong, null_wrong, first_of};
-ghost use Rattle.mls_places.specs.Rows.{text_at, texts_at, keys_of, first_unknown, unknown_among, members_wrong, scheme_wrong};
-ghost use Rattle.mls_places.specs.Rows.{subject_wrong, parent_wrong, object_wrong, cell_wrong, row_wrong};
+ghost use Rattle.mls_places.specs.Rows.{first_found, required, text_wrong, bool_wrong, first_of};
+ghost use Rattle.mls_places.specs.Rows.{text_at, texts_at, keys_of, first_unknown, unknown_among, members_wrong};
+ghost use Rattle.mls_places.specs.Rows.{scheme_wrong, subject_wrong, parent_wrong, object_wrong, cell_wrong, row_wrong};
 
 use crate::place::Spot;
 use serde_json::{Map, Value};

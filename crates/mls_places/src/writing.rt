@@ -1,5 +1,5 @@
 //! What is written of a place: a JSON pointer, and words.
-ghost use Rattle.std.specs.Prelude.{◌≡◌, ◌<◌, ◌++◌, ◌∷◌, [], codes, string_bytes, OnOk};
+ghost use Rattle.std.specs.Prelude.{◌≡◌, ◌<◌, ◌++◌, ◌∷◌, string_bytes, OnOk};
 ghost use Rattle.std.specs.List.{flat_map};
 ghost use Rattle.mls_places.specs.Places.{key, number, byte_text, hex_digit, hex_text, step_text, line};
 ghost use Rattle.mls_places.specs.Places.{key_steps, number_steps, place_view, is_plain};

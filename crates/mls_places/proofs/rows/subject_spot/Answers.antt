@@ -1,4 +1,4 @@
-use Rattle.std.proofs.Common.{List, [], ◌∷◌, codes, ap, refl, ◌∙◌}
+use Rattle.std.proofs.Common.{[], ◌∷◌, codes, ap, refl, ◌∙◌}
 use Rattle.serde_json.specs.Find.{as_object}
 use Rattle.serde_json.specs.View.{view}
 use Rattle.mls_places.specs.Rows.{members_wrong}
