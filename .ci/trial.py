@@ -20,6 +20,7 @@ TRIALS = [
     (["run", "--journal", "sub/journal", "sub/start.json", "script"], b""),
     (["check", "./refused.json"], b""),
     (["explain", "sub/start.json", "bob get-read memo"], b""),
+    (["journal", "--reply", "no", "--subject", "bob", "sub/start.json", "sub/asked"], b""),
 ]
 
 
@@ -50,6 +51,7 @@ def answers_by_trial():
     os.mkdir("sub")
     shutil.copy(f"{EXAMPLES}/standard.json", "sub/start.json")
     put("script", FOUR)
+    put("sub/asked", b"0 0 1 get-read 2 no star\n")
     with open(f"{EXAMPLES}/standard.json", "rb") as start:
         put("refused.json", start.read().replace(b'"T:A,B"', b'"T:A,A"'))
     bare()
