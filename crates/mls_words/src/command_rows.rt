@@ -51,7 +51,7 @@ const RUN_ARGUMENTS: [Argument; 4] = [
     Argument {
         name: "journal",
         kind: Kind::Text("FILE"),
-        help: "Writes the journal to FILE; what FILE had is lost",
+        help: "Writes the journal to FILE; what FILE had is lost, also where it is START or a SCRIPT",
     },
     START,
     Argument {
@@ -92,7 +92,7 @@ const ASK_ARGUMENTS: [Argument; 4] = [
     Argument {
         name: "LINE",
         kind: Kind::Operand,
-        help: "A line as a script has it, quoted",
+        help: "A line as a script has it, quoted, but without variables; #N is object N",
     },
 ];
 
@@ -247,15 +247,16 @@ pub(crate) const COMMANDS: [CommandRow; 12] = [
             created and held, else 4",
         example: "Example: mls ask examples/standard.json 'bob get-read memo'. LINE is quoted, and asks as a line \
             of a script: SUBJECT get-execute, get-read, get-append or get-write OBJECT; release, check MODE \
-            OBJECT; give, rescind MODE SUBJECT OBJECT; create OBJECT LABEL LABEL; delete OBJECT; level \
-            LABEL; relabel OBJECT LABEL",
+            OBJECT; give, rescind MODE SUBJECT OBJECT; create PARENT SECURITY-LABEL INTEGRITY-LABEL; delete \
+            OBJECT; level LABEL; relabel OBJECT LABEL. To try several lines: mls serve over a copy of the journal",
         arguments: &ASK_ARGUMENTS,
     },
     CommandRow {
         name: "explain",
         about: "Prints the answer to LINE, or without LINE to entry N of a journal; each condition of its rule, \
-            with the labels that it compares; and for a get that is denied the lowest current label with \
-            which it is granted. The status is 0 for yes, created and held, else 4",
+            with the labels that it compares; and for a get that is denied the lowest current label that the \
+            subject can take, with all that it holds, with which it is granted. The status is 0 for yes, \
+            created and held, else 4",
         example: "Examples: mls explain examples/standard.json 'bob get-read memo'; mls explain --journal \
             office.journal --at 1 examples/office.json, of the entry that mls journal --from 1 --to 1 \
             examples/office.json office.journal prints",
@@ -264,18 +265,19 @@ pub(crate) const COMMANDS: [CommandRow; 12] = [
     CommandRow {
         name: "who",
         about: "Prints which subjects are permitted OBJ and in which modes, and for each whether a get would be \
-            granted now, or else why not and with which current label it would be; nothing for an OBJ that \
-            isn't there. The status is 0 where one would be granted, else 4",
-        example: "Example: mls who examples/standard.json memo read. Who holds an access, and who may give \
-            permissions (whoever holds write on the parent), mls state prints",
+            granted now, or else why not and with which current label it would be; nothing for #N where there \
+            is no object N. The status is 0 where one would be granted, else 4",
+        example: "Example: mls who examples/standard.json memo read. mls state prints who holds what. Who holds \
+            write on the parent may give permissions, and on the root whoever is trusted",
         arguments: &WHO_ARGUMENTS,
     },
     CommandRow {
         name: "lint",
         about: "Prints what is suspicious in a start file: permissions with which a get is never granted, \
             objects and subjects that have no other, and flows down by trusted subjects; of a file that is \
-            refused each place where its fault applies. The status is 4 where something is suspicious, 1 where \
-            the file is refused, else 0",
+            refused each place where its first fault applies, counted from 0, and of members that are missing \
+            or wrong the first. The status is 4 where something is suspicious, 1 where the file is refused, \
+            else 0",
         example: "Example: mls lint examples/standard.json",
         arguments: &LINT_ARGUMENTS,
     },
@@ -303,8 +305,9 @@ pub(crate) const COMMANDS: [CommandRow; 12] = [
     CommandRow {
         name: "compare",
         about: "Prints how START2 differs from START1: names that only one of them has, and gets that they answer \
-            otherwise; with a journal of START1 the entries that START2 would have answered otherwise. The \
-            status is 4 where something is printed, else 0",
+            otherwise; with a journal of START1, instead, the entries that START2 would have answered \
+            otherwise. The status is 4 where something is printed, else 0. Nothing means the same answers to \
+            these, not the same files",
         example: "Example: mls compare examples/office.json new.json office.journal",
         arguments: &COMPARE_ARGUMENTS,
     },
