@@ -59,7 +59,8 @@ RefusesOther second (First cause) = ⊥
 RefusesOther second (Second cause) = RefusesLoad second cause
 RefusesOther second (Journal cause) = ⊥
 
--- Why a start isn't compared with the one of a second file: that is refused; else the journal is. (own)
+-- Why a start isn't compared with the one of a second file: that is refused; else the journal is; or memory ran out.
+-- (own)
 abbrev pub RefusesSecond : State → List ℕ → Option (List ℕ) → CompareFault → Type 0
 RefusesSecond start second journal (First cause) = cause ≡ refused.Memory
 RefusesSecond start second journal (Second cause) = RefusesLoad second cause

@@ -108,7 +108,6 @@ fn objects_by_name(
 
 impl ObjectTable {
     /// The counterparts by name: no number has ceased to be one.
-
     pub(crate) fn new(
         alloc: Global,
         first: &Names,
@@ -133,7 +132,6 @@ impl ObjectTable {
     }
 
     /// Goes on by the second start's reply, where the first start made this object.
-
     fn follow_create(&mut self, o: ObjectId, there: Reply, time: u64)
         ensures { (objects : List (Option ℕ)) → Holds time objects self.old
             → Holds (time + 1) (after_create o there objects) self.new }

@@ -26,15 +26,15 @@ pub record IsSnapshotOf (r : Replayed) (text : List ℕ) : Type 0 where
 abbrev pub SnapshotsAt : List ℕ → List ℕ → Option ℕ → List ℕ → Type 0
 SnapshotsAt bytes journal at text = (r : Replayed) × ReplaysAt bytes journal at r × IsSnapshotOf r text
 
--- Why there is no text: as of a question about these files, or else they are replayed, and the text is too long or
--- isn't one of that state. (own)
+-- Why there is no text: as of a question about these files; or else they are replayed, and it is only said that the
+-- text was too long or wasn't one of that state. (own)
 abbrev pub RefusesSnapshot : List ℕ → List ℕ → Option ℕ → SnapshotFault → Type 0
 RefusesSnapshot bytes journal at (Question cause) = RefusesAt bytes journal at cause
 RefusesSnapshot bytes journal at TooLong = (r : Replayed) × ReplaysAt bytes journal at r
 RefusesSnapshot bytes journal at Differs = (r : Replayed) × ReplaysAt bytes journal at r
 
--- A fault that writing and reading back may have: memory, or that the text is too long or isn't one of that state.
--- (own)
+-- A fault that writing and reading back may have: memory; or that the text was too long or wasn't one of that state,
+-- which is only said. (own)
 abbrev pub IsOwnFault : SnapshotFault → Type 0
 IsOwnFault (Question cause) = cause ≡ Files Memory
 IsOwnFault TooLong = Unit {0}
