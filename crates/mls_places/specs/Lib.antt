@@ -9,3 +9,4 @@ pub mod Unknowns
 pub mod Starts
 pub mod Accesses
 pub mod PlaceText
+pub mod JsonPlaces

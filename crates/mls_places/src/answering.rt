@@ -5,6 +5,7 @@ ghost use Rattle.serde_json.specs.View.{view};
 ghost use Rattle.mls_starts.specs.Looking.{IsReadAs};
 ghost use Rattle.mls_starts.specs.Says.{RefusesStart};
 ghost use Rattle.mls_starts.specs.Views.{file_view};
+ghost use Rattle.mls_places.specs.JsonPlaces.{TellsJson};
 ghost use Rattle.mls_places.specs.PlaceText.{file_text, by_file, places_text};
 
 use crate::json::json_text;
@@ -72,7 +73,8 @@ fn bytes_text(alloc: Global, bytes: &[u8], fault: LoadFault) -> Result<String, A
 
 /// The places where the fault applies for which [`read_start`](mls_starts::read_start) refuses the bytes of a start
 /// file, a line each: a JSON pointer, a colon, a space and some words, in the file's order. Of `Members` it is the
-/// first place alone; of `Json` it is where the JSON breaks off, which no clause says.
+/// first place alone; of `Json` it is the line and the column where the JSON breaks off, and no clause says that these
+/// are the right ones.
 ///
 /// # Errors
 /// `AllocError` where an allocation failed.
@@ -80,6 +82,7 @@ pub fn places(alloc: Global, bytes: &[u8], fault: LoadFault) -> Result<String, A
     requires refused { RefusesStart bytes.now fault }
     ensures text { IfOk result
         (λ text. (d : Data) → IsReadAs bytes.now d → string_bytes text ≡ places_text fault d) }
+    ensures json { fault ≡ LoadFault.Json → IfOk result (λ text. TellsJson bytes.now (string_bytes text)) }
 {
     match fault {
         LoadFault::Json => json_text(alloc, bytes),
