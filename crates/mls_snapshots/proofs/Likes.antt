@@ -1,6 +1,6 @@
 -- Names, schemes and states that are compared, and what their comparison is of.
-use Rattle.std.proofs.Common.{◌≡◌, ℕ, ◌<◌, Bool, true, false, Bor, List, length, Option, Some, None, Result, Ok, Err, refl, sym, ap, subst, ◌∙◌, String, string_bytes, Global}
-use Rattle.std.specs.Prelude.{nat_lt, not, is_some, option_map, slice_get, IfOk, IfErr, IsTrue}
+use Rattle.std.proofs.Common.{◌≡◌, ℕ, ◌<◌, Bool, true, false, Bor, List, Option, Some, None, Result, Ok, Err, refl, sym, ap, subst, ◌∙◌, String, string_bytes, Global}
+use Rattle.std.specs.Prelude.{nat_lt, is_some, option_map, slice_get, IfOk, IfErr, IsTrue}
 use Rattle.std.specs.declared.alloc.AllocError.{AllocError}
 use Rattle.mls_labels.specs.declared.limits.TheConstants.{MAX_LEVELS, MAX_CATEGORIES}
 use Rattle.mls_labels.specs.Scheme.{Scheme, IsScheme, bounds_of}
@@ -79,16 +79,16 @@ snapshots_at bytes journal at r (Ok text) replays is = (r, replays, is)
 snapshots_at bytes journal at r (Err fault) replays is = tt
 
 -- a replay's own fault is one of its files
-own_refuses : (bytes journal : List ℕ) (at : Option ℕ) (r : Replayed) (fault : SnapshotFault) → ReplaysAt bytes journal at r → IsOwnFault fault
+own_refuses : (bytes journal : List ℕ) (at : Option ℕ) (r : Replayed) (fault : SnapshotFault) → ReplaysAt bytes journal at r → IsOwnFault r fault
     → RefusesSnapshot bytes journal at fault
 own_refuses bytes journal at r (Question cause) replays own =
     let P : QuestionFault → Type 0 = λ f. RefusesAt bytes journal at f in
     let memory : RefusesAt bytes journal at (Files refused.Memory) = tt in
     subst P (sym own) memory
-own_refuses bytes journal at r TooLong replays own = (r, replays)
+own_refuses bytes journal at r TooLong replays own = (r, replays, own)
 own_refuses bytes journal at r Differs replays own = (r, replays)
 
 pub refuses_snapshot : (bytes journal : List ℕ) (at : Option ℕ) (r : Replayed) (result : Result (String Global) SnapshotFault) → ReplaysAt bytes journal at r
-    → IfErr result (λ fault. IsOwnFault fault) → IfErr result (λ fault. RefusesSnapshot bytes journal at fault)
+    → IfErr result (λ fault. IsOwnFault r fault) → IfErr result (λ fault. RefusesSnapshot bytes journal at fault)
 refuses_snapshot bytes journal at r (Ok text) replays own = tt
 refuses_snapshot bytes journal at r (Err fault) replays own = own_refuses bytes journal at r fault replays own

@@ -1,5 +1,5 @@
 -- What tables have of subjects and objects, where these are there and where they aren't.
-use Rattle.std.proofs.Common.{◌≡◌, ℕ, ◌<◌, ◌≤◌, Bool, true, false, ◌⊎◌, inl, inr, List, length, get_or, Option, Some, None, refl, sym, ap, ◌∙◌, arith}
+use Rattle.std.proofs.Common.{◌≡◌, ℕ, ◌<◌, ◌≤◌, Bool, true, false, ◌⊎◌, inl, inr, List, length, get_or, Some, None, refl, sym, ap, ◌∙◌, arith}
 use Rattle.std.proofs.lemmas.Bool.Decides.{nat_tests}
 use Rattle.std.proofs.lemmas.Option.{slice_get_cases}
 use Rattle.std.specs.Prelude.{◌&&◌, nat_lt, slice_get}
@@ -8,7 +8,6 @@ use Rattle.mls_facts.specs.Numbered.{holds_of}
 use Rattle.mls_state.specs.State.{State, is_subject, is_active}
 use Rattle.mls_state.specs.Properties.{Each, HasTree, is_known}
 use Rattle.mls_tables.specs.Mode.{ModeSet, mode_cmp}
-use Rattle.mls_tables.specs.Triples.{TripleSet}
 use Rattle.mls_tables.specs.declared.mode.Mode.{Mode}
 use Rattle.mls_tables.specs.declared.mode.Mode.TheVariants.{Execute, Read, Append, Write}
 use Rattle.mls_snapshots.specs.Renumbering.{IsCarriedOver}

@@ -3,15 +3,15 @@ use Rattle.std.proofs.Common.{◌≡◌, ℕ, zero, suc, ◌+◌, ◌<◌, ◌�
 use Rattle.std.proofs.lemmas.Bool.Decides.{nat_tests}
 use Rattle.std.proofs.lemmas.List.{append_cancel_left}
 use Rattle.std.proofs.lemmas.Option.{slice_get_cases}
-use Rattle.std.specs.Prelude.{◌||◌, ◌&&◌, nat_eq, nat_lt, slice_get, unwrap_or, not, IsTrue}
-use Rattle.std.specs.Cmp.{nat_cmp_total, unsigned_tied, nat_eq_equiv}
+use Rattle.std.specs.Prelude.{◌||◌, ◌&&◌, nat_eq, nat_lt, slice_get, unwrap_or, IsTrue}
+use Rattle.std.specs.Cmp.{nat_cmp_total, unsigned_tied}
 use Rattle.std.specs.Ordering.{nat_cmp}
 use Rattle.std.specs.FinSet as set
 use Rattle.std.specs.FinSet.{FinSet, nat_cmp-IsAntisymmetric}
 use Rattle.mls_facts.specs.Each.{each}
 use Rattle.mls_facts.proofs.Each.{contains-each}
 use Rattle.mls_labels.specs.Ascending.{numbers, ascending}
-use Rattle.mls_labels.specs.Label.{Label, has_label}
+use Rattle.mls_labels.specs.Label.{has_label}
 use Rattle.mls_labels.specs.LabelText.{written, name_at, words_after}
 use Rattle.mls_labels.specs.Scheme.{Scheme, IsScheme, bounds_of}
 use Rattle.mls_labels.specs.declared.limits.TheConstants.{MAX_LEVELS, MAX_CATEGORIES}

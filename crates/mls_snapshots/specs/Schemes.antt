@@ -1,5 +1,5 @@
 -- What two schemes write of the same labels.
-use Rattle.std.specs.Prelude.{◌≡◌, ℕ, ◌<◌, IsTrue}
+use Rattle.std.specs.Prelude.{◌≡◌, ℕ, IsTrue}
 use Rattle.std.specs.FinSet as set
 use Rattle.mls_labels.specs.Label.{Label, has_label}
 use Rattle.mls_labels.specs.LabelText.{written}

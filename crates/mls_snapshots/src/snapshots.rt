@@ -41,15 +41,15 @@ fn opens_alike(
 fn snapshot_of(alloc: Global, replay: &Replay) -> Result<String, SnapshotFault>
     ensures ok { IfOk result (λ text. IsSnapshotOf replay.now (string_bytes text)) }
     ensures few { IfOk result (λ text. string_len text ≤ START_LIMIT) }
-    ensures fault { IfErr result (λ fault. IsOwnFault fault) }
+    ensures fault { IfErr result (λ fault. IsOwnFault replay.now fault) }
 {
     let order = object_order(alloc, replay.state())?;
     let text = start_text(alloc, replay.names(), replay.state(), &order)?;
-    if text.len() > START_LIMIT {
-        return Err(SnapshotFault::TooLong);
-    }
     if !opens_alike(alloc, replay, &order, text.as_str())? {
         return Err(SnapshotFault::Differs);
+    }
+    if text.len() > START_LIMIT {
+        return Err(SnapshotFault::TooLong);
     }
     Ok(text)
 }

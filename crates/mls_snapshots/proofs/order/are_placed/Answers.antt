@@ -1,4 +1,4 @@
-use Rattle.std.proofs.Common.{ℕ, ◌<◌, length, refl, arith}
+use Rattle.std.proofs.Common.{ℕ, length, refl, arith}
 use Rattle.std.proofs.lemmas.Option.{slice_get_read}
 use Rattle.mls_snapshots.specs.Orders.{IsPlaced}
 use Rattle.mls_snapshots.proofs.Gets.{place_more, all_places}
