@@ -1,7 +1,7 @@
 """Comparisons of the examples with variants of themselves, with answers that were worked out by hand from docs/POLICY.md and docs/FORMATS.md."""
 import json
 
-from outside import put, ran_program, same
+from outside import EXAMPLES, examples, put, ran_program, same
 from question_rows import MEMO, OFFICE, STANDARD, STRANGE
 
 # sec makes #4, permits it to ann, who is below it; then ann takes the label that she has.
@@ -161,4 +161,17 @@ def faults_of_a_comparison():
         same((words, status, output, bool(error)), (words, 2, b"", True))
 
 
-CHECKS = [starts_that_are_compared, journals_that_are_asked_of_another_start, faults_of_a_comparison]
+def examples_compared():
+    """Each example agrees with itself, also over the journal of its script; with its subjects in another order too, whose numbers are others."""
+    for name in examples():
+        start = f"{EXAMPLES}/{name}.json"
+        assert ran_program(["run", "--journal", "run.journal", start, f"{EXAMPLES}/{name}.script"])[0] == 0
+        with open(start, encoding="ascii") as file:
+            data = json.load(file)
+        data["subjects"].reverse()
+        other = put("other.json", json.dumps(data).encode())
+        for words in ([start, start], [start, other], [other, start], [start, start, "run.journal"], [start, other, "run.journal"]):
+            told(words, "")
+
+
+CHECKS = [starts_that_are_compared, journals_that_are_asked_of_another_start, examples_compared, faults_of_a_comparison]
