@@ -8,8 +8,8 @@ import time
 
 from outside import EXAMPLES, PROVE, TOP, put, ran, same, shown
 
-# What the toolchain may take for a trial, in bytes.
-MEMORY_OF_A_TRIAL = 5_000_000_000
+# What the toolchain may take for a trial, in bytes, and what checks beside it may.
+MEMORY_OF_A_TRIAL = 7_000_000_000
 SECONDS_OF_A_TRIAL = 900
 SECONDS_OF_NOTHING = 30
 FOUR = b"ann get-read plans\nbob get-read memo\nann release read plans\nann check read plans\n"
