@@ -2,7 +2,8 @@
 ghost use Rattle.std.specs.Prelude.{◌≡◌, ◌++◌, codes, string_bytes, IsTrue, IfOk, OnOk};
 ghost use Rattle.mls_rules.specs.Rules.{is_defined, reply};
 ghost use Rattle.mls_requests.specs.ReplyWords.{reply_text};
-ghost use Rattle.mls_explanations.specs.Explained.{explanation, ExplainsDefined, ExplainsRequest, Explains, IsRemedyFor};
+ghost use Rattle.mls_explanations.specs.Explained.{explanation, ExplainsDefined, ExplainsRequest, Explains};
+ghost use Rattle.mls_explanations.specs.Explained.{IsRemedyFor};
 ghost use Rattle.mls_explanations.specs.Responses.{response_to, is_positive};
 
 use crate::asking::response_text;

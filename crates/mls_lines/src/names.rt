@@ -31,7 +31,12 @@ impl<A: Allocator> Model for Names<A> {
 
     ghost coded = { names_code };
 
-    ghost view = { λ n. record { subjects = n.subjects; objects = n.objects; security = n.security; integrity = n.integrity } };
+    ghost view = { λ n. record {
+      subjects = n.subjects;
+      objects = n.objects;
+      security = n.security;
+      integrity = n.integrity;
+    } };
 
     ghost invariant = { λ n. (length n.subjects ≤ MAX_SUBJECTS) × (length n.objects ≤ MAX_OBJECTS) };
 }

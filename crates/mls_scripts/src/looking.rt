@@ -1,5 +1,6 @@
 //! What a script that is fed asks next, what it asks ahead, and how that waits.
-ghost use Rattle.std.specs.Prelude.{◌≡◌, ◌≢◌, ◌<◌, ◌≤◌, ◌++◌, ◌∷◌, [], length, option_map, not, nat_lt, IfSome, IfOk, OnOk};
+ghost use Rattle.std.specs.Prelude.{◌≡◌, ◌≢◌, ◌<◌, ◌≤◌, ◌++◌, ◌∷◌, [], length, option_map, not, nat_lt};
+ghost use Rattle.std.specs.Prelude.{IfSome, IfOk, OnOk};
 ghost use Rattle.std.specs.VecDeque.{deque_len, deque_capacity};
 ghost use Rattle.mls_scripts.specs.Lines.{lines_of};
 ghost use Rattle.mls_scripts.specs.Halves.{next_of};

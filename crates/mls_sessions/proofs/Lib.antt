@@ -9,3 +9,4 @@ mod Lists
 pub mod Laws
 mod Runs
 mod Feeds
+mod RunSteps

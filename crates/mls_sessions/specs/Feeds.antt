@@ -184,7 +184,7 @@ module _ {F : Type 0} (gives : F → Option Ask → F → Type 0) (gives_ahead :
   abbrev pub AllTold : Asked → State → List Entry → List Entry → ℕ → List F → List F → Type 0
   AllTold worst start before since k [] [] = Unit {0}
   AllTold worst start before since k (f ∷ fs) (g ∷ gs) =
-      ((asked : Asked) × (turns : List Turn) × (last : List Exchange) × NoWorse asked worst × FeedEnds asked f turns last g
-      × AreTold start k before since (in_turns turns ++ last))
+      ((asked : Asked) × (turns : List Turn) × (last : List Exchange) × NoWorse asked worst
+      × FeedEnds asked f turns last g × AreTold start k before since (in_turns turns ++ last))
       × AllTold worst start before since (k + 1) fs gs
   AllTold worst start before since k fs gs = ⊥

@@ -108,7 +108,7 @@ fn make_room<F>(alloc: Global, n: usize) -> Result<(Vec<Session>, Vec<F>), Alloc
 }
 
 /// Asks all feeds in the office that was opened for them, and closes it.
-#[tactic(auto, using(crate::proofs::Runs::returned_ascending, crate::proofs::Runs::grew, crate::proofs::Feeds::all_fed, crate::proofs::Feeds::all_told))]
+#[tactic(auto, using(crate::proofs::RunSteps::run_of_feeds))]
 pub(crate) fn run_open<R: Threads + Wait + Sync, F: Feed + Send + Drop>(
     rt: &R,
     alloc: Global,
@@ -170,7 +170,7 @@ fn ended<F: Feed>(left: (Monitor, Vec<F>, Asked)) -> Result<RunDone<F>, RunFault
 /// `BadCount` where there isn't one feed, to [`MAX_SESSIONS`] feeds; the monitor and the feeds are then as they were
 /// handed in. Else `Memory` where an allocation failed, also in a session's request: that feed is told so, and the
 /// others run on. Else `Thread` where a thread couldn't be started: its feed is asked nothing, and the others run on.
-#[tactic(auto, using(crate::proofs::Runs::grew_none, crate::proofs::Feeds::untold, crate::proofs::Feeds::untold_refused))]
+#[tactic(auto, using(crate::proofs::RunSteps::no_run))]
 pub fn run_sessions<R: Threads + Wait + Sync, F: Feed + Send + Drop>(
     rt: &R,
     alloc: Global,

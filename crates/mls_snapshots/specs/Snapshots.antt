@@ -40,8 +40,8 @@ RefusesSnapshot bytes journal at (Question cause) = RefusesAt bytes journal at c
 RefusesSnapshot bytes journal at TooLong = (r : Replayed) × ReplaysAt bytes journal at r × HasLongSnapshot r
 RefusesSnapshot bytes journal at Differs = (r : Replayed) × ReplaysAt bytes journal at r
 
--- A fault that writing and reading back may have: memory; that a text of the state is too long; or that what was written
--- isn't one of that state, which is only said. (own)
+-- A fault that writing and reading back may have: memory; that a text of the state is too long; or that what was
+-- written isn't one of that state, which is only said. (own)
 abbrev pub IsOwnFault : Replayed → SnapshotFault → Type 0
 IsOwnFault r (Question cause) = cause ≡ Files Memory
 IsOwnFault r TooLong = HasLongSnapshot r

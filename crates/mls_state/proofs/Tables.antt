@@ -55,6 +55,11 @@ module _ {A : Type 0} (a : Inside A) where
     pub access_column : (o : ℕ) → is_active (state_of a) o ≡ true → o < a.accesses.columns
     access_column o active = let below : o < length a.objects.items = label_place o active in let wide : length a.objects.items ≤ a.accesses.columns = h.access_columns in omega arith
 
+    -- where a known subject and an active object stand in a table
+    pub ruleset matrix_place = (matrix_row, matrix_column)
+    pub ruleset access_place = (access_row, access_column)
+    pub ruleset both_places = (matrix_row, matrix_column, access_row, access_column)
+
     -- the labels at the place of an active object
     pub security-at : (o : ℕ) (x : ObjectLabels) → is_active (state_of a) o ≡ true → x ≡ get_or a.objects.items o x → map.get (state_of a).object_label o ≡ Some x.security
     security-at o x active is = get-kept (λ (y : ObjectLabels). y.security) a.objects.items (tree.is_active a.tree.parent) o x (in_tree o active) (label_place o active) is

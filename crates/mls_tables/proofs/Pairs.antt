@@ -46,6 +46,9 @@ other_low p x odd is four =
     let bits : (p.bits / 16 * 16 + x) / 16 ≡ p.bits / 16 = omega arith in
     sym (half_odd (record { bits = p.bits / 16 * 16 + x }) (not odd) other) ∙ ap modes_of bits ∙ half_odd p (not odd) other
 
+-- what a pair's cells are where one is written
+pub ruleset written_halves = (own_high, own_low, other_high, other_low)
+
 -- the pair of a subject is one of a column's
 pub half_lt : (s n : ℕ) → s < n → s / 2 < width n
 half_lt s n subject = omega arith

@@ -28,7 +28,9 @@ impl Model for Modes {
 
     ghost inverse = { λ s. record { bits = bits_of s } };
 
-    ghost inverse_ok = { λ a h i. record { bits = bits_of_keys-keys_of_bits mode_number all_modes 4 a.bits refl refl h i } };
+    ghost inverse_ok = { λ a h i. record {
+      bits = bits_of_keys-keys_of_bits mode_number all_modes 4 a.bits refl refl h i;
+    } };
 }
 
 impl Modes {

@@ -34,7 +34,7 @@ impl Pair {
     }
 
     /// The pair with these modes as one of its cells.
-    #[tactic(auto, using(crate::proofs::Pairs::own_high, crate::proofs::Pairs::own_low, crate::proofs::Pairs::other_high, crate::proofs::Pairs::other_low))]
+    #[tactic(auto, using(crate::proofs::Pairs::written_halves))]
     fn with_half(self, odd: bool, modes: Modes) -> Pair
         ensures own { half result odd ≡ modes }
         ensures other { half result (not odd) ≡ half self (not odd) }

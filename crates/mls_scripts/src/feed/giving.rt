@@ -56,9 +56,9 @@ impl<'a> Feed for ScriptFeed<'a> {
         }
     }
 
-    /// What the next line asks that asks something, where it binds no variable and neither a fault nor a line that binds
-    /// one stands before it: these wait for their turn. It doesn't allocate: there is room for as many asks as a session
-    /// makes in one turn, and once that is full nothing is given.
+    /// What the next line asks that asks something, where it binds no variable and neither a fault nor a line that
+    /// binds one stands before it: these wait for their turn. It doesn't allocate: there is room for as many asks as a
+    /// session makes in one turn, and once that is full nothing is given.
     fn ahead(&mut self) -> Option<Ask>
         ensures some { IfSome result
             (λ ask. (length self.new.rest < length self.old.rest) × (self.new.stage ≡ stage.Waiting)

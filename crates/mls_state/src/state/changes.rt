@@ -17,7 +17,7 @@ impl<A: Allocator> State<A> {
     ///
     /// # Errors
     /// `AllocError` where an allocation failed; the state is then as before.
-    #[tactic(auto, using(crate::proofs::Tables::access_row, crate::proofs::Tables::access_column, crate::proofs::Changes::agrees_put))]
+    #[tactic(auto, using(crate::proofs::Tables::access_place, crate::proofs::Changes::agrees_put))]
     pub fn put_access(&mut self, s: SubjectId, o: ObjectId, x: Mode) -> Result<bool, AllocError>
         requires subject { IsTrue (is_subject self.old s) }
         requires object { IsTrue (is_active self.old o) }
@@ -30,7 +30,7 @@ impl<A: Allocator> State<A> {
     }
 
     /// Takes out a current access, and returns whether it was there: what a release changes.
-    #[tactic(auto, using(crate::proofs::Tables::access_row, crate::proofs::Tables::access_column, crate::proofs::Changes::agrees_removed))]
+    #[tactic(auto, using(crate::proofs::Tables::access_place, crate::proofs::Changes::agrees_removed))]
     pub fn remove_access(&mut self, s: SubjectId, o: ObjectId, x: Mode) -> bool
         requires subject { IsTrue (is_subject self.old s) }
         requires object { IsTrue (is_active self.old o) }
@@ -42,7 +42,7 @@ impl<A: Allocator> State<A> {
 
     /// Takes a triple out of the matrix and out of the current accesses: what a rescind changes. It doesn't ask who
     /// controls the object.
-    #[tactic(auto, using(crate::proofs::Tables::access_row, crate::proofs::Tables::access_column, crate::proofs::Tables::matrix_row, crate::proofs::Tables::matrix_column, crate::proofs::Changes::agrees_rescinded))]
+    #[tactic(auto, using(crate::proofs::Tables::both_places, crate::proofs::Changes::agrees_rescinded))]
     pub fn rescind(&mut self, s: SubjectId, o: ObjectId, x: Mode)
         requires subject { IsTrue (is_subject self.old s) }
         requires object { IsTrue (is_active self.old o) }

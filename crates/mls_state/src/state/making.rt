@@ -75,7 +75,7 @@ impl<A: Allocator> State<A> {
     }
 
     /// Puts a triple into the matrix: what a give changes. It doesn't ask who controls the object.
-    #[tactic(auto, using(crate::proofs::Tables::matrix_row, crate::proofs::Tables::matrix_column, crate::proofs::Changes::agrees_given))]
+    #[tactic(auto, using(crate::proofs::Tables::matrix_place, crate::proofs::Changes::agrees_given))]
     pub fn give(&mut self, s: SubjectId, o: ObjectId, x: Mode)
         requires subject { IsTrue (is_subject self.old s) }
         requires object { IsTrue (is_active self.old o) }
