@@ -7,7 +7,10 @@ use Rattle.mls_requests.specs.ReasonWords.{reason_word}
 use Rattle.mls_lines.specs.declared.fault.LineFault.{LineFault}
 use Rattle.mls_lines.specs.declared.fault.LineFault.TheVariants.{BadForm, UnknownName, BadLabel}
 use Rattle.mls_lines.specs.Fault.{fault_text}
-use Rattle.mls_scripts.specs.Script.{Standing}
+use Rattle.mls_lines.specs.Names.{Names}
+use Rattle.mls_lines.specs.ScriptLine.{line_of}
+use Rattle.mls_scripts.specs.declared.answer.Answer.{Answer}
+use Rattle.mls_scripts.specs.Script.{Standing, said_to, left_by, answer_bytes, answer_to, after_line}
 use Rattle.mls_scripts.specs.Serve.{Writes, Replies}
 use Rattle.mls_scripts.specs.declared.serving.ServeFault.{ServeFault}
 use Rattle.mls_scripts.specs.declared.serving.ServeFault.TheVariants.{Read, Write, Memory, TooLong}
@@ -49,3 +52,11 @@ written_reply held holds before after next text (Err Read) w stands = w
 written_reply held holds before after next text (Err Write) w stands = (w.0, w.1, w.2, w.3, w.4, stands)
 written_reply held holds before after next text (Err Memory) w stands = absurd w
 written_reply held holds before after next text (Err TooLong) w stands = w
+
+-- the answer to a line that was written, or broke off, after the line was asked
+pub written_answer : {X : Type 0} (held holds : Option (List ℕ)) (names : Names) (session : ℕ) (before after : Standing) (line : List ℕ) (answer : Answer) (result : Result X ServeFault)
+    → Writes held holds (answer_bytes answer) result → answer ≡ said_to before (line_of names before.vars line) → after ≡ left_by session before (line_of names before.vars line)
+    → Replies held holds before after (answer_to names before line) (after_line names session before line) result
+unfolding answer_to after_line
+written_answer held holds names session before after line answer result w said stands =
+    written_reply held holds before after _ _ result (subst (λ a. Writes held holds (answer_bytes a) result) said w) stands

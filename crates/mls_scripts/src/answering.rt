@@ -28,7 +28,7 @@ impl<N: Allocator, V: Allocator + Copy> Answering<'_, N, V> {
     /// # Errors
     /// - `Write` where the writer failed within the answer; the line was asked.
     /// - `Memory` where the line was not asked.
-    #[tactic(auto, using(crate::proofs::Texts::written_reply), unfolding(crate::specs::Script::answer_to, crate::specs::Script::after_line))]
+    #[tactic(auto, using(crate::proofs::Texts::written_answer))]
     pub(crate) fn reply<W: Write, A: Allocator>(
         &mut self,
         monitor: &mut Monitor<A>,
