@@ -9,6 +9,7 @@ use crate::gets::push_gets;
 use crate::only::push_only;
 use crate::shared::{shared_objects, shared_subjects};
 use mls_lines::Names;
+use mls_monitor::Start;
 use mls_rules::State;
 use mls_starts::Loaded;
 use mls_wording::Answer;
@@ -45,28 +46,45 @@ fn push_shared(
     Ok(())
 }
 
+/// Appends the lines of the gets, of subjects and objects that both starts have, that a state and a start's opening
+/// answer otherwise.
+fn push_second(
+    alloc: Global,
+    text: &mut String,
+    first: &Names,
+    second: &Names,
+    opened: &State,
+    start: &Start,
+) -> Result<(), AllocError>
+    ensures { OnOk result (string_bytes text.new ≡ string_bytes text.old
+        ++ gets_text first.now opened.now start.now
+        (shared first.now.subjects second.now.subjects MAX_SUBJECTS)
+        (shared first.now.objects second.now.objects MAX_OBJECTS)) }
+{
+    let other = start.opening(alloc)?;
+    let pushed = push_shared(alloc, text, first, second, (opened, &other));
+    drop(other);
+    pushed
+}
+
 /// Appends the lines of the gets, of subjects and objects that both starts have, that the two openings answer
 /// otherwise.
 fn push_openings(
     alloc: Global,
     text: &mut String,
-    first: &Loaded,
-    second: &Loaded,
+    first: &Names,
+    second: &Names,
+    starts: (&Start, &Start),
 ) -> Result<(), AllocError>
     ensures { OnOk result (string_bytes text.new ≡ string_bytes text.old
-        ++ gets_text first.now.names first.now.start second.now.start
-        (shared first.now.names.subjects second.now.names.subjects MAX_SUBJECTS)
-        (shared first.now.names.objects second.now.names.objects MAX_OBJECTS)) }
+        ++ gets_text first.now starts.entry.0.now starts.entry.1.now
+        (shared first.now.subjects second.now.subjects MAX_SUBJECTS)
+        (shared first.now.objects second.now.objects MAX_OBJECTS)) }
 {
-    let opened = first.start().opening(alloc)?;
-    let other = second.start().opening(alloc)?;
-    push_shared(
-        alloc,
-        text,
-        first.names(),
-        second.names(),
-        (&opened, &other),
-    )
+    let opened = starts.0.opening(alloc)?;
+    let pushed = push_second(alloc, text, first, second, &opened, starts.1);
+    drop(opened);
+    pushed
 }
 
 /// A text of differences as an answer: a positive one where there is none.
@@ -95,6 +113,12 @@ pub(crate) fn compare_starts(
     has_few_names(second);
     let mut text = String::new(alloc);
     push_only(&mut text, words, first.names(), second.names())?;
-    push_openings(alloc, &mut text, first, second)?;
+    push_openings(
+        alloc,
+        &mut text,
+        first.names(),
+        second.names(),
+        (first.start(), second.start()),
+    )?;
     Ok(answer(text))
 }

@@ -133,8 +133,10 @@ impl<A: Allocator + Copy> Names<A> {
         ensures memory { IfErr result
             (λ fault. fault ≡ NamesFault.Memory → fault_of_counts (texts subjects.now) (texts objects.now) ≡ None) }
     {
-        let (subjects, objects) = name_sets(alloc, subjects, objects)?;
-        Ok(Names::of_sets(subjects, objects, security, integrity))
+        match name_sets(alloc, subjects, objects) {
+            Ok(sets) => Ok(Names::of_sets(sets.0, sets.1, security, integrity)),
+            Err(fault) => Err(fault),
+        }
     }
 }
 

@@ -5,19 +5,24 @@ use Rattle.std.specs.FinSet as set
 use Rattle.std.specs.FinMap as table
 use Rattle.std.specs.List.{flat_map}
 use Rattle.mls_labels.specs.Label.{Label}
+use Rattle.mls_tables.specs.declared.mode.Mode.{Mode}
 use Rattle.mls_tables.specs.declared.mode.Mode.TheVariants.{Read, Append, Write}
 use Rattle.mls_state.specs.State.{State, is_above}
 use Rattle.mls_lint.specs.Dead.{is_live}
 use Rattle.mls_lint.specs.Findings.{subjects, objects}
 use Rattle.mls_lint.specs.declared.downflow.Downflow.{Downflow}
 
+-- Whether a subject has a permission on an object, in a mode or to write, that isn't dead. (own)
+abbrev pub has_live : State → ℕ → Mode → ℕ → Bool
+has_live v s x o = is_live v (s, o, x) || is_live v (s, o, Write)
+
 -- Whether a subject may observe an object by a permission that isn't dead. (MTR-2997, access attributes)
 abbrev pub may_observe : State → ℕ → ℕ → Bool
-may_observe v s o = is_live v (s, o, Read) || is_live v (s, o, Write)
+may_observe v s o = has_live v s Read o
 
 -- Whether a subject may alter an object by a permission that isn't dead. (MTR-2997, access attributes)
 abbrev pub may_alter : State → ℕ → ℕ → Bool
-may_alter v s o = is_live v (s, o, Append) || is_live v (s, o, Write)
+may_alter v s o = has_live v s Append o
 
 -- Whether an object's label doesn't dominate a label that something came from. (own)
 abbrev pub is_not_above : State → Option Label → ℕ → Bool

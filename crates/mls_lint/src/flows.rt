@@ -7,16 +7,16 @@ ghost use Rattle.std.specs.Option.{option_or};
 ghost use Rattle.mls_tables.specs.declared.limits.TheConstants.{MAX_OBJECTS};
 ghost use Rattle.mls_state.specs.State.{is_subject, is_active};
 ghost use Rattle.mls_lint.specs.Findings.{objects};
-ghost use Rattle.mls_lint.specs.Flows.{may_observe, may_alter, count_not_above, pairs_from, flow_of_pairs, flow_of};
+ghost use Rattle.mls_lint.specs.Flows.{has_live, count_not_above, pairs_from, flow_of_pairs, flow_of};
 ghost use Rattle.mls_lint.specs.Flows.{flows_of, downflows};
 
 use crate::counting::{Count, counted, is_not_above};
 use crate::downflow::Downflow;
 use crate::known::{objects, subjects};
-use crate::live::{may_alter, may_observe};
+use crate::live::has_live;
 use mls_labels::SecLabel;
 use mls_state::State;
-use mls_tables::{ObjectId, SubjectId};
+use mls_tables::{Mode, ObjectId, SubjectId};
 use std::alloc::{AllocError, Allocator, Global};
 
 /// How many pairs of objects there are, and the first of them.
@@ -26,44 +26,23 @@ struct Pairs {
     first: Option<(ObjectId, ObjectId)>,
 }
 
-/// Those of some objects that the subject may observe by a permission that isn't dead.
-fn observed<A: Allocator>(
+/// Those of some objects on which the subject has a permission, in this mode or to write, that isn't dead.
+fn permitted<A: Allocator>(
     alloc: Global,
     state: &State<A>,
     s: SubjectId,
     objects: &[ObjectId],
+    x: Mode,
 ) -> Result<Vec<ObjectId>, AllocError>
     requires subject { IsTrue (is_subject state.now s) }
     requires active { All (λ o. IsTrue (is_active state.now o)) objects.now }
-    ensures list { IfOk result (λ found. found.items ≡ filter (may_observe state.now s) objects.now) }
+    ensures list { IfOk result (λ found. found.items ≡ filter (has_live state.now s x) objects.now) }
     ensures active { IfOk result (λ found. All (λ o. IsTrue (is_active state.now o)) found.items) }
     ensures few { IfOk result (λ found. length found.items ≤ length objects.now) }
 {
     let mut found = Vec::new(alloc);
     for o in objects {
-        if may_observe(state, s, *o) {
-            found.push(*o)?;
-        }
-    }
-    Ok(found)
-}
-
-/// Those of some objects that the subject may alter by a permission that isn't dead.
-fn altered<A: Allocator>(
-    alloc: Global,
-    state: &State<A>,
-    s: SubjectId,
-    objects: &[ObjectId],
-) -> Result<Vec<ObjectId>, AllocError>
-    requires subject { IsTrue (is_subject state.now s) }
-    requires active { All (λ o. IsTrue (is_active state.now o)) objects.now }
-    ensures list { IfOk result (λ found. found.items ≡ filter (may_alter state.now s) objects.now) }
-    ensures active { IfOk result (λ found. All (λ o. IsTrue (is_active state.now o)) found.items) }
-    ensures few { IfOk result (λ found. length found.items ≤ length objects.now) }
-{
-    let mut found = Vec::new(alloc);
-    for o in objects {
-        if may_alter(state, s, *o) {
+        if has_live(state, s, *o, x) {
             found.push(*o)?;
         }
     }
@@ -193,8 +172,8 @@ fn flow_of<A: Allocator>(
     if !state.is_trusted(s) {
         return Ok(None);
     }
-    let observed = observed(alloc, state, s, all)?;
-    let altered = altered(alloc, state, s, all)?;
+    let observed = permitted(alloc, state, s, all, Mode::Read)?;
+    let altered = permitted(alloc, state, s, all, Mode::Append)?;
     let pairs = pairs_among(alloc, state, &observed, &altered)?;
     Ok(flow_from(s, pairs))
 }

@@ -7,7 +7,7 @@ ghost use Rattle.mls_requests.specs.declared.reason.Reason.{Reason as ReasonName
 ghost use Rattle.mls_state.specs.State.{is_subject, is_active};
 ghost use Rattle.mls_lint.specs.Dead.{IsDead, IsReason, obstacle, is_live};
 ghost use Rattle.mls_lint.specs.Findings.{may_use};
-ghost use Rattle.mls_lint.specs.Flows.{may_observe, may_alter};
+ghost use Rattle.mls_lint.specs.Flows.{has_live};
 
 use mls_requests::Reason;
 use mls_state::{State, integrity_holds, simple_holds};
@@ -72,22 +72,12 @@ pub(crate) fn may_use<A: Allocator>(state: &State<A>, s: SubjectId, o: ObjectId)
                 || is_live(state, modes, s, o, Mode::Write)))
 }
 
-/// Whether a subject may observe an object by a permission that isn't dead.
-pub(crate) fn may_observe<A: Allocator>(state: &State<A>, s: SubjectId, o: ObjectId) -> bool
+/// Whether a subject has a permission on an object, in this mode or to write, that isn't dead.
+pub(crate) fn has_live<A: Allocator>(state: &State<A>, s: SubjectId, o: ObjectId, x: Mode) -> bool
     requires subject { IsTrue (is_subject state.now s) }
     requires object { IsTrue (is_active state.now o) }
-    ensures { result ≡ may_observe state.now s o }
+    ensures { result ≡ has_live state.now s x o }
 {
     let modes = state.allowed(s, o);
-    is_live(state, modes, s, o, Mode::Read) || is_live(state, modes, s, o, Mode::Write)
-}
-
-/// Whether a subject may alter an object by a permission that isn't dead.
-pub(crate) fn may_alter<A: Allocator>(state: &State<A>, s: SubjectId, o: ObjectId) -> bool
-    requires subject { IsTrue (is_subject state.now s) }
-    requires object { IsTrue (is_active state.now o) }
-    ensures { result ≡ may_alter state.now s o }
-{
-    let modes = state.allowed(s, o);
-    is_live(state, modes, s, o, Mode::Append) || is_live(state, modes, s, o, Mode::Write)
+    is_live(state, modes, s, o, x) || is_live(state, modes, s, o, Mode::Write)
 }

@@ -11,7 +11,7 @@ use crate::load_fault::LoadFault;
 use crate::object_text::{ChildText, ObjectText};
 use crate::subject_text::SubjectText;
 use mls_labels::{NameSet, NameSetFault, is_name};
-use std::alloc::Global;
+use std::alloc::{AllocError, Global};
 
 /// The names of the subjects and of the objects, whose places are their numbers.
 #[derive(Drop)]
@@ -53,6 +53,21 @@ fn make_set(alloc: Global, names: &[&str]) -> Result<NameSet, LoadFault>
     }
 }
 
+/// The texts that name the subjects.
+fn subject_texts<'a>(
+    alloc: Global,
+    subjects: &[SubjectText<'a>],
+) -> Result<Vec<&'a str>, AllocError>
+    ensures { IfOk result
+        (λ texts. map (λ text. text.now) texts.items ≡ map (λ s. s.name) (map subject_view subjects.now)) }
+{
+    let mut texts = Vec::with_capacity(alloc, subjects.len())?;
+    for subject in subjects {
+        texts.push(subject.name)?;
+    }
+    Ok(texts)
+}
+
 /// The names of the subjects.
 ///
 /// # Errors
@@ -64,12 +79,27 @@ fn subject_set(alloc: Global, subjects: &[SubjectText<'_>]) -> Result<NameSet, L
         (λ fault. fault ≢ LoadFault.Memory → (fault ≡ LoadFault.Name)
         × (are_names (map (λ s. s.name) (map subject_view subjects.now)) ≡ false)) }
 {
-    let mut names = Vec::with_capacity(alloc, subjects.len())?;
-    for subject in subjects {
-        names.push(subject.name)?;
+    let texts = subject_texts(alloc, subjects)?;
+    let set = make_set(alloc, &texts);
+    drop(texts);
+    set
+}
+
+/// The texts that name the root and the objects below it.
+fn object_texts<'a>(
+    alloc: Global,
+    root: &ObjectText<'a>,
+    children: &[ChildText<'a>],
+) -> Result<Vec<&'a str>, AllocError>
+    ensures { IfOk result (λ texts. map (λ text. text.now) texts.items
+        ≡ root.now.name.now ∷ map (λ c. c.object.name) (map child_view children.now)) }
+{
+    let mut texts = Vec::new(alloc);
+    texts.push(root.name)?;
+    for child in children {
+        texts.push(child.object.name)?;
     }
-    let set = make_set(alloc, &names)?;
-    Ok(set)
+    Ok(texts)
 }
 
 /// The names of the root and of the objects below it.
@@ -88,13 +118,10 @@ fn object_set(
         (λ fault. fault ≢ LoadFault.Memory → (fault ≡ LoadFault.Name)
         × (are_names (root.now.name.now ∷ map (λ c. c.object.name) (map child_view children.now)) ≡ false)) }
 {
-    let mut names = Vec::new(alloc);
-    names.push(root.name)?;
-    for child in children {
-        names.push(child.object.name)?;
-    }
-    let set = make_set(alloc, &names)?;
-    Ok(set)
+    let texts = object_texts(alloc, root, children)?;
+    let set = make_set(alloc, &texts);
+    drop(texts);
+    set
 }
 
 impl NameSets {

@@ -2,6 +2,7 @@
 ghost use Rattle.std.specs.Prelude.{◌≡◌, ℕ, nat_lt, ◌≤◌, ◌+◌, IsTrue, None, IfOk, OnOk, All, length};
 ghost use Rattle.mls_tables.specs.declared.limits.TheConstants.{MAX_SUBJECTS, MAX_OBJECTS};
 ghost use Rattle.mls_state.specs.State.{is_active};
+ghost use Rattle.mls_state.specs.First.{first_state};
 ghost use Rattle.mls_state.specs.Properties.{is_known};
 ghost use Rattle.mls_builder.specs.Growing.{with_rows, with_cells_and_accesses};
 ghost use Rattle.mls_builder.specs.Rows.{opening, object_count};
@@ -84,6 +85,20 @@ impl<A: Allocator> StartBuilder<A> {
     }
 }
 
+impl<A: Allocator> StartBuilder<A> {
+    /// Adds the objects of the rows, with which nothing is wrong, to their first state, and puts in their triples.
+    fn fill(&self, state: &mut State<A>) -> Result<(), AllocError>
+        requires faultless { start_fault self.now ≡ None }
+        requires first { state.old
+            ≡ first_state self.now.subjects self.now.root self.now.security self.now.integrity self.now.profile }
+        ensures { OnOk result (state.new ≡ opening self.now) }
+    {
+        add_objects(state, &self.objects)?;
+        put_triples(state, &self.cells, &self.accesses)?;
+        Ok(())
+    }
+}
+
 impl<A: Allocator + Clone> StartBuilder<A> {
     /// The state of the rows, with which nothing is wrong.
     pub(crate) fn opening(&self, alloc: A) -> Result<State<A>, AllocError>
@@ -98,8 +113,7 @@ impl<A: Allocator + Clone> StartBuilder<A> {
             self.integrity,
             self.profile,
         )?;
-        add_objects(&mut state, &self.objects)?;
-        put_triples(&mut state, &self.cells, &self.accesses)?;
+        self.fill(&mut state)?;
         Ok(state)
     }
 }

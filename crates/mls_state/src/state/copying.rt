@@ -1,5 +1,6 @@
 //! The first state of some subjects and the root, and copies of states.
 ghost use Rattle.std.specs.Prelude.{◌≡◌, ◌≤◌, IfOk, length, [], ◌∷◌};
+ghost use Rattle.std.specs.FinMap as map;
 ghost use Rattle.std.specs.FinSet as set;
 ghost use Rattle.mls_tables.specs.declared.limits.TheConstants.{MAX_SUBJECTS};
 ghost use Rattle.mls_state.specs.First.{first_state};
@@ -37,6 +38,13 @@ fn copy_tables<A: Allocator + Clone>(
     Ok((permitted, accesses.duplicate(alloc.clone()?)?))
 }
 
+/// A tree, copied.
+fn copy_tree<A: Allocator + Clone>(alloc: &A, tree: &Tree<A>) -> Result<Tree<A>, AllocError>
+    ensures { IfOk result (λ copy. copy ≡ tree.now) }
+{
+    tree.duplicate(alloc.clone()?)
+}
+
 /// Both tables of so many subjects and the root, empty.
 fn first_tables<A: Allocator + Clone>(
     alloc: &A,
@@ -53,6 +61,13 @@ fn first_tables<A: Allocator + Clone>(
     let mut accesses = AccessSet::new(alloc.clone()?, count)?;
     accesses.add_object()?;
     Ok((matrix, accesses))
+}
+
+/// The tree of the root alone.
+fn first_tree<A: Allocator + Clone>(alloc: &A, profile: Profile) -> Result<Tree<A>, AllocError>
+    ensures { IfOk result (λ t. t ≡ record { profile = profile; parent = map.empty; next = 1 }) }
+{
+    Tree::new(alloc.clone()?, profile)
 }
 
 /// What is known of some subjects, copied, and the labels of the root alone.
@@ -86,9 +101,9 @@ impl<A: Allocator + Clone> State<A> {
         requires few { length subjects.now ≤ MAX_SUBJECTS }
         ensures { IfOk result (λ v. v ≡ first_state subjects.now root security integrity profile) }
     {
+        let tree = first_tree(&alloc, profile)?;
         let rows = first_rows(&alloc, subjects, root)?;
         let tables = first_tables(&alloc, subjects.len() as u16)?;
-        let tree = Tree::new(alloc.clone()?, profile)?;
         let group = Vec::new(alloc);
         Ok(State {
             subjects: rows.0,
@@ -109,9 +124,9 @@ impl<A: Allocator + Clone> State<A> {
     pub fn duplicate(&self, alloc: A) -> Result<State<A>, AllocError>
         ensures { IfOk result (λ v. v ≡ self.now) }
     {
+        let tree = copy_tree(&alloc, &self.tree)?;
         let rows = copy_rows(&alloc, &self.subjects, &self.objects)?;
         let tables = copy_tables(&alloc, &self.matrix, &self.accesses)?;
-        let tree = self.tree.duplicate(alloc.clone()?)?;
         Ok(State {
             subjects: rows.0,
             objects: rows.1,
