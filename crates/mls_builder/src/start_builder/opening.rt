@@ -83,9 +83,7 @@ impl<A: Allocator> StartBuilder<A> {
     {
         self.integrity
     }
-}
 
-impl<A: Allocator> StartBuilder<A> {
     /// Adds the objects of the rows, with which nothing is wrong, to their first state, and puts in their triples.
     fn fill(&self, state: &mut State<A>) -> Result<(), AllocError>
         requires faultless { start_fault self.now ≡ None }
