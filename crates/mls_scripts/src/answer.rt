@@ -82,8 +82,8 @@ impl<N: Allocator> Script<'_, N> {
         ensures bound { IfOk result
             (λ r. vars.new.bound ≡ vars_after vars.old.bound (option_map (λ name. name.now) bind.entry) r) }
         ensures start { monitor.new.start ≡ monitor.old.start }
-        ensures entries { OnOk result (monitor.new.entries
-            ≡ monitor.old.entries ++ entry_for self.now.session (standing_of vars.old.bound monitor.old) request.now ∷ []) }
+        ensures entries { OnOk result (monitor.new.entries ≡ monitor.old.entries
+            ++ entry_for self.now.session (standing_of vars.old.bound monitor.old) request.now ∷ []) }
         ensures err { OnErr result (standing_of vars.new.bound monitor.new ≡ standing_of vars.old.bound monitor.old) }
     {
         let room = make_room(vars, bind)?;
