@@ -1,6 +1,6 @@
 //! Taking objects whose numbers follow one another out of the lists of those who access them.
-ghost use Rattle.std.specs.Prelude.{◌≡◌, ℕ, ◌<◌, ◌≤◌, ◌+◌, ◌==◌, ◌&&◌, Bool, not, [], List, All, length, slice_index_or};
-ghost use Rattle.std.specs.Prelude.{slice_index, slice_set, true, false, IsTrue, if◌then◌else◌};
+ghost use Rattle.std.specs.Prelude.{◌≡◌, ℕ, ◌<◌, ◌≤◌, ◌+◌, ◌==◌, ◌&&◌, Bool, not, [], List, All, length};
+ghost use Rattle.std.specs.Prelude.{slice_index_or, slice_index, slice_set, true, false, IsTrue, if◌then◌else◌};
 ghost use Rattle.std.specs.List.{list_any};
 ghost use Rattle.std.specs.List.Sorted.{IsStrictlyIncreasing};
 ghost use Rattle.mls_tables.specs.declared.limits.TheConstants.{MAX_SUBJECTS, MAX_OBJECTS};
