@@ -1,5 +1,6 @@
 -- Who accesses what, as the set of triples changes.
-use Rattle.std.specs.Prelude.{◌≡◌, ℕ, ◌<◌, ◌↔◌, Bool, true, false, not, ◌&&◌, ◌||◌, IsTrue, refl}
+use Rattle.std.specs.Prelude.{◌≡◌, ℕ, ◌<◌, ◌↔◌, Bool, true, false, not, ◌&&◌, ◌||◌, IsTrue, List, refl}
+use Rattle.std.specs.List.{list_any}
 use Rattle.std.specs.FinSet as set
 use Rattle.std.proofs.Common.{◌⊎◌, inl, inr, sym, ap, subst, ◌∙◌, eqb}
 use Rattle.std.proofs.lemmas.Bool.{cases_eq, cases_Bool, eq-eqb, ne_eqb, eqb-true, and_parts, false_from_ne_true, false≢true}
@@ -8,9 +9,9 @@ use Rattle.mls_tables.specs.declared.mode.Mode.{Mode}
 use Rattle.mls_tables.specs.declared.mode.Mode.TheVariants.{Execute, Read, Append, Write}
 use Rattle.mls_tables.specs.Mode.{mode_cmp, ModeSet}
 use Rattle.mls_tables.specs.Triples.{TripleSet, triple_cmp, is_triple}
-use Rattle.mls_tables.specs.Table.{IsWithin, without_object}
+use Rattle.mls_tables.specs.Table.{IsWithin, without_objects}
 use Rattle.mls_tables.specs.Held.{is_held}
-use Rattle.mls_tables.proofs.Laws.{held_at, held_in, same_modes, is_triple-itself, contains-insert-triple, contains-remove-triple, contains-without_object}
+use Rattle.mls_tables.proofs.Laws.{held_at, held_in, same_modes, is_triple-itself, contains-insert-triple, contains-remove-triple, contains-without_objects}
 
 -- two sets with the same modes there
 pub held_alike : (b c : TripleSet) (s o : ℕ) → ((x : Mode) → set.contains b (s, o, x) ≡ set.contains c (s, o, x)) → is_held b s o ≡ is_held c s o
@@ -84,12 +85,12 @@ four : (n p q r t : Bool) → ((p && n) || ((q && n) || ((r && n) || (t && n))))
 four true p q r t = (λ i. and-true p i || (and-true q i || (and-true r i || and-true t i))) ∙ sym (and-true _)
 four false p q r t = (λ i. and-false p i || (and-false q i || (and-false r i || and-false t i))) ∙ sym (and-false (p || (q || (r || t))))
 
--- an object's triples less
-pub held_without : (b : TripleSet) (o a c : ℕ) → is_held (without_object b o) a c ≡ (is_held b a c && not (eqb c o))
-held_without b o a c =
-    (λ i. at Execute i || (at Read i || (at Append i || at Write i))) ∙ four (not (eqb c o)) (set.contains b (a, c, Execute)) (set.contains b (a, c, Read)) (set.contains b (a, c, Append)) (set.contains b (a, c, Write)) where
-      at : (x : Mode) → set.contains (without_object b o) (a, c, x) ≡ (set.contains b (a, c, x) && not (eqb c o))
-      at x = contains-without_object b o (a, c, x)
+-- the triples of a group less
+pub held_without_group : (b : TripleSet) (group : List ℕ) (a c : ℕ) → is_held (without_objects b group) a c ≡ (is_held b a c && not (list_any (λ o. eqb o c) group))
+held_without_group b group a c =
+    (λ i. at Execute i || (at Read i || (at Append i || at Write i))) ∙ four (not (list_any (λ o. eqb o c) group)) (set.contains b (a, c, Execute)) (set.contains b (a, c, Read)) (set.contains b (a, c, Append)) (set.contains b (a, c, Write)) where
+      at : (x : Mode) → set.contains (without_objects b group) (a, c, x) ≡ (set.contains b (a, c, x) && not (list_any (λ o. eqb o c) group))
+      at x = contains-without_objects b group (a, c, x)
 
 -- a cell is empty where nothing is held
 pub free_is : (modes : ModeSet) (b : TripleSet) (s o : ℕ) (r : Bool) → ((x : Mode) → set.contains modes x ≡ set.contains b (s, o, x)) → IsTrue r ↔ (modes ≡ set.empty) → r ≡ not (is_held b s o)

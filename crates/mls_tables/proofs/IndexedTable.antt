@@ -1,13 +1,14 @@
 -- Tables whose lists tell who accesses what.
-use Rattle.std.specs.Prelude.{◌≡◌, ℕ, ◌+◌, ◌<◌, ◌≤◌, Bool, true, false, not, ◌&&◌, ◌||◌, List, [], length, replicate, take, refl}
+use Rattle.std.specs.Prelude.{◌≡◌, ℕ, ◌+◌, ◌<◌, ◌≤◌, Bool, true, false, not, ◌&&◌, ◌||◌, List, [], length, replicate, take, drop, ◌∷◌, ◌++◌, refl}
 use Rattle.std.specs.FinSet as set
-use Rattle.std.specs.Cmp.{nat_eq_equiv}
 use Rattle.std.specs.List.{list_any}
 use Rattle.std.proofs.Common.{◌⊎◌, inl, inr, arith, sym, ap, ◌∙◌, eqb, ltb, get_or}
 use Rattle.std.proofs.lemmas.Bool.{cases_lt, lt-ltb, cases_Bool, eq-eqb, ne_eqb, and_parts, false≢true}
 use Rattle.std.proofs.Math.Bool.{and-true}
+use Rattle.std.proofs.Math.Seq.{take-add}
 use Rattle.std.proofs.lemmas.List.{get_or_past, get_or-replicate, length-replicate}
-use Rattle.std.proofs.lemmas.List.Folds.{list_any_at, list_any_more}
+use Rattle.std.proofs.lemmas.List.Folds.{list_any_at, list_any-append}
+use Rattle.mls_tables.proofs.Within.{without_objects-first, without_objects-none}
 use Rattle.mls_tables.specs.declared.limits.TheConstants.{MAX_SUBJECTS, MAX_OBJECTS}
 use Rattle.mls_tables.specs.Triples.{Triple, TripleSet, is_triple}
 use Rattle.mls_tables.specs.Table.{Table, IsWithin, empty_table, without_object, without_objects}
@@ -92,18 +93,24 @@ without_object-unknown n m ts o within past = same_triples _ _ (λ t. contains-w
   from t (inl there) = let low : t.1 < m = (within t there).1 in ap (λ e. set.contains ts t && not e) (ne_eqb t.1 o (λ same. omega arith)) ∙ and-true (set.contains ts t)
   from t (inr none) = (λ i. none i && not (eqb t.1 o)) ∙ sym none
 
--- to remove one object's triples, and then those of the objects before it in a group
-pub without_objects-last : (ts : TripleSet) (group : List ℕ) (k o : ℕ) → k < length group → o ≡ get_or group k o → without_objects (without_object ts o) (take k group) ≡ without_objects ts (take (k + 1) group)
-without_objects-last ts group k o within is = same_triples _ _ (λ t.
-    contains-without_objects (without_object ts o) (take k group) t
-    ∙ ap (λ b. b && not (list_any (λ x. eqb x t.1) (take k group))) (contains-without_object ts o t)
-    ∙ (λ i. (set.contains ts t && not (nat_eq_equiv.symm t.1 o i)) && not (list_any (λ x. eqb x t.1) (take k group)))
-    ∙ both (set.contains ts t) (eqb o t.1) (list_any (λ x. eqb x t.1) (take k group))
-    ∙ ap (λ b. set.contains ts t && not b) (ap (λ x. list_any (λ y. eqb y t.1) (take k group) || eqb x t.1) is ∙ sym (list_any_more (λ x. eqb x t.1) group k o within))
-    ∙ sym (contains-without_objects ts (take (k + 1) group) t)) where
-      both : (a b c : Bool) → ((a && not b) && not c) ≡ (a && not (c || b))
-      both true true true = refl
-      both true true false = refl
-      both true false true = refl
-      both true false false = refl
+-- where the first object of a group has no column, its triples needn't be removed
+pub without_first-unknown : (n m : ℕ) (ts : TripleSet) (group : List ℕ) → IsWithin n m ts → 0 < length group → m ≤ get_or group 0 0 → without_objects ts (take 1 group) ≡ ts
+without_first-unknown n m ts [] within some past = absurd (omega arith)
+without_first-unknown n m ts (o ∷ group) within some past = sym (without_objects-first ts o []) ∙ without_objects-none (without_object ts o) ∙ without_object-unknown n m ts o within past
+
+-- to remove the triples of some objects, and then those of more, is to remove those of all
+pub without_objects-both : (ts : TripleSet) (g h : List ℕ) → without_objects (without_objects ts g) h ≡ without_objects ts (g ++ h)
+without_objects-both ts g h = same_triples _ _ (λ t.
+    contains-without_objects (without_objects ts g) h t
+    ∙ ap (λ b. b && not (list_any (λ x. eqb x t.1) h)) (contains-without_objects ts g t)
+    ∙ both (set.contains ts t) (list_any (λ x. eqb x t.1) g) (list_any (λ x. eqb x t.1) h)
+    ∙ ap (λ b. set.contains ts t && not b) (sym (list_any-append (λ x. eqb x t.1) g h))
+    ∙ sym (contains-without_objects ts (g ++ h) t)) where
+      both : (a b c : Bool) → ((a && not b) && not c) ≡ (a && not (b || c))
+      both true true c = refl
+      both true false c = refl
       both false b c = refl
+
+-- a first part of a group, and then the first part of the rest
+pub without_objects-more : (ts : TripleSet) (group : List ℕ) (k n : ℕ) → without_objects (without_objects ts (take k group)) (take n (drop k group)) ≡ without_objects ts (take (k + n) group)
+without_objects-more ts group k n = without_objects-both ts (take k group) (take n (drop k group)) ∙ ap (without_objects ts) (sym (take-add k n group))

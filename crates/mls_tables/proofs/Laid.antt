@@ -100,6 +100,12 @@ module _ {X : Type 0} where
       pub list_is : get_or (map (list_at store) spans) i [] ≡ list_at store s
       list_is = get_or-map (list_at store) spans i nowhere [] here ∙ ap (list_at store) (sym is)
 
+      -- a place in a list is in its stretch
+      pub list_short : (k : ℕ) → k ≤ length (get_or (map (list_at store) spans) i []) → k ≤ s.len
+      list_short k within =
+          let long : length (get_or (map (list_at store) spans) i []) ≡ length (list_at store s) = ap length list_is in
+          omega (arith, length-take s.len (drop s.start store))
+
       -- where a list has room for one more, so has its stretch
       pub room_is : length (get_or (map (list_at store) spans) i []) < get_or (map (λ (u : Span). u.room) spans) i 0 → s.len < s.room
       room_is room =

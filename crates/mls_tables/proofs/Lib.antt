@@ -10,5 +10,6 @@ mod Once
 mod Ordered
 mod Pairs
 mod Rows
+mod TakenRuns
 mod Shifts
 mod Within

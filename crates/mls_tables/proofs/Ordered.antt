@@ -150,6 +150,6 @@ pub left-filter : (xs : List ℕ) (x : ℕ) (r : Result ℕ ℕ) → IsStrictlyI
 left-filter xs x (Ok k) up place = filter-remove x xs k (sorted_from_strictly_increasing xs up) place.0 place.1
 left-filter xs x (Err k) up place = sym (filter-absent x xs (any_missed xs x k place))
 
-pub listed-filter : (p : ℕ → Bool) (n x : ℕ) → filter (λ y. not (eqb y x)) (listed p n) ≡ listed (λ y. p y && not (eqb y x)) n
+pub listed-filter : (p : ℕ → Bool) (n : ℕ) (r : ℕ → Bool) → filter (λ y. not (r y)) (listed p n) ≡ listed (λ y. p y && not (r y)) n
 unfolding listed
-listed-filter p n x = filter-twice (λ y. not (eqb y x)) p _
+listed-filter p n r = filter-twice (λ y. not (r y)) p _

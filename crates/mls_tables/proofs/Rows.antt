@@ -38,9 +38,13 @@ module _ (p : ℕ → ℕ → Bool) (n : ℕ) (lists : List (List ℕ)) (rows : 
           rw (same, eq-eqb a a refl) (get_or-set_same lists a _ [] here ∙ ap (λ l. entered l r x) (rows a) ∙ listed-entered (p a) n x r below found_in_row)
       from (inr other) = rw (ne_eqb b a other) (get_or-set_other lists a b _ [] other ∙ rows b)
 
+  -- what a test refuses less in one list
+  pub IsRows-kept : (r : ℕ → Bool) → a < length lists → (after : List (List ℕ)) → after ≡ set lists a (filter (λ y. not (r y)) (get_or lists a [])) → IsRows (λ b y. p b y && not (eqb b a && r y)) n after
+  IsRows-kept r here after is b = ap (λ l. get_or l b []) is ∙ from (cases_eq b a) where
+    from : (b ≡ a) ⊎ (b ≡ a → ⊥) → get_or (set lists a (filter (λ y. not (r y)) (get_or lists a []))) b [] ≡ listed (λ y. p b y && not (eqb b a && r y)) n
+    from (inl same) = rw (same, eq-eqb a a refl) (get_or-set_same lists a _ [] here ∙ ap (filter (λ y. not (r y))) (rows a) ∙ listed-filter (p a) n r)
+    from (inr other) = rw (ne_eqb b a other) (get_or-set_other lists a b _ [] other ∙ rows b ∙ ap (λ q. listed q n) (λ i y. sym (and-true (p b y)) i))
+
   -- a number less in one list
   pub IsRows-discarded : (x : ℕ) → a < length lists → (after : List (List ℕ)) → after ≡ set lists a (filter (λ y. not (eqb y x)) (get_or lists a [])) → IsRows (λ b y. p b y && not (eqb b a && eqb y x)) n after
-  IsRows-discarded x here after is b = ap (λ l. get_or l b []) is ∙ from (cases_eq b a) where
-    from : (b ≡ a) ⊎ (b ≡ a → ⊥) → get_or (set lists a (filter (λ y. not (eqb y x)) (get_or lists a []))) b [] ≡ listed (λ y. p b y && not (eqb b a && eqb y x)) n
-    from (inl same) = rw (same, eq-eqb a a refl) (get_or-set_same lists a _ [] here ∙ ap (filter (λ y. not (eqb y x))) (rows a) ∙ listed-filter (p a) n x)
-    from (inr other) = rw (ne_eqb b a other) (get_or-set_other lists a b _ [] other ∙ rows b ∙ ap (λ q. listed q n) (λ i y. sym (and-true (p b y)) i))
+  IsRows-discarded x = IsRows-kept (λ y. eqb y x)

@@ -1,12 +1,14 @@
 -- What a list is after an item was turned to its place or out of it, and after a stretch of it was written.
-use Rattle.std.proofs.Common.{◌≡◌, ℕ, suc, ◌+◌, ◌-◌, ◌<◌, ◌≤◌, List, [], ◌∷◌, ◌++◌, length, take, drop, set, sym, ap, ◌∙◌, arith, length-append, length-take, length-drop, length-set, append_assoc}
+use Rattle.std.proofs.Common.{◌≡◌, ℕ, ◌+◌, ◌-◌, ◌<◌, ◌≤◌, List, [], ◌∷◌, ◌++◌, length, take, drop, set, sym, ap, ◌∙◌, arith, length-append, length-take, length-drop, length-set, append_assoc}
 use Rattle.std.proofs.Math.Seq.{drop-append_seam, take-append_seam}
-use Rattle.std.specs.List.{insert, remove}
+use Rattle.std.specs.List.{insert, copy_within}
+use Rattle.std.proofs.lemmas.List.Edits.{take-paste}
 use Rattle.std.proofs.lemmas.List.{append-nil, take_all, take_more_set, take-append-le, drop-append-le, drop-drop, drop-take, drop_all}
 use Rattle.std.proofs.lemmas.Slice.{take-put_mid_below, drop-put_mid}
 use borrow.Rule.Slice.PartMut.{put_mid}
 use Rattle.mls_tables.specs.declared.span.Span.{Span}
 use Rattle.mls_tables.specs.Lists.{list_at}
+use Rattle.mls_tables.specs.Rows.{cut}
 
 -- a list whose last item was written
 pub written_last : {X : Type 0} (xs : List X) (x : X) → 0 < length xs → set xs (length xs - 1) x ≡ take (length xs - 1) xs ++ x ∷ []
@@ -46,16 +48,16 @@ turned_right {X} ys x k m now part fits whole is turned = (λ i. front i ++ (mov
 
 -- the item at a place turned to the end
 pub turned_left : {X : Type 0} (xs : List X) (k m : ℕ) (part : List X) → k < length xs → length xs ≤ k + m
-    → part ≡ drop 1 (take m (drop k xs)) ++ take 1 (take m (drop k xs)) → take (length xs - 1) (put_mid k m xs part) ≡ remove xs k
+    → part ≡ drop 1 (take m (drop k xs)) ++ take 1 (take m (drop k xs)) → take (length xs - 1) (put_mid k m xs part) ≡ cut xs k 1
 turned_left {X} xs k m part within whole turned = ap (take (length xs - 1)) shape ∙ (λ i. take (count i) (kept ++ (take 1 (drop k xs) ++ []))) ∙ take-append_seam kept (take 1 (drop k xs) ++ []) where
   kept : List X
-  kept = remove xs k
+  kept = cut xs k 1
 
   sub : take m (drop k xs) ≡ drop k xs
   sub = take_all m (drop k xs) (omega (arith, length-drop k xs))
 
-  later : drop 1 (drop k xs) ≡ drop (suc k) xs
-  later = let next : k + 1 ≡ suc k = omega arith in drop-drop 1 k xs ∙ ap (λ n. drop n xs) next
+  later : drop 1 (drop k xs) ≡ drop (k + 1) xs
+  later = drop-drop 1 k xs
 
   rest : drop m (drop k xs) ≡ []
   rest = drop_all m (drop k xs) (omega (arith, length-drop k xs))
@@ -63,11 +65,20 @@ turned_left {X} xs k m part within whole turned = ap (take (length xs - 1)) shap
   shape : put_mid k m xs part ≡ kept ++ (take 1 (drop k xs) ++ [])
   shape =
       (λ i. take k xs ++ ((turned ∙ (λ j. drop 1 (sub j) ++ take 1 (sub j)) ∙ (λ j. later j ++ take 1 (drop k xs))) i ++ rest i))
-      ∙ ap (λ l. take k xs ++ l) (append_assoc (drop (suc k) xs) (take 1 (drop k xs)) [])
-      ∙ sym (append_assoc (take k xs) (drop (suc k) xs) (take 1 (drop k xs) ++ []))
+      ∙ ap (λ l. take k xs ++ l) (append_assoc (drop (k + 1) xs) (take 1 (drop k xs)) [])
+      ∙ sym (append_assoc (take k xs) (drop (k + 1) xs) (take 1 (drop k xs) ++ []))
 
   count : length xs - 1 ≡ length kept
-  count = omega (arith, length-append (take k xs) (drop (suc k) xs), length-take k xs, length-drop (suc k) xs)
+  count = omega (arith, length-append (take k xs) (drop (k + 1) xs), length-take k xs, length-drop (k + 1) xs)
+
+-- what stands behind a part of a list, moved down over it
+pub moved_down : {X : Type 0} (xs : List X) (k count : ℕ) → k + count ≤ length xs → take (length xs - count) (copy_within xs (k + count) (length xs) k) ≡ cut xs k count
+moved_down xs k count fits =
+    let rest : length xs - (k + count) ≡ length (drop (k + count) xs) = sym (length-drop (k + count) xs) in
+    let many : length xs - count ≡ k + (length xs - (k + count)) = omega arith in
+    ap (λ n. take n (copy_within xs (k + count) (length xs) k)) many
+    ∙ take-paste xs k (drop (k + count) xs) (length xs - (k + count)) (omega arith) (omega arith)
+    ∙ ap (λ l. take k xs ++ l) (take_all (length xs - (k + count)) (drop (k + count) xs) (omega arith))
 
 module _ {X : Type 0} (store part : List X) (from k : ℕ) (fits : from + k ≤ length store) where
   -- a list that lies before what was written

@@ -1,5 +1,6 @@
 //! The current accesses.
 ghost use Rattle.std.specs.Prelude.{◌≡◌, ℕ, ◌<◌, ◌≤◌, ◌+◌, ◌==◌, IfOk, OnOk, OnErr, not};
+ghost use Rattle.std.specs.Prelude.{length, slice_index, take};
 ghost use Rattle.std.specs.FinSet as set;
 ghost use Rattle.std.specs.List.{list_any};
 ghost use Rattle.mls_tables.specs.declared.limits.TheConstants.{MAX_SUBJECTS, MAX_OBJECTS};
@@ -13,6 +14,7 @@ use crate::listing::{list_pair, unlist_pair};
 use crate::matrix::Matrix;
 use crate::mode::Mode;
 use crate::modes::Modes;
+use crate::runs::run_len;
 use std::alloc::{AllocError, Allocator, Global};
 use std::marker::Model;
 
@@ -141,33 +143,53 @@ impl<A: Allocator> AccessSet<A> {
         true
     }
 
+    /// Removes the triples of objects whose numbers follow one another.
+    fn drop_run(&mut self, run: &[ObjectId])
+        requires some { 0 < length run.now }
+        requires run { (k : ℕ) → k < length run.now → slice_index run.now k ≡ slice_index run.now 0 + k }
+        requires known { slice_index run.now 0 + length run.now ≤ self.old.columns }
+        ensures { self.new ≡ record self.old { triples = without_objects self.old.triples run.now } }
+    {
+        let first = run[0].number();
+        let last = run[run.len() - 1].number();
+        self.index.unlink_run(first, last + 1);
+        self.matrix.clear_objects(run);
+    }
+
     /// Removes the triples of an object.
     pub fn drop_object(&mut self, o: ObjectId)
         requires { o < self.old.columns }
         ensures { self.new ≡ record self.old { triples = without_object self.old.triples o } }
     {
-        self.index.unlink_object(o);
-        self.matrix.clear_object(o);
+        self.drop_run(&[o]);
     }
 
-    /// Removes the triples of an object, where it has a column.
-    fn drop_known(&mut self, o: ObjectId)
-        ensures { self.new ≡ record self.old { triples = without_object self.old.triples o } }
+    /// Removes the triples of the first objects of a group, and returns how many these are. An object without a column
+    /// has none.
+    fn drop_head(&mut self, group: &[ObjectId]) -> usize
+        requires { 0 < length group.now }
+        ensures least { 1 ≤ result }
+        ensures most { result ≤ length group.now }
+        ensures removed { self.new
+            ≡ record self.old { triples = without_objects self.old.triples (take result group.now) } }
     {
-        if o.number() < self.columns() {
-            self.drop_object(o);
+        let columns = self.columns();
+        if columns <= group[0].number() {
+            return 1;
         }
+        let len = run_len(group, columns);
+        self.drop_run(&group[..len]);
+        len
     }
 
-    /// Removes the triples of the objects of a group, the last object first. It touches only the lists of those who
-    /// access them.
+    /// Removes the triples of the objects of a group. It touches only the lists of those who access them; where numbers
+    /// of the group follow one another, each of these lists once.
     pub fn drop_objects(&mut self, group: &[ObjectId])
         ensures { self.new ≡ record self.old { triples = without_objects self.old.triples group.now } }
     {
-        let mut left = group.len();
-        while left > 0 {
-            left -= 1;
-            self.drop_known(group[left]);
+        let mut at = 0;
+        while at < group.len() {
+            at += self.drop_head(&group[at..]);
         }
     }
 }

@@ -3,12 +3,13 @@ ghost use Rattle.std.specs.Prelude.{◌≡◌, ℕ, ◌<◌, ◌≤◌, ◌==◌
 ghost use Rattle.std.specs.Prelude.{replicate, IfOk, OnOk, OnErr};
 ghost use Rattle.mls_tables.specs.declared.limits.TheConstants.{MAX_SUBJECTS, MAX_OBJECTS};
 ghost use Rattle.mls_tables.specs.Held.{Indexes, Unlisted};
-ghost use Rattle.mls_tables.specs.Rows.{TellRelation};
+ghost use Rattle.mls_tables.specs.Rows.{TellRelation, is_in_run};
 
 use crate::ids::{ObjectId, SubjectId};
 use crate::lists::Lists;
-use crate::objects::{enter_object, take_from_each, take_object};
-use crate::subjects::{clear_subjects, enter_subject, subjects_of, take_subject};
+use crate::objects::{enter_object, take_object};
+use crate::runs::{clear_run, take_from_holders};
+use crate::subjects::{enter_subject, subjects_of, take_subject};
 use std::alloc::{AllocError, Allocator, Global};
 
 /// For each subject the objects that it accesses, and for each object the subjects that access it, both ascending.
@@ -109,18 +110,21 @@ impl<A: Allocator> Index<A> {
         take_subject(&mut self.subjects, o, s);
     }
 
-    /// Takes an object out of the lists of its subjects, and these out of its own.
-    pub(crate) fn unlink_object(&mut self, o: ObjectId)
-        requires column { o < length self.old.subjects.lists }
-        requires subjects { All (λ s. s < length self.old.objects.lists) (slice_index_or self.old.subjects.lists o []) }
-        requires told { TellRelation self.old.objects.lists }
+    /// Takes the objects from a first number to that before an end out of the lists of their subjects, and these out
+    /// of theirs. The list of a subject is searched once.
+    pub(crate) fn unlink_run(&mut self, first: u16, end: u16)
+        requires order { first ≤ end }
+        requires columns { end ≤ length self.old.subjects.lists }
+        requires few { length self.old.objects.lists ≤ MAX_SUBJECTS }
+        requires subjects { (o : ℕ)
+            → All (λ s. s < length self.old.objects.lists) (slice_index_or self.old.subjects.lists o []) }
         ensures rows { length self.new.objects.lists ≡ length self.old.objects.lists }
         ensures columns { length self.new.subjects.lists ≡ length self.old.subjects.lists }
-        ensures gone { Unlisted (λ a b. b == o) self.old.objects.lists self.old.subjects.lists
+        ensures gone { Unlisted (λ a b. is_in_run first end b) self.old.objects.lists self.old.subjects.lists
             self.new.objects.lists self.new.subjects.lists }
     {
-        take_from_each(&mut self.objects, subjects_of(&self.subjects, o), o);
-        clear_subjects(&mut self.subjects, o);
+        take_from_holders(&mut self.objects, &self.subjects, first, end);
+        clear_run(&mut self.subjects, first, end);
     }
 }
 

@@ -13,6 +13,7 @@ mod modes;
 mod objects;
 mod pair;
 mod placing;
+mod runs;
 mod span;
 mod subjects;
 mod theorems;

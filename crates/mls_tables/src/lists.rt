@@ -1,8 +1,8 @@
 //! Lists in one piece of memory: each has a stretch of it, and moves to a longer one at the end when its own is full.
 ghost use Rattle.std.specs.Prelude.{◌≡◌, ℕ, ◌<◌, ◌≤◌, ◌++◌, [], ◌∷◌, length, slice_set, slice_index_or, IfOk, OnOk};
-ghost use Rattle.std.specs.Prelude.{OnErr};
+ghost use Rattle.std.specs.Prelude.{OnErr, ◌+◌};
 ghost use Rattle.mls_tables.specs.declared.limits.TheConstants.{MAX_OBJECTS};
-ghost use Rattle.mls_tables.specs.Rows.{entered, left, IsInRange};
+ghost use Rattle.mls_tables.specs.Rows.{cut, entered, left, IsInRange};
 
 use crate::span::{Span, roomy, shorten, widen};
 use std::alloc::{AllocError, Allocator, Global};
@@ -122,16 +122,25 @@ impl<T: Copy, A: Allocator> Lists<T, A> {
         Ok(())
     }
 
+    /// Takes so many items at a place out of a list.
+    pub(crate) fn cut(&mut self, i: usize, k: usize, count: usize)
+        requires list { i < length self.old.lists }
+        requires place { k + count ≤ length (slice_index_or self.old.lists i []) }
+        ensures { self.new.lists ≡ slice_set self.old.lists i (cut (slice_index_or self.old.lists i []) k count) }
+    {
+        let span = self.spans[i];
+        let shorter = shorten(&mut self.store, span, k, count);
+        self.spans[i] = shorter;
+    }
+
     /// Takes an item out of a list, at the place where a search found it.
     pub(crate) fn leave(&mut self, i: usize, place: Result<usize, usize>)
         requires list { i < length self.old.lists }
         requires place { IsInRange place (length (slice_index_or self.old.lists i [])) }
         ensures { self.new.lists ≡ slice_set self.old.lists i (left (slice_index_or self.old.lists i []) place) }
     {
-        let span = self.spans[i];
         if let Ok(k) = place {
-            let shorter = shorten(&mut self.store, span, k);
-            self.spans[i] = shorter;
+            self.cut(i, k, 1);
         }
     }
 

@@ -1,10 +1,9 @@
 //! Lists of objects, which ascend.
-ghost use Rattle.std.specs.Prelude.{◌≡◌, ℕ, ◌<◌, ◌≤◌, ◌==◌, ◌&&◌, Bool, not, [], All, length, filter, slice_index_or};
+ghost use Rattle.std.specs.Prelude.{◌≡◌, ℕ, ◌<◌, ◌≤◌, ◌==◌, ◌&&◌, Bool, not, [], length, filter, slice_index_or};
 ghost use Rattle.std.specs.Prelude.{slice_set, OnOk, OnErr};
-ghost use Rattle.std.specs.List.{list_any};
 ghost use Rattle.std.specs.List.Sorted.{IsStrictlyIncreasing};
 ghost use Rattle.mls_tables.specs.declared.limits.TheConstants.{MAX_OBJECTS};
-ghost use Rattle.mls_tables.specs.Rows.{IsInRange, FoundAt, IsRows, TakenOut, Entered, TellRelation};
+ghost use Rattle.mls_tables.specs.Rows.{IsInRange, FoundAt, IsRows, Entered, TellRelation};
 
 use crate::ids::{ObjectId, SubjectId};
 use crate::lists::Lists;
@@ -12,7 +11,7 @@ use std::alloc::{AllocError, Allocator};
 use std::cmp::Ordering;
 
 /// Where an object stands in a list, or else where it would, by binary search.
-fn searched(list: &[ObjectId], o: ObjectId) -> Result<usize, usize>
+pub(crate) fn searched(list: &[ObjectId], o: ObjectId) -> Result<usize, usize>
     ensures range { IsInRange result (length list.now) }
     ensures place { IsStrictlyIncreasing list.now → FoundAt list.now o result }
 {
@@ -87,22 +86,6 @@ pub(crate) fn take_object<A: Allocator>(objects: &mut Lists<ObjectId, A>, s: Sub
         → IsRows (λ a b. p a b && not (a == s && b == o)) n objects.new.lists }
 {
     objects.discard(usize::from(s.0), o);
-}
-
-/// Takes an object out of the lists of some subjects.
-pub(crate) fn take_from_each<A: Allocator>(
-    objects: &mut Lists<ObjectId, A>,
-    holders: &[SubjectId],
-    o: ObjectId,
-)
-    requires rows { All (λ s. s < length objects.old.lists) holders.now }
-    requires told { TellRelation objects.old.lists }
-    ensures many { length objects.new.lists ≡ length objects.old.lists }
-    ensures taken { TakenOut holders.now o objects.old.lists objects.new.lists }
-{
-    for s in holders {
-        take_object(objects, *s, o);
-    }
 }
 
 /// Enters an object into the list of a subject, which has room for it.

@@ -1,8 +1,9 @@
 //! Where a list lies in memory that holds several, and what becomes of the memory where an item joins or leaves it.
 ghost use Rattle.std.specs.Prelude.{◌≡◌, ◌+◌, ◌-◌, ◌*◌, ◌<◌, ◌≤◌, length, take, IfOk, OnErr, vec_len};
-ghost use Rattle.std.specs.List.{insert, remove};
+ghost use Rattle.std.specs.List.{insert};
 ghost use Rattle.mls_tables.specs.declared.limits.TheConstants.{MAX_OBJECTS};
 ghost use Rattle.mls_tables.specs.Lists.{FindsRoom, list_at};
+ghost use Rattle.mls_tables.specs.Rows.{cut};
 
 use std::alloc::{AllocError, Allocator};
 
@@ -54,12 +55,17 @@ fn put_in<T: Copy>(items: &mut [T], k: usize, x: T)
     items[k..].rotate_right(1);
 }
 
-/// Takes the item at a place out; the last place is room to spare then.
-fn take_out<T>(items: &mut [T], k: usize)
-    requires { k < length items.old }
-    ensures { take (length items.old - 1) items.new ≡ remove items.old k }
+/// Takes so many items at a place out; as many places at the end are room to spare then. Of one
+/// item a rotation is the faster move.
+fn take_out<T: Copy>(items: &mut [T], k: usize, count: usize)
+    requires { k + count ≤ length items.old }
+    ensures { take (length items.old - count) items.new ≡ cut items.old k count }
 {
-    items[k..].rotate_left(1);
+    if count == 1 {
+        items[k..].rotate_left(1);
+        return;
+    }
+    items.copy_within(k + count.., k);
 }
 
 /// Puts an item in a list at a place, and returns where the longer list lies.
@@ -80,20 +86,20 @@ pub(crate) fn widen<T: Copy>(store: &mut [T], span: Span, k: usize, x: T) -> Spa
     }
 }
 
-/// Takes the item at a place out of a list, and returns where the shorter list lies.
-pub(crate) fn shorten<T: Copy>(store: &mut [T], span: Span, k: usize) -> Span
-    requires place { k < span.len }
+/// Takes so many items at a place out of a list, and returns where the shorter list lies.
+pub(crate) fn shorten<T: Copy>(store: &mut [T], span: Span, k: usize, count: usize) -> Span
+    requires place { k + count ≤ span.len }
     requires within { span.start + span.len ≤ length store.old }
-    ensures shorter { result ≡ record span { len = span.len - 1 } }
-    ensures list { list_at store.new result ≡ remove (list_at store.old span) k }
+    ensures shorter { result ≡ record span { len = span.len - count } }
+    ensures list { list_at store.new result ≡ cut (list_at store.old span) k count }
     // A list that lies elsewhere stays.
     ensures before { (t : Span) → t.start + t.len ≤ span.start → list_at store.new t ≡ list_at store.old t }
     ensures behind { (t : Span) → span.start + span.len ≤ t.start → list_at store.new t ≡ list_at store.old t }
 {
-    take_out(&mut store[span.start..span.start + span.len], k);
+    take_out(&mut store[span.start..span.start + span.len], k, count);
     Span {
         start: span.start,
-        len: span.len - 1,
+        len: span.len - count,
         room: span.room,
     }
 }

@@ -8,14 +8,27 @@ use mls_tables::{
     AccessSet, MAX_OBJECTS, Mode, ObjectId, SubjectId, indexes_give_each_triple_once,
 };
 use refusing::Refusing;
+use runs::RUNS;
 use same::same_sets;
 use std::alloc::{AllocError, Allocator, Global};
 use std::process::Abort;
 use std::test::Fail;
 use steps::{FILLED, GROUP, LARGEST, Step, WORKED};
 
+mod runs;
 mod same;
 mod steps;
+
+/// Two runs of objects, and numbers without a column: one between them, and one that follows the second.
+const DROPPED: [ObjectId; 7] = [
+    ObjectId(1),
+    ObjectId(2),
+    ObjectId(3),
+    ObjectId(9),
+    ObjectId(5),
+    ObjectId(6),
+    ObjectId(7),
+];
 
 /// Asserts that a set has a row for a subject and a column for an object.
 pub fn covers<A: Allocator>(rt: &impl Abort, set: &AccessSet<A>, s: u16, o: u16)
@@ -94,6 +107,7 @@ fn take<A: Allocator>(
             set.drop_object(ObjectId(*o));
         }
         Step::DropGroup => set.drop_objects(&[ObjectId(1), ObjectId(3)]),
+        Step::DropRuns => set.drop_objects(&DROPPED),
         other => look(rt, set, other),
     }
     Ok(())
@@ -181,7 +195,7 @@ fn is_refused(
 
 #[test]
 fn sets_have_what_is_inserted(rt: HostRuntime) -> Result<(), Fail> {
-    for (subjects, row) in &[WORKED, GROUP, FILLED, LARGEST] {
+    for (subjects, row) in &[WORKED, GROUP, RUNS, FILLED, LARGEST] {
         refused_in_turn(&rt, 5, |number| {
             is_refused(&rt, rt.alloc(), number, *subjects, row)
         })?;

@@ -14,6 +14,8 @@ pub enum Step {
     Drop(u16),
     /// The triples of the objects 1 and 3 go.
     DropGroup,
+    /// The triples of two runs of objects go, 1 to 3 and 5 to 6. Two numbers without a column are in the group too.
+    DropRuns,
     /// The modes of a subject and an object.
     Has(u16, u16, &'static [Mode]),
     /// A triple, and whether it is there.
