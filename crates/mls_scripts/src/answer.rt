@@ -49,17 +49,15 @@ impl<N: Allocator> Script<'_, N> {
             ≡ left_by self.now.session before (line_of self.now.names.now before.vars line.now)) }
         ensures err { OnErr result (standing_of vars.new.bound monitor.new ≡ standing_of vars.old.bound monitor.old) }
     {
-        // (a request is large, and so isn't moved out of what was read)
-        let asked = read_line(self.names, vars, line);
-        match &asked {
-            Err(fault) => Ok(Answer::Fault(*fault)),
+        match read_line(self.names, vars, line) {
+            Err(fault) => Ok(Answer::Fault(fault)),
             Ok(Line::Blank) => Ok(Answer::Nothing),
             Ok(Line::Ask { bind, ask }) => match ask {
                 Ask::Check(subject, object, mode) => {
-                    Ok(Answer::Held(monitor.check(*subject, *object, *mode)))
+                    Ok(Answer::Held(monitor.check(subject, object, mode)))
                 }
                 Ask::Submit(request) => {
-                    let reply = self.submit(vars, *bind, monitor, request)?;
+                    let reply = self.submit(vars, bind, monitor, request)?;
                     Ok(Answer::Replied(reply))
                 }
             },
@@ -76,18 +74,18 @@ impl<N: Allocator> Script<'_, N> {
         vars: &mut Vars<V>,
         bind: Option<&str>,
         monitor: &mut Monitor<A>,
-        request: &Request,
+        request: Request,
     ) -> Result<Reply, AllocError>
-        ensures reply { IfOk result (λ r. r ≡ reply (state_of monitor.old) request.now) }
+        ensures reply { IfOk result (λ r. r ≡ reply (state_of monitor.old) request) }
         ensures bound { IfOk result
             (λ r. vars.new.bound ≡ vars_after vars.old.bound (option_map (λ name. name.now) bind.entry) r) }
         ensures start { monitor.new.start ≡ monitor.old.start }
-        ensures entries { OnOk result (monitor.new.entries ≡ monitor.old.entries
-            ++ entry_for self.now.session (standing_of vars.old.bound monitor.old) request.now ∷ []) }
+        ensures entries { OnOk result (monitor.new.entries
+            ≡ monitor.old.entries ++ entry_for self.now.session (standing_of vars.old.bound monitor.old) request ∷ []) }
         ensures err { OnErr result (standing_of vars.new.bound monitor.new ≡ standing_of vars.old.bound monitor.old) }
     {
         let room = make_room(vars, bind)?;
-        let reply = monitor.submit(self.session, *request)?.reply;
+        let reply = monitor.submit(self.session, request)?.reply;
         bind_reply(vars, room, reply);
         Ok(reply)
     }
