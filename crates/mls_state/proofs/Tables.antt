@@ -57,7 +57,9 @@ module _ {A : Type 0} (a : Inside A) where
 
     -- where a known subject and an active object stand in a table
     pub ruleset matrix_place = (matrix_row, matrix_column)
+
     pub ruleset access_place = (access_row, access_column)
+
     pub ruleset both_places = (matrix_row, matrix_column, access_row, access_column)
 
     -- the labels at the place of an active object
