@@ -1,11 +1,11 @@
 #!/usr/bin/env bash
-# What the gate spends on each crate, in processor seconds, as a table:
+# What the full check spends on each crate, in processor seconds, as a table:
 #
-#     bench/gate.sh [NAME ..]        all of crates.txt where none is named
+#     bench/crate_costs.sh [NAME ..]        all of crates.txt where none is named
 #
 # proof is the crate from nothing, tests the same once more with its tests, and edits all its must-fail edits, each over what
 # those before it proved. All is done with one job over libraries that are built, one crate after the other, so figures are
-# calm where nothing else works on the machine. (rt must-fail loads the proofs of the libraries below, and the gate loads
+# calm where nothing else works on the machine. (rt must-fail loads the proofs of the libraries below, and the full check loads
 # their statements alone: there the edits of upper crates are somewhat cheaper.) What checks kept in out/ is put back.
 set -u
 export LC_ALL=C
