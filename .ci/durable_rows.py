@@ -48,6 +48,37 @@ def session_that_asks():
         same(content("s"), b"0 " + session + b" 0 get-read 1 yes\n")
 
 
+def each_action():
+    """A line of each kind is answered, and its entry is in the file."""
+    rows = [
+        (b"sec get-write root", b"yes", b"2 get-write 0 yes"),
+        (b"$x = sec create root S:B hi", b"created 4", b"2 create 0 2:1 1 created 4"),
+        (b"sec give read ann $x", b"yes", b"2 give read 0 4 yes"),
+        (b"sec relabel $x S:B,A", b"yes", b"2 relabel 4 2:0,1 yes"),
+        (b"ann get-read $x", b"no simple", b"0 get-read 4 no simple"),
+        (b"sec relabel $x S:A", b"yes", b"2 relabel 4 2:0 yes"),
+        (b"ann get-read $x", b"yes", b"0 get-read 4 yes"),
+        (b"sec rescind read ann $x", b"yes", b"2 rescind read 0 4 yes"),
+        (b"ann check read $x", b"not held", None),
+        (b"ann get-read plans", b"yes", b"0 get-read 1 yes"),
+        (b"ann get-write plans", b"yes", b"0 get-write 1 yes"),
+        (b"bob get-append plans", b"no integrity", b"1 get-append 1 no integrity"),
+        (b"bob get-execute tool", b"yes", b"1 get-execute 3 yes"),
+        (b"bob level C", b"yes", b"1 level 1 yes"),
+        (b"bob level T", b"no ceiling", b"1 level 3 no ceiling"),
+        (b"bob level U:A", b"no ceiling", b"1 level 0:0 no ceiling"),
+        (b"ann release write plans", b"yes", b"0 release write 1 yes"),
+        (b"sec delete $x", b"yes", b"2 delete 4 yes"),
+        (b"sec delete root", b"no root", b"2 delete 0 no root"),
+        (b"sec create memo T lo", b"no authority", b"2 create 2 3 0 no authority"),
+    ]
+    asked = b"".join(line + b"\n" for line, _, _ in rows)
+    answers = b"".join(answer + b"\n" for _, answer, _ in rows)
+    entries = [entry for _, _, entry in rows if entry]
+    same(served(asked, "each"), (0, ready(0) + answers, b""))
+    same(content("each"), b"".join(b"%d 0 %s\n" % row for row in enumerate(entries)))
+
+
 def words_that_are_not_understood():
     rows = [[], ["--journal", "w"], [STANDARD], ["--journal", "w", STANDARD, STANDARD], ["--frob", "--journal", "w", STANDARD]]
     rows += [[f"--session={word}", "--journal", "w", STANDARD] for word in ("", "x", "-1", "4294967296", "1.0")]
@@ -328,6 +359,7 @@ CHECKS = [
     service_from_its_beginning,
     journal_of_a_run,
     session_that_asks,
+    each_action,
     words_that_are_not_understood,
     start_that_is_refused,
     journal_that_is_no_file,

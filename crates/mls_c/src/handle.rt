@@ -36,7 +36,8 @@ impl Mls {
 
     /// Puts an open monitor into the handle.
     pub(crate) fn put(&mut self, opened: Box<Opened, Global>)
-        ensures { self.new.monitor.value ≡ Some opened.value }
+        ensures value { self.new.monitor.value ≡ Some opened.value }
+        ensures flag { self.new.held ≡ 1 }
     {
         self.monitor = Kept::of(opened);
         self.held = 1;

@@ -16,6 +16,7 @@ use Rattle.mls_durable.specs.Batches.{Pending, SoFar, Stops, Steps}
 use Rattle.mls_durable.specs.Attending.{IsDue, Attends}
 use Rattle.mls_durable.specs.declared.attend_fault.AttendFault.{AttendFault}
 use Rattle.mls_durable.specs.declared.attend_fault.AttendFault.TheVariants.{Read, Write, File, Memory, TooLong}
+use Rattle.mls_durable.proofs.LineFacts.{after_none}
 use Rattle.mls_durable.proofs.Moving.{stands, all_served, all_in_front, serves_none, so_far_none}
 
 pub keeps_itself : (o : Option (List ℕ)) → Keeps o o
@@ -62,7 +63,7 @@ module _ (names : Names) (session : ℕ) (first : Standing) (begun : Pending) wh
   }
 
   of_fault : (X : Type 0) (given next : Option (List ℕ)) (before after : List Event) (entries : List Entry) (fault : AttendFault) (taken : List ℕ) (lines : List (List ℕ)) → Consumes given next taken → IsDue next taken lines
-      → Stops names session first before lines after fault → Attends {X = X} names session first given next entries before after (Err fault)
+      → Stops names session first before lines entries after fault → Attends {X = X} names session first given next entries before after (Err fault)
   of_fault X given next before after entries Read taken lines c due stops = absurd stops
   of_fault X given next before after entries Write taken lines c due stops = (taken, lines, c, due, stops)
   of_fault X given next before after entries File taken lines c due stops = (taken, lines, c, due, stops)
@@ -71,23 +72,32 @@ module _ (names : Names) (session : ℕ) (first : Standing) (begun : Pending) wh
 
   -- a stop amid the lines of a piece
   pub attends_stop : (X : Type 0) (given left next : Option (List ℕ)) (p new : Pending) (kept keeps bytes : List ℕ) (old mid last : Option (List Event)) (entries : List Entry) (fault : AttendFault) → Taken given left p kept old mid
-      → Consumes left next bytes → Fed {X = Unit {0}} p new kept keeps bytes mid last (Err fault) → Known old last (λ before after. Begun before → Attends {X = X} names session first given next entries before after (Err fault))
-  attends_stop X given left next p new kept keeps bytes old mid last entries fault t c fed before is =
+      → Consumes left next bytes → Fed {X = Unit {0}} p new kept keeps bytes mid last (Err fault) → new.now.entries ≡ entries → Known old last (λ before after. Begun before → Attends {X = X} names session first given next entries before after (Err fault))
+  attends_stop X given left next p new kept keeps bytes old mid last entries fault t c fed same before is =
       let one = t.so_far before is in
       let two = fed (open_part t.taken) (open_part_is_open t.taken) t.kept_is one.0 one.1 in (
         two.0,
         two.1,
         λ b.
             of_fault X given next before two.0 entries fault (t.taken ++ bytes) (closed_lines (t.taken ++ bytes)) (Consumes-trans given left next t.taken bytes t.consumed c) (inl refl)
-            (subst (λ (ls : List (List ℕ)). Stops names session first before ls two.0 fault) (sym (closed_lines-append t.taken bytes)) (two.2 first before (closed_lines t.taken) (one.2 b))),
+            (subst (λ (es : List Entry). Stops names session first before (closed_lines (t.taken ++ bytes)) es two.0 fault) same
+            (subst (λ (ls : List (List ℕ)). Stops names session first before ls new.now.entries two.0 fault) (sym (closed_lines-append t.taken bytes)) (two.2 first before (closed_lines t.taken) (one.2 b)))),
       )
 
   -- the reader failed
   pub attends_read : (X : Type 0) (given left next : Option (List ℕ)) (p : Pending) (kept : List ℕ) (old mid : Option (List Event)) (entries : List Entry) → Taken given left p kept old mid → Keeps left next
-      → p.text ≡ [] → p.out ≡ [] → Known old mid (λ before after. Begun before → Attends {X = X} names session first given next entries before after (Err Read))
-  attends_read X given left next p kept old mid entries t k text out before is =
-      let one = t.so_far before is in
-      (one.0, one.1, λ b. (t.taken, Consumes-kept given left next t.taken t.consumed k, all_served names session first before (closed_lines t.taken) p one.0 (one.2 b) text out))
+      → p.text ≡ [] → p.out ≡ [] → p.now.entries ≡ entries → Known old mid (λ before after. Begun before → Attends {X = X} names session first given next entries before after (Err Read))
+  attends_read X given left next p kept old mid entries t k text out same before is =
+      let one = t.so_far before is in (
+        one.0,
+        one.1,
+        λ b. (
+          t.taken,
+          Consumes-kept given left next t.taken t.consumed k,
+          all_served names session first before (closed_lines t.taken) p one.0 (one.2 b) text out,
+          sym same ∙ ap (λ (s : Standing). s.entries) (stands names session first before (closed_lines t.taken) p one.0 (one.2 b)),
+        ),
+      )
 
   all_of : (given left next : Option (List ℕ)) (taken : List ℕ) → Consumes given left taken → Consumes left next [] → Consumes given next taken
   all_of given left next taken c d = subst (Consumes given next) (append-nil taken) (Consumes-trans given left next taken [] c d)
@@ -120,14 +130,24 @@ module _ (names : Names) (session : ℕ) (first : Standing) (begun : Pending) wh
         two.1,
         λ b.
             of_fault X given next before two.0 entries fault t.taken (lines_of t.taken) (all_of given left next t.taken t.consumed c) (inr (end, refl))
-            (subst (λ (ls : List (List ℕ)). Stops names session first before ls two.0 fault) (sym (lines_of-parts t.taken)) (two.2 first before (closed_lines t.taken) (one.2 b))),
+            (subst (λ (es : List Entry). Stops names session first before (lines_of t.taken) es two.0 fault) same
+            (subst (λ (ls : List (List ℕ)). Stops names session first before ls new.now.entries two.0 fault) (sym (lines_of-parts t.taken)) (two.2 first before (closed_lines t.taken) (one.2 b)))),
       )
 
 module _ (names : Names) (session : ℕ) (first : Standing) where
   -- nothing was read
-  pub attends_nothing : (X : Type 0) (given : Option (List ℕ)) (entries : List Entry) (before : List Event) → IsLegal first.start first.entries → IsSettled first.entries before
+  pub attends_nothing : (X : Type 0) (given : Option (List ℕ)) (entries : List Entry) (before : List Event) → entries ≡ first.entries → IsLegal first.start first.entries → IsSettled first.entries before
       → Attends {X = X} names session first given given entries before before (Err Memory)
-  attends_nothing X given entries before legal settled = ([], [], Consumes-nil given, inl refl, all_in_front names session first before [] before (serves_none names session first before legal settled))
+  attends_nothing X given entries before same legal settled = (
+    [],
+    [],
+    Consumes-nil given,
+    inl refl,
+    (
+      all_in_front names session first before [] before (serves_none names session first before legal settled),
+      inl (same ∙ ap (λ (s : Standing). s.entries) (sym (after_none names session first))),
+    ),
+  )
 
   -- where a client begins, by what is the same
   pub begins : (start : Standing) (before : List Event) (p : Pending) (len : ℕ) → first ≡ start → IsLegal start.start start.entries → IsSettled start.entries before → p.now ≡ first → p.text ≡ [] → p.out ≡ []

@@ -22,8 +22,9 @@ abbrev pub OfInput : Option (List ℕ) → Option (List ℕ) → (List (List ℕ
 OfInput given left P = (taken : List ℕ) × (lines : List (List ℕ)) × Consumes given left taken × IsDue left taken lines
     × P lines
 
--- What attending to a client leaves: where the input ended, all lines of it were answered; where the reader failed,
--- those that are complete in what was read; else the first of those that are to be answered in what was read. (own)
+-- What attending to a client leaves, and which entries the monitor's journal has then: where the input ended, all lines
+-- of it were answered; where the reader failed, those that are complete in what was read; else the first of those that
+-- are to be answered in what was read. (own)
 abbrev pub Attends : {X : Type 0} → Names → ℕ → Standing → Option (List ℕ) → Option (List ℕ) → List Entry → List Event
     → List Event → Result X AttendFault → Type 0
 Attends names session first given left entries before after (Ok x) =
@@ -32,11 +33,12 @@ Attends names session first given left entries before after (Ok x) =
     × (entries ≡ (after_lines names session first (lines_of script)).entries)
 Attends names session first given left entries before after (Err Read) =
     (taken : List ℕ) × Consumes given left taken × Serves names session first before (closed_lines taken) after
+    × (entries ≡ (after_lines names session first (closed_lines taken)).entries)
 Attends names session first given left entries before after (Err Write) =
-    OfInput given left (λ lines. Stops names session first before lines after Write)
+    OfInput given left (λ lines. Stops names session first before lines entries after Write)
 Attends names session first given left entries before after (Err File) =
-    OfInput given left (λ lines. Stops names session first before lines after File)
+    OfInput given left (λ lines. Stops names session first before lines entries after File)
 Attends names session first given left entries before after (Err Memory) =
-    OfInput given left (λ lines. Stops names session first before lines after Memory)
+    OfInput given left (λ lines. Stops names session first before lines entries after Memory)
 Attends names session first given left entries before after (Err TooLong) =
-    OfInput given left (λ lines. Stops names session first before lines after TooLong)
+    OfInput given left (λ lines. Stops names session first before lines entries after TooLong)

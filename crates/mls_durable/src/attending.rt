@@ -33,11 +33,12 @@ fn attend_pieces<R: Read, O: Outside>(
     requires line { client.old.line.items ≡ [] }
     requires text { string_bytes client.old.batch.text ≡ [] }
     requires answers { client.old.batch.answers.items ≡ [] }
-    ensures { let first = standing_of client.old.batch.vars.bound monitor.old in
+    ensures attends { let first = standing_of client.old.batch.vars.bound monitor.old in
         Known (O.history outside.old) (O.history outside.new) (λ before after.
         SoFar script.now.names.now script.now.session first before [] (pending first client.old.batch) before
         → Attends script.now.names.now script.now.session first (R.remaining reader.old) (R.remaining reader.new)
         monitor.new.entries before after result) }
+    ensures start { monitor.new.start ≡ monitor.old.start }
 {
     for _ in 0..u64::MAX {
         let Ok(count) = reader.read(buffer) else {
@@ -60,12 +61,17 @@ fn attend_pieces<R: Read, O: Outside>(
 /// input; a line has at most `MAX_LINE` bytes.
 ///
 /// # Errors
-/// The lines before some line are answered, and no other.
-/// - `Read`: all lines that are complete in what was read are answered.
+/// The lines before some line are answered, and no other. The monitor's start stays.
+/// - `Read`: all lines that are complete in what was read are answered. The monitor's journal is the file's.
 /// - `Write`: answers broke off; the entries of all lines that were asked are in the file, and synced.
-/// - `File`: no answer of the last batch is handed out; the file may have a front of the text of its entries.
+/// - `File`: no answer of the last batch is handed out; the file may have a front of the text of its entries. The file
+///   has to be recovered.
 /// - `Memory`: an allocation failed; the line that met it adds no entry to the file.
 /// - `TooLong`: the line of one entry more, of `LONGEST_LINE` bytes, might make the file longer than `JOURNAL_LIMIT`.
+///   The monitor's journal is the file's.
+///
+/// After `Write` or `Memory` the monitor's journal is the file's, and maybe one entry more: that of the line for whose
+/// text or answer no memory was left.
 pub fn attend<R: Read, O: Outside>(
     alloc: Global,
     names: &Names,
@@ -75,10 +81,11 @@ pub fn attend<R: Read, O: Outside>(
     reader: &mut R,
     outside: &mut O,
 ) -> Result<(), AttendFault>
-    ensures { Known (O.history outside.old) (O.history outside.new) (λ before after.
+    ensures attends { Known (O.history outside.old) (O.history outside.new) (λ before after.
         IsSettled monitor.old.entries before → len ≡ length (seen before)
         → Attends names.now session (standing_of [] monitor.old) (R.remaining reader.old) (R.remaining reader.new)
         monitor.new.entries before after result) }
+    ensures start { monitor.new.start ≡ monitor.old.start }
 {
     // that the entries are legal
     let _ = monitor.entries();

@@ -64,6 +64,7 @@ impl Client {
             (pending (standing_of self.new.batch.vars.bound monitor.new) self.new.batch)
             ((line ++ last.now) ∷ []) h k result) }
         ensures line { OnOk result (self.new.line.items ≡ []) }
+        ensures start { monitor.new.start ≡ monitor.old.start }
     {
         self.keep_open(script, monitor, last, outside)?;
         self.batch.ask(script, monitor, &self.line, outside)?;
@@ -89,6 +90,7 @@ impl Client {
             (pending (standing_of self.new.batch.vars.bound monitor.new) self.new.batch)
             (closed_lines piece.now) h k result) }
         ensures line { OnOk result (self.new.line.items ≡ kept_of (open_part piece.now)) }
+        ensures start { monitor.new.start ≡ monitor.old.start }
     {
         let left = self.batch.ask_lines(script, monitor, piece, outside)?;
         self.keep_open(script, monitor, left, outside)
@@ -114,6 +116,7 @@ impl Client {
             (closed_lines (line ++ piece.now)) h k result) }
         ensures kept { (line : List ℕ) → has_newline line ≡ false → self.old.line.items ≡ kept_of line
             → OnOk result (self.new.line.items ≡ kept_of (open_part (line ++ piece.now))) }
+        ensures start { monitor.new.start ≡ monitor.old.start }
     {
         if self.line.is_empty() {
             return self.ask_and_keep(script, monitor, piece, outside);
@@ -148,6 +151,7 @@ impl Client {
             → OnOk result (self.new.line.items ≡ kept_of (open_part (line ++ piece.now))) }
         ensures text { OnOk result (string_bytes self.new.batch.text ≡ []) }
         ensures answers { OnOk result (self.new.batch.answers.items ≡ []) }
+        ensures start { monitor.new.start ≡ monitor.old.start }
     {
         self.ask_piece(script, monitor, piece, outside)?;
         self.batch.commit(outside)
@@ -173,6 +177,7 @@ impl Client {
             (lines_of line) h k result) }
         ensures text { OnOk result (string_bytes self.new.batch.text ≡ []) }
         ensures answers { OnOk result (self.new.batch.answers.items ≡ []) }
+        ensures start { monitor.new.start ≡ monitor.old.start }
     {
         if self.line.is_empty() {
             return Ok(());

@@ -34,20 +34,23 @@ label_at labels n = unwrap_or (table.get labels n) lowest
 abbrev pub parent_of : State → ℕ → ℕ
 parent_of v o = unwrap_or (table.get v.parent o) 0
 
--- The terms that are compared: the maximum and the current label of a subject, and the label of an object; of
--- integrity the label of a subject and that of an object. (own)
+-- A subject's maximum label, as a term that is compared. (own)
 abbrev pub maximum_of : State → ℕ → Term
 maximum_of v s = term.Maximum (label_at v.maximum s)
 
+-- A subject's current label. (own)
 abbrev pub current_of : State → ℕ → Term
 current_of v s = term.Current (label_at v.current s)
 
+-- An object's security label. (own)
 abbrev pub security_of : State → ℕ → Term
 security_of v o = term.Object (label_at v.object_label o) o
 
+-- A subject's integrity label. (own)
 abbrev pub trust_of_subject : State → ℕ → Term
 trust_of_subject v s = term.SubjectIntegrity (label_at v.subject_integrity s) s
 
+-- An object's integrity label. (own)
 abbrev pub trust_of_object : State → ℕ → Term
 trust_of_object v o = term.ObjectIntegrity (label_at v.object_integrity o) o
 

@@ -38,6 +38,7 @@ fn finish(
     ensures whole { OnOk result (NoneFailed left.entry.feeds.items) }
     ensures legal { IsLegal left.entry.monitor.start left.entry.monitor.entries }
     ensures fault { IfErr result IsRunFault }
+    ensures memory { IfErr result (λ fault. fault ≡ CommandFault.Memory) }
 {
     let text = done_text(alloc, &left.monitor, &left.feeds, journal);
     drop(left);

@@ -12,23 +12,24 @@ loop-init g c = record {
   room = refl;
   text = c.requires.text;
   answers = c.requires.answers;
+  start = refl;
 }
 
 pub take_piece-requires : goal.take_piece-requires
 take_piece-requires g c = omega (arith, taken_short _ _ _ _ _ _ _ _ _ _ c.loop.invariant.taken, c.loop.client.line.ok.0)
 
-pub returns-in_default : goal.returns-in_default
-returns-in_default g c =
+pub returns-in_default-clause-attends : goal.returns-in_default-clause-attends
+returns-in_default-clause-attends g c =
     let names = c.args.script.now.names.now in
     let session = c.args.script.now.session in
     let first = standing_of c.args.client.now.batch.vars.bound c.args.monitor.now in
     let begun = pending first c.args.client.now.batch in
     let p = pending (standing_of c.loop.client.batch.vars.bound c.loop.monitor) c.loop.client.batch in
     attends_read names session first begun (Unit {0}) (g.R.Read.remaining c.args.reader.now) (g.R.Read.remaining c.loop.reader) (g.R.Read.remaining c.read.new.self) p c.loop.client.line.items
-    (g.O.Outside.history c.args.outside.now) (g.O.Outside.history c.loop.outside) c.loop.monitor.entries c.loop.invariant.taken c.in_default.ensures.bytes c.loop.invariant.text c.loop.invariant.answers
+    (g.O.Outside.history c.args.outside.now) (g.O.Outside.history c.loop.outside) c.loop.monitor.entries c.loop.invariant.taken c.in_default.ensures.bytes c.loop.invariant.text c.loop.invariant.answers refl
 
-pub returns-then-count-eq0 : goal.returns-then-count-eq0
-returns-then-count-eq0 g c =
+pub returns-then-count-eq0-clause-attends : goal.returns-then-count-eq0-clause-attends
+returns-then-count-eq0-clause-attends g c =
     let names = c.args.script.now.names.now in
     let session = c.args.script.now.session in
     let first = standing_of c.args.client.now.batch.vars.bound c.args.monitor.now in
@@ -40,8 +41,8 @@ returns-then-count-eq0 g c =
     (g.O.Outside.history c.args.outside.now) (g.O.Outside.history c.loop.outside) (g.O.Outside.history c.take_end.new.outside) c.take_end.new.monitor.entries c.take_end.result
     c.loop.invariant.taken (rw none at c.in-Ok.ensures.bytes.0) (c.in-Ok.ensures.bytes.1 none (search rules)) c.take_end.ensures.steps c.take_end.ensures.text c.take_end.ensures.answers refl
 
-pub returns-in_err-take_piece : goal.returns-in_err-take_piece
-returns-in_err-take_piece g c =
+pub returns-in_err-take_piece-clause-attends : goal.returns-in_err-take_piece-clause-attends
+returns-in_err-take_piece-clause-attends g c =
     let q = err_from_is_err_and c.from_residual.result c.from_residual.ensures.1 in
     let names = c.args.script.now.names.now in
     let session = c.args.script.now.session in
@@ -52,7 +53,7 @@ returns-in_err-take_piece g c =
     rw (q.1, q.2)
     (attends_stop names session first begun (Unit {0}) (g.R.Read.remaining c.args.reader.now) (g.R.Read.remaining c.loop.reader) (g.R.Read.remaining c.read.new.self) p new c.loop.client.line.items c.take_piece.new.self.line.items
     (take c.in-Ok.count c.read.new.buf) (g.O.Outside.history c.args.outside.now) (g.O.Outside.history c.loop.outside) (g.O.Outside.history c.take_piece.new.outside) c.take_piece.new.monitor.entries
-    c.in_err-take_piece.field-0.0 c.loop.invariant.taken c.in-Ok.ensures.bytes.0 c.in_err-take_piece.ensures.steps)
+    c.in_err-take_piece.field-0.0 c.loop.invariant.taken c.in-Ok.ensures.bytes.0 c.in_err-take_piece.ensures.steps refl)
 
 pub loop-preserved : goal.loop-preserved
 loop-preserved g c =
@@ -69,14 +70,15 @@ loop-preserved g c =
       room = c.read.auto.buf ∙ c.loop.invariant.room;
       text = c.in_ok-take_piece.ensures.text;
       answers = c.in_ok-take_piece.ensures.answers;
+      start = c.in_ok-take_piece.ensures.start ∙ c.loop.invariant.start;
     }
 
-pub returns : goal.returns
-returns g c =
+pub returns-clause-attends : goal.returns-clause-attends
+returns-clause-attends g c =
     let names = c.args.script.now.names.now in
     let session = c.args.script.now.session in
     let first = standing_of c.args.client.now.batch.vars.bound c.args.monitor.now in
     let begun = pending first c.args.client.now.batch in
     let p = pending (standing_of c.loop.client.batch.vars.bound c.loop.monitor) c.loop.client.batch in
     attends_read names session first begun (Unit {0}) (g.R.Read.remaining c.args.reader.now) (g.R.Read.remaining c.loop.reader) (g.R.Read.remaining c.loop.reader) p c.loop.client.line.items
-    (g.O.Outside.history c.args.outside.now) (g.O.Outside.history c.loop.outside) c.loop.monitor.entries c.loop.invariant.taken (keeps_itself (g.R.Read.remaining c.loop.reader)) c.loop.invariant.text c.loop.invariant.answers
+    (g.O.Outside.history c.args.outside.now) (g.O.Outside.history c.loop.outside) c.loop.monitor.entries c.loop.invariant.taken (keeps_itself (g.R.Read.remaining c.loop.reader)) c.loop.invariant.text c.loop.invariant.answers refl

@@ -13,4 +13,5 @@ invariant-loop g l = record {
   room : length l.buffer ≡ length l.initial.buffer;
   text : string_bytes l.client.batch.text ≡ [];
   answers : l.client.batch.answers.items ≡ [];
+  start : l.monitor.start ≡ l.initial.monitor.start;
 }

@@ -18,7 +18,7 @@ returns-in_err-ask-clause-steps g c =
     let some : false ≡ eqb (length c.args.self.now.line.items) 0 = search rules in
     rw (p.1, p.2) (λ line none is.
     known_lines names session {X = Unit {0}} first last (line ∷ []) (lines_of line) _ _ (Err c.in_err-ask.field-0.0) (last_line line none (kept_something c.args.self.now.line.items line some is))
-    (c.in_err-ask.ensures line (end_says names c.deref.result.now line (c.deref.ensures.value ∙ is))))
+    (c.in_err-ask.ensures.steps line (end_says names c.deref.result.now line (c.deref.ensures.value ∙ is))))
 
 pub returns-clause-steps : goal.returns-clause-steps
 returns-clause-steps g c =
@@ -32,6 +32,6 @@ returns-clause-steps g c =
     let some : false ≡ eqb (length c.args.self.now.line.items) 0 = search rules in
     λ line none is.
     known_lines names session first last ((line ∷ []) ++ []) (lines_of line) _ _ c.commit.result (last_line line none (kept_something c.args.self.now.line.items line some is))
-    (known_steps names session {X = Unit {0}} {Y = Unit {0}} tt first mid last (line ∷ []) [] _ _ _ c.commit.result (c.in_ok-ask.ensures line (end_says names c.deref.result.now line (c.deref.ensures.value ∙ is)))
+    (known_steps names session {X = Unit {0}} {Y = Unit {0}} tt first mid last (line ∷ []) [] _ _ _ c.commit.result (c.in_ok-ask.ensures.steps line (end_says names c.deref.result.now line (c.deref.ensures.value ∙ is)))
     (subst (λ vars. Known (g.O.Outside.history c.ask.new.outside) (g.O.Outside.history c.commit.new.outside) (λ h k. Steps {X = Unit {0}} names session mid (pending (standing_of vars monitor) c.commit.new.self) [] h k c.commit.result))
     (sym c.commit.ensures.vars) (c.commit.ensures.steps names session now)))
