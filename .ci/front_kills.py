@@ -1,0 +1,123 @@
+"""mlsd, its core or both are killed under clients that ask: nothing that was answered is lost."""
+import fcntl
+import os
+import random
+import signal
+import threading
+import time
+
+import fronts
+import outside
+from fronts import JOURNAL, Front, content, core, fresh, held, told
+from mls_client import Client, Ended, Refused
+from outside import SECONDS, same, shown
+from serving import STANDARD
+
+SHORT = False
+KILLS, SHORT_KILLS, CLIENTS = 150, 6, 16
+# After so many of them the journal begins anew.
+KILLS_OF_A_JOURNAL = 15
+
+
+
+class Asker(threading.Thread):
+    """One client, which asks until the front is gone, and counts what it asked and what was answered."""
+
+    def __init__(self, client, rnd):
+        super().__init__()
+        self.client, self.rnd, self.asked, self.answered = client, rnd, 0, 0
+
+    def run(self):
+        try:
+            while True:
+                count = self.rnd.choice((1, 1, 1, 7, 64))
+                self.asked += count
+                self.client._send(b"".join(b"ann get-read #%d\n" % (1_000 + self.client.session) for _ in range(count)))
+                for _ in range(count):
+                    same(self.client._line(), "undefined")
+                    self.answered += 1
+        except (Ended, OSError):
+            pass
+
+
+def killed(front, rnd, what):
+    """Kills at some moment while clients ask; returns them."""
+    askers = [Asker(front.client(), random.Random(rnd.random())) for _ in range(CLIENTS)]
+    for asker in askers:
+        asker.start()
+    while rnd.random() < 0.9 and not any(asker.answered for asker in askers):
+        time.sleep(0.01)
+    time.sleep(rnd.uniform(0, 0.05 if rnd.random() < 0.7 else 0.3))
+    pids = {"core": front.core_pid(), "front": front.run.pid}
+    for name in what:
+        # (a core has a group of its own)
+        (os.killpg if name == "core" else os.kill)(pids[name], signal.SIGKILL)
+    for asker in askers:
+        asker.join(SECONDS)
+        assert not asker.is_alive(), "a client hangs"
+    status, _ = front.ended()
+    same((what, status), (what, -signal.SIGKILL if "front" in what else 4))
+    return askers
+
+
+def count_of(before):
+    """How many entries each session has behind so many bytes of the journal. (The next core takes it as it is, or is
+    not ready; a part of a line is none.)"""
+    counts = {}
+    for line in content(JOURNAL)[before:].split(b"\n")[:-1]:
+        words = line.split()
+        same(words[3], b"get-read")
+        session = int(words[4]) - 1_000
+        counts[session] = counts.get(session, 0) + 1
+        same(int(words[1]), session)
+    return counts
+
+
+def kills_lose_nothing():
+    """Of each client the journal has at least what was answered, and at most what was asked; sessions are never used
+    twice."""
+    rnd, seen, unanswered = random.Random(52), set(), 0
+    answered, last, many = 0, 0, 0
+    for turn in range(SHORT_KILLS if SHORT else KILLS):
+        if turn % KILLS_OF_A_JOURNAL == 0:
+            fresh()
+            seen, last = set(), 0
+        what = [("core",), ("front",), ("core", "front"), ("front", "core")][turn % 4]
+        before = content(JOURNAL).rfind(b"\n") + 1 if os.path.exists(JOURNAL) else 0
+        with Front() as front:
+            askers = killed(front, rnd, what)
+        wait_for_the_lock()
+        counts = count_of(before)
+        for asker in askers:
+            session = asker.client.session
+            assert session not in seen and session > last, (session, seen)
+            seen.add(session)
+            found = counts.pop(session, 0)
+            assert asker.answered <= found <= asker.asked, (turn, what, asker.answered, found, asker.asked)
+            answered += asker.answered
+            unanswered += found - asker.answered
+        last = max(seen)
+        many += any(asker.answered for asker in askers)
+        same(counts, {})
+        is_told = {session for session, what_, _ in told() if what_ == "opened"}
+        assert seen <= is_told, seen - is_told
+    status, _, error = outside.ran_program(["serve", "--recover", "--journal", JOURNAL, STANDARD])
+    same((status, error), (0, b""))
+    print(f"mlsd: {answered} lines were answered before kills, {unanswered} have an entry and no answer", flush=True)
+    assert many > turn // 2, f"only {many} of {turn + 1} were killed after an answer"
+
+
+def wait_for_the_lock():
+    """A core whose front was killed ends by itself; until then the journal is in use."""
+    ends = time.monotonic() + SECONDS
+    with open(JOURNAL, "rb") as file:
+        while True:
+            try:
+                fcntl.flock(file, fcntl.LOCK_EX | fcntl.LOCK_NB)
+                return
+            except BlockingIOError:
+                assert time.monotonic() < ends, "the core does not end"
+                time.sleep(0.01)
+
+
+CHECKS = [kills_lose_nothing]

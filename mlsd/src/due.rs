@@ -1,0 +1,61 @@
+//! What waits for an answer, in the order in which it was asked. Each line that the core is asked has one answer, so
+//! this order routes them; the front's own answers stand in it too, so each client's come in their order.
+use crate::names::Triple;
+use std::collections::VecDeque;
+use std::time::Instant;
+
+/// An answer that is due.
+#[derive(Debug)]
+pub struct Due {
+    pub session: u32,
+    pub since: Instant,
+    pub is_question: bool,
+    pub what: What,
+}
+
+#[derive(Debug)]
+pub enum What {
+    /// The front's own; it waits for its turn.
+    Own(String),
+    Core(Asked),
+}
+
+/// What is to be done when the core has answered.
+#[derive(Default, Debug)]
+pub struct Asked {
+    /// The get that is counted already.
+    pub get: Option<Triple>,
+    /// The uid whose day an entry was taken of.
+    pub charged: Option<u32>,
+    /// A subject of a pool that is on its way back, and whether this is a release.
+    pub returns: Option<(u16, bool)>,
+}
+
+#[derive(Default, Debug)]
+pub struct Queue(VecDeque<Due>);
+
+impl Queue {
+    pub fn add(&mut self, due: Due) {
+        self.0.push_back(due);
+    }
+
+    pub fn is_empty(&self) -> bool {
+        self.0.is_empty()
+    }
+
+    /// The next, where it is the front's own answer.
+    pub fn next_own(&mut self) -> Option<Due> {
+        match self.0.front() {
+            Some(Due { what: What::Own(_), .. }) => self.0.pop_front(),
+            _ => None,
+        }
+    }
+
+    /// The next, where the core's answer to that session is due.
+    pub fn next_of(&mut self, session: u32) -> Option<Due> {
+        match self.0.front() {
+            Some(Due { session: of, what: What::Core(_), .. }) if *of == session => self.0.pop_front(),
+            _ => None,
+        }
+    }
+}

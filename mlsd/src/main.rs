@@ -1,0 +1,111 @@
+//! mlsd: lets many local clients share one `mls serve`, and lets each ask only as the subjects that are its own.
+//!
+//! Nothing of it is proved. What is proved stands behind it, in the core; what this front is trusted with is who asks.
+mod answers;
+mod budget;
+mod client;
+mod clock;
+mod core;
+mod desk;
+mod doors;
+mod due;
+mod ending;
+mod files;
+mod hall;
+mod holders;
+mod inbox;
+mod line;
+mod listen;
+mod names;
+mod pools;
+mod returns;
+mod sessions;
+mod start;
+mod stats;
+mod sys;
+mod users;
+mod who;
+mod words;
+
+use crate::core::Core;
+use desk::Desk;
+use ending::End;
+use files::Files;
+use hall::Hall;
+use std::os::unix::io::AsRawFd;
+use std::os::unix::net::{UnixListener, UnixStream};
+use words::Words;
+
+/// Descriptors that are not clients', and the most connections that there may be.
+const RESERVED: u64 = 64;
+const CLIENTS_MAX: u64 = 1_024;
+
+/// The ends of the pipe by which signals wake the loop.
+fn wake() -> Result<(UnixStream, UnixStream), End> {
+    let told = |error| End::own("socketpair", error);
+    let (wake, waker) = UnixStream::pair().map_err(told)?;
+    wake.set_nonblocking(true).and(waker.set_nonblocking(true)).map_err(told)?;
+    sys::catch_signals(waker.as_raw_fd());
+    Ok((wake, waker))
+}
+
+fn most_clients() -> usize {
+    sys::descriptors().saturating_sub(RESERVED).min(CLIENTS_MAX) as usize
+}
+
+/// Serves clients until the end.
+fn serve(
+    desk: &mut Desk,
+    held: &[(names::Triple, bool)],
+    wake: UnixStream,
+    passed: Option<UnixListener>,
+) -> Result<(), End> {
+    let more = format!("pid {} core {}", std::process::id(), desk.core.pid());
+    desk.sessions.tell_front("started", desk.entries, &more);
+    desk.flush()?;
+    desk.settle(held)?;
+    let (listener, own) = listen::listener(passed, desk.words.socket.as_deref())?;
+    listen::notify(&format!("READY=1\nSTATUS={} entries\n", desk.entries));
+    let clients = returns::Clients::new();
+    let mut hall = Hall { desk, clients, listener: Some(listener), wake, drains: None, is_ending: false, turn: 0 };
+    let ended = hall.run();
+    // (what the core answered before it ended)
+    hall.clients.values_mut().for_each(client::Client::send);
+    if let Some(path) = own {
+        let _ = std::fs::remove_file(path);
+    }
+    ended
+}
+
+fn run() -> Result<(), End> {
+    let words = Words::parse(std::env::args().skip(1))?;
+    let passed = listen::passed();
+    let (wake, _waker) = wake()?;
+    let (core, opening) = Core::start(&words.core)?;
+    let held = opening.held.clone();
+    let files = match Files::open(&words, &opening.names) {
+        Ok(files) => files,
+        Err(end) => {
+            let _ = core.end();
+            return Err(end);
+        }
+    };
+    let mut desk = Desk::new(words, core, opening, files, most_clients());
+    let ended = serve(&mut desk, &held, wake, passed);
+    let Desk { core, mut sessions, words, entries, .. } = desk;
+    let status = core.end().map_err(|error| End::own("wait", error))?;
+    sessions.tell_front("ended", entries, &format!("core {status}"));
+    sessions.flush().map_err(|error| End::own(&words.sessions, error))?;
+    match ended {
+        Ok(()) if status.success() => Ok(()),
+        Ok(()) => Err(End::core(true, status)),
+        Err(end) => Err(end.with_core(status)),
+    }
+}
+
+fn main() {
+    if let Err(end) = run() {
+        eprintln!("mlsd: {}", end.told);
+        std::process::exit(end.status);
+    }
+}

@@ -1,0 +1,165 @@
+//! What std does not have: the only unsafe code. Constants are those of Linux on x86-64 and arm64.
+use std::ffi::CString;
+use std::io;
+use std::os::raw::{c_char, c_int, c_void};
+use std::os::unix::io::{FromRawFd, RawFd};
+use std::os::unix::net::UnixListener;
+use std::os::unix::process::CommandExt;
+use std::process::Command;
+use std::sync::atomic::{AtomicI32, Ordering};
+
+#[repr(C)]
+#[derive(Clone, Copy, Debug)]
+pub struct PollFd {
+    pub fd: RawFd,
+    pub events: i16,
+    pub revents: i16,
+}
+pub const IN: i16 = 1;
+pub const OUT: i16 = 4;
+/// POLLERR, POLLHUP, POLLNVAL.
+pub const GONE: i16 = 8 | 16 | 32;
+
+pub const HANGUP: u8 = 1;
+const SIGNALS: [c_int; 3] = [1, 2, 15];
+
+const SOL_SOCKET: c_int = 1;
+const SO_PEERCRED: c_int = 17;
+const SO_PEERGROUPS: c_int = 59;
+const F_SETFD: c_int = 2;
+const FD_CLOEXEC: c_int = 1;
+const RLIMIT_NOFILE: c_int = 7;
+/// The most groups that a process can have.
+const GROUPS_MAX: usize = 65_536;
+
+#[repr(C)]
+#[derive(Default, Clone, Copy, Debug)]
+pub struct Peer {
+    pub pid: i32,
+    pub uid: u32,
+    gid: u32,
+}
+
+/// The fronts of struct passwd and struct group, which is all that is read.
+#[repr(C)]
+struct Entry {
+    name: *const c_char,
+    password: *const c_char,
+    id: u32,
+}
+
+extern "C" {
+    #[link_name = "poll"]
+    fn c_poll(fds: *mut PollFd, count: u64, timeout: c_int) -> c_int;
+    fn getsockopt(fd: c_int, level: c_int, name: c_int, value: *mut c_void, len: *mut u32) -> c_int;
+    fn getpwnam(name: *const c_char) -> *const Entry;
+    fn getgrnam(name: *const c_char) -> *const Entry;
+    fn signal(number: c_int, handler: usize) -> usize;
+    fn write(fd: c_int, bytes: *const u8, count: usize) -> isize;
+    fn fcntl(fd: c_int, what: c_int, value: c_int) -> c_int;
+    fn getrlimit(what: c_int, limits: *mut [u64; 2]) -> c_int;
+    fn setpgid(pid: i32, group: i32) -> c_int;
+    fn __errno_location() -> *mut c_int;
+}
+
+/// Waits until a descriptor is ready, at most so many milliseconds; less than 0 is no limit. An interrupt ends it too.
+pub fn poll(fds: &mut [PollFd], timeout: i32) -> io::Result<()> {
+    // SAFETY: the pointer and the count are those of one slice.
+    if unsafe { c_poll(fds.as_mut_ptr(), fds.len() as u64, timeout) } >= 0 {
+        return Ok(());
+    }
+    let error = io::Error::last_os_error();
+    if error.kind() != io::ErrorKind::Interrupted {
+        return Err(error);
+    }
+    fds.iter_mut().for_each(|fd| fd.revents = 0);
+    Ok(())
+}
+
+/// Reads an option of a socket into values of which each may have any bytes; returns how many bytes it has.
+fn option<T: Copy>(fd: RawFd, name: c_int, values: &mut [T]) -> io::Result<usize> {
+    let mut len = std::mem::size_of_val(values) as u32;
+    // SAFETY: the pointer has as many bytes as the length says, and T is u32 or a struct of three.
+    match unsafe { getsockopt(fd, SOL_SOCKET, name, values.as_mut_ptr().cast(), &mut len) } {
+        0 => Ok(len as usize),
+        _ => Err(io::Error::last_os_error()),
+    }
+}
+
+/// Who connected, and all groups of it, as the kernel kept them when it did.
+pub fn peer(fd: RawFd) -> io::Result<(Peer, Vec<u32>)> {
+    let mut peer = [Peer::default()];
+    option(fd, SO_PEERCRED, &mut peer)?;
+    let mut groups = vec![0u32; 64];
+    let bytes = option(fd, SO_PEERGROUPS, &mut groups).or_else(|_| {
+        // (there are more than fit)
+        groups = vec![0; GROUPS_MAX];
+        option(fd, SO_PEERGROUPS, &mut groups)
+    })?;
+    groups.truncate(bytes / std::mem::size_of::<u32>());
+    groups.push(peer[0].gid);
+    Ok((peer[0], groups))
+}
+
+/// The number of a user, or of a group.
+pub fn id_of(name: &str, is_group: bool) -> Option<u32> {
+    let name = CString::new(name).ok()?;
+    // SAFETY: the result is null or points to a struct that begins as Entry does; it is read before another call.
+    unsafe {
+        let found = if is_group { getgrnam(name.as_ptr()) } else { getpwnam(name.as_ptr()) };
+        found.as_ref().map(|entry| entry.id)
+    }
+}
+
+static WAKE: AtomicI32 = AtomicI32::new(-1);
+
+extern "C" fn on_signal(number: c_int) {
+    let byte = number as u8;
+    // SAFETY: write is safe in a handler; errno is put back, since the handler may stand between a call and its errno.
+    unsafe {
+        let errno = *__errno_location();
+        write(WAKE.load(Ordering::Relaxed), &byte, 1);
+        *__errno_location() = errno;
+    }
+}
+
+/// From now on SIGHUP, SIGINT and SIGTERM write their number as a byte to `wake`, which must not block.
+pub fn catch_signals(wake: RawFd) {
+    WAKE.store(wake, Ordering::Relaxed);
+    for number in SIGNALS {
+        // SAFETY: the handler does only what a handler may.
+        unsafe { signal(number, on_signal as extern "C" fn(c_int) as usize) };
+    }
+}
+
+/// The listening socket that systemd passes as descriptor 3.
+pub fn passed_listener() -> UnixListener {
+    const PASSED: RawFd = 3;
+    // SAFETY: it is closed in the core (F_SETFD has no memory in it); nothing else here has it.
+    unsafe {
+        fcntl(PASSED, F_SETFD, FD_CLOEXEC);
+        UnixListener::from_raw_fd(PASSED)
+    }
+}
+
+/// How many descriptors may be open.
+pub fn descriptors() -> u64 {
+    let mut limits = [0u64; 2];
+    // SAFETY: a struct rlimit is two of 64 bits.
+    if unsafe { getrlimit(RLIMIT_NOFILE, &mut limits) } == 0 {
+        limits[0]
+    } else {
+        0
+    }
+}
+
+/// The command runs in a group of its own, so that a terminal's interrupt does not reach it.
+pub fn leave_group(command: &mut Command) {
+    // SAFETY: what runs between fork and exec is one system call, which has no memory in it.
+    unsafe {
+        command.pre_exec(|| match setpgid(0, 0) {
+            0 => Ok(()),
+            _ => Err(io::Error::last_os_error()),
+        })
+    };
+}
