@@ -1,0 +1,115 @@
+/*
+ * The monitor's answers. The first touch of a container in a mode asks for the access; the answer holds for the
+ * transaction, and at its end the access is released. Whatever goes wrong is an error, never a yes.
+ */
+#include "mls.h"
+#include "access/xact.h"
+#include "utils/timestamp.h"
+
+const char *const mode_name[MODES] = {"read", "append", "write"};
+
+/* Asks a line on a container, and reads the answer. Before it stands a note, where it makes an entry. */
+static void
+ask_about(const Container *c, const char *before, const char *deed, AccessMode mode, char *answer)
+{
+	char		line[LINE_MAX_BYTES];
+
+	snprintf(line, sizeof line, "%s%s %s%s %.*s\n", before, subject_held(), deed, mode_name[mode], NAME_BYTES,
+			 c->name);
+	wire_ask(line, answer);
+}
+
+static bool
+is_denial(const char *answer)
+{
+	return strncmp(answer, "no ", 3) == 0 || strcmp(answer, "undefined") == 0;
+}
+
+static Known
+denied(Container *c, AccessMode mode, const char *answer)
+{
+	container_touch(c);
+	strlcpy(c->reason[mode], answer, sizeof c->reason[mode]);
+	return c->known[mode] = KNOWN_NO;
+}
+
+static void
+no_answer(const char *answer)
+{
+	ereport(ERROR, (errcode(ERRCODE_INSUFFICIENT_PRIVILEGE),
+					errmsg("mls: the monitor says %s to %s", answer, subject_held())));
+}
+
+/* Gets an access. It counts as asked for before its line is sent: a cancel must still release it. */
+static Known
+get(Container *c, AccessMode mode)
+{
+	char		answer[ANSWER_MAX];
+
+	container_touch(c);
+	c->known[mode] = KNOWN_ASKED;
+	ask_about(c, subject_note(), "get-", mode, answer);
+	if (is_denial(answer))
+		return denied(c, mode, answer);
+	if (strcmp(answer, "yes") != 0)
+		no_answer(answer);
+	c->checked = GetCurrentStatementStartTimestamp();
+	return c->known[mode] = KNOWN_YES;
+}
+
+/* Whether the monitor would deny it: that question has no entry and no sync. */
+static bool
+is_foreseen(Container *c, AccessMode mode)
+{
+	char		answer[ANSWER_MAX];
+
+	ask_about(c, "? ", "get-", mode, answer);
+	if (strcmp(answer, "? yes") == 0)
+		return false;
+	if (strncmp(answer, "? ", 2) != 0 || !is_denial(answer + 2))
+		no_answer(answer);
+	denied(c, mode, answer + 2);
+	return true;
+}
+
+/* Whether a read is held since an earlier transaction. */
+static bool
+is_still_kept(Container *c)
+{
+	TimestampTz now = GetCurrentStatementStartTimestamp();
+	char		answer[ANSWER_MAX];
+
+	if (!container_is_kept(c))
+		return false;
+	if (mls_recheck > 0 && !TimestampDifferenceExceeds(c->checked, now, mls_recheck))
+		return true;
+	ask_about(c, "", "check ", MODE_READ, answer);
+	if (strcmp(answer, "held") != 0)
+	{
+		container_keep(c, false);
+		return false;
+	}
+	c->checked = now;
+	return true;
+}
+
+/* What the monitor says to an access, asked at most once a transaction. A filter may only hide a row. */
+Known
+access_ask(AccessMode mode, Container *c, bool is_filter)
+{
+	Known		known = c->known[mode];
+
+	subject_name();
+	if (known == KNOWN_NO || (known == KNOWN_YES && session_holds()))
+		return known;
+	session_reach();
+	session_needs_level();
+	if (mode == MODE_READ && is_still_kept(c))
+	{
+		container_touch(c);
+		return c->known[mode] = KNOWN_YES;
+	}
+	if (is_filter && mls_preview && known != KNOWN_ASKED && is_foreseen(c, mode))
+		return KNOWN_NO;
+	return get(c, mode);
+}

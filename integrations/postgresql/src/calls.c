@@ -1,0 +1,97 @@
+/*
+ * What functions leave for others to see: notifications, large objects, sequences that are set, advisory locks; and the
+ * setting application_name, by whichever way it is set. They need append on the catalog's container, as statements do.
+ */
+#include "mls.h"
+#include "access/parallel.h"
+#include "access/xact.h"
+#include "catalog/objectaccess.h"
+#include "utils/fmgroids.h"
+#include "utils/guc.h"
+#include "utils/guc_tables.h"
+#include "utils/lsyscache.h"
+
+static object_access_hook_type next_access = NULL;
+static GucStringCheckHook next_check = NULL;
+
+static const Oid leaving[] = {
+	F_PG_NOTIFY, F_SETVAL_REGCLASS_INT8, F_SETVAL_REGCLASS_INT8_BOOL,
+	F_PG_LOGICAL_EMIT_MESSAGE_BOOL_TEXT_TEXT, F_PG_LOGICAL_EMIT_MESSAGE_BOOL_TEXT_BYTEA,
+	F_LO_CREATE, F_LO_CREAT, F_LO_IMPORT_TEXT, F_LO_IMPORT_TEXT_OID, F_LO_FROM_BYTEA, F_LO_PUT, F_LOWRITE,
+	F_LO_TRUNCATE, F_LO_TRUNCATE64, F_LO_UNLINK, F_LO_EXPORT,
+	F_PG_ADVISORY_LOCK_INT8, F_PG_ADVISORY_LOCK_SHARED_INT8, F_PG_TRY_ADVISORY_LOCK_INT8,
+	F_PG_TRY_ADVISORY_LOCK_SHARED_INT8, F_PG_ADVISORY_LOCK_INT4_INT4, F_PG_ADVISORY_LOCK_SHARED_INT4_INT4,
+	F_PG_TRY_ADVISORY_LOCK_INT4_INT4, F_PG_TRY_ADVISORY_LOCK_SHARED_INT4_INT4, F_PG_ADVISORY_XACT_LOCK_INT8,
+	F_PG_ADVISORY_XACT_LOCK_SHARED_INT8, F_PG_TRY_ADVISORY_XACT_LOCK_INT8, F_PG_TRY_ADVISORY_XACT_LOCK_SHARED_INT8,
+	F_PG_ADVISORY_XACT_LOCK_INT4_INT4, F_PG_ADVISORY_XACT_LOCK_SHARED_INT4_INT4,
+	F_PG_TRY_ADVISORY_XACT_LOCK_INT4_INT4, F_PG_TRY_ADVISORY_XACT_LOCK_SHARED_INT4_INT4,
+};
+
+static bool
+is_leaving(Oid function)
+{
+	for (size_t k = 0; k < lengthof(leaving); k++)
+		if (leaving[k] == function)
+			return true;
+	return false;
+}
+
+static void
+on_access(ObjectAccessType access, Oid class, Oid object, int part, void *arg)
+{
+	char		deed[NAMEDATALEN + 8];
+
+	if (next_access != NULL)
+		next_access(access, class, object, part, arg);
+	if (access == OAT_FUNCTION_EXECUTE && is_leaving(object) && guard_is_on())
+	{
+		snprintf(deed, sizeof deed, "call %s", get_func_name(object));
+		guard_must_append(deed);
+	}
+	else if (access == OAT_TRUNCATE && guard_is_on() && is_protected_oid(object))
+		ereport(ERROR, (errcode(ERRCODE_INSUFFICIENT_PRIVILEGE),
+						errmsg("mls: table %s is protected: only a superuser truncates it", get_rel_name(object))));
+}
+
+/* Of a session that sets the name, by SET, by a function or by a function's own settings. */
+static bool
+on_name(char **value, void **extra, GucSource source)
+{
+	if (source == PGC_S_SESSION && IsTransactionState() && !InitializingParallelWorker && guard_is_on() &&
+		!guard_may_append())
+	{
+		GUC_check_errcode(ERRCODE_INSUFFICIENT_PRIVILEGE);
+		GUC_check_errmsg("mls: %s may not set application_name", subject_held());
+		return false;
+	}
+	return next_check == NULL || next_check(value, extra, source);
+}
+
+static struct config_string *
+application_name_setting(void)
+{
+#if PG_VERSION_NUM >= 160000
+	return (struct config_string *) find_option("application_name", false, false, ERROR);
+#else
+	struct config_generic **all = get_guc_variables();
+	int			count = GetNumConfigOptions();
+
+	for (int k = 0; k < count; k++)
+		if (strcmp(all[k]->name, "application_name") == 0)
+			return (struct config_string *) all[k];
+	return NULL;
+#endif
+}
+
+void
+calls_start(void)
+{
+	struct config_string *name = application_name_setting();
+
+	if (name == NULL)
+		ereport(ERROR, (errmsg("mls: there is no setting application_name")));
+	next_check = name->check_hook;
+	name->check_hook = on_name;
+	next_access = object_access_hook;
+	object_access_hook = on_access;
+}

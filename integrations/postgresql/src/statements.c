@@ -1,0 +1,138 @@
+/*
+ * Statements other than queries. Those that leave nothing for others to see are named here; any other needs append on
+ * the catalog's container.
+ */
+#include "mls.h"
+#include "nodes/parsenodes.h"
+#include "tcop/cmdtag.h"
+#include "tcop/utility.h"
+
+static ProcessUtility_hook_type next_utility = NULL;
+static bool is_copying = false;
+
+/* Whether a query runs whose rows outlive its transaction without a label. */
+bool
+statement_is_copying(void)
+{
+	return is_copying;
+}
+
+static Node *
+explained(Node *statement)
+{
+	Node	   *query = ((ExplainStmt *) statement)->query;
+
+	return IsA(query, Query) ? ((Query *) query)->utilityStmt : NULL;
+}
+
+static bool
+copies(Node *statement)
+{
+	if (statement == NULL)
+		return false;
+	switch (nodeTag(statement))
+	{
+		case T_CreateTableAsStmt:
+		case T_RefreshMatViewStmt:
+			return true;
+		case T_DeclareCursorStmt:
+			return (((DeclareCursorStmt *) statement)->options & CURSOR_OPT_HOLD) != 0;
+		case T_ExplainStmt:
+			return copies(explained(statement));
+		default:
+			return false;
+	}
+}
+
+static bool
+sets_application_name(VariableSetStmt *set)
+{
+	return set->name != NULL && strcmp(set->name, "application_name") == 0;
+}
+
+static bool
+leaves_nothing(Node *statement)
+{
+	switch (nodeTag(statement))
+	{
+		case T_TransactionStmt:
+			{
+				TransactionStmtKind kind = ((TransactionStmt *) statement)->kind;
+
+				return kind != TRANS_STMT_PREPARE && kind != TRANS_STMT_COMMIT_PREPARED &&
+					kind != TRANS_STMT_ROLLBACK_PREPARED;
+			}
+		case T_VariableSetStmt:
+			return !sets_application_name((VariableSetStmt *) statement);
+		case T_CopyStmt:
+			return !((CopyStmt *) statement)->is_from && ((CopyStmt *) statement)->filename == NULL;
+		case T_ExplainStmt:
+			return explained(statement) == NULL || leaves_nothing(explained(statement));
+		case T_CallStmt:
+		case T_ClosePortalStmt:
+		case T_ConstraintsSetStmt:
+		case T_DeallocateStmt:
+		case T_DeclareCursorStmt:
+		case T_DiscardStmt:
+		case T_DoStmt:
+		case T_ExecuteStmt:
+		case T_FetchStmt:
+		case T_ListenStmt:
+		case T_LockStmt:
+		case T_PrepareStmt:
+		case T_UnlistenStmt:
+		case T_VariableShowStmt:
+			return true;
+		default:
+			return false;
+	}
+}
+
+static bool
+discards_all(Node *statement)
+{
+	return IsA(statement, DiscardStmt) && ((DiscardStmt *) statement)->target == DISCARD_ALL;
+}
+
+static void
+look_at(Node *statement)
+{
+	if (leaves_nothing(statement) || !guard_is_on())
+		return;
+	guard_must_append(GetCommandTagName(CreateCommandTag(statement)));
+	protection_stays(statement);
+}
+
+static void
+on_utility(PlannedStmt *statement, const char *text, bool is_read_only, ProcessUtilityContext context,
+		   ParamListInfo params, QueryEnvironment *environment, DestReceiver *dest, QueryCompletion *done)
+{
+	ProcessUtility_hook_type next = next_utility != NULL ? next_utility : standard_ProcessUtility;
+	bool		was_copying = is_copying;
+
+	look_at(statement->utilityStmt);
+	if (!copies(statement->utilityStmt))
+	{
+		next(statement, text, is_read_only, context, params, environment, dest, done);
+		if (discards_all(statement->utilityStmt))
+			session_begin_anew();
+		return;
+	}
+	is_copying = true;
+	PG_TRY();
+	{
+		next(statement, text, is_read_only, context, params, environment, dest, done);
+	}
+	PG_FINALLY();
+	{
+		is_copying = was_copying;
+	}
+	PG_END_TRY();
+}
+
+void
+statements_start(void)
+{
+	next_utility = ProcessUtility_hook;
+	ProcessUtility_hook = on_utility;
+}
