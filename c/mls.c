@@ -1,5 +1,6 @@
-/* The part of the library that is plain C: the words of numbers, and the calls that take bytes with a length. What is proved
- * takes no null pointer; where a length is 0 and the pointer is null, it gets the address of a byte that it doesn't read. */
+/* The part of the library that is plain C: the words of numbers, and the calls that take bytes with a length. What is
+ * proved takes no null pointer; where a length is 0 and the pointer is null, it gets the address of a byte that it
+ * doesn't read. */
 #include "mls.h"
 
 #define COUNT(words) (sizeof(words) / sizeof(words)[0])
@@ -15,39 +16,39 @@ static char nowhere;
 
 static char *room(char *at, size_t cap) { return at || cap ? at : &nowhere; }
 
-int mls_open_bytes(mls_t *m, const uint8_t *start, size_t len, mls_fault_t *fault);
-int mls_resume_bytes(mls_t *m, const uint8_t *start, size_t len, const uint8_t *journal, size_t journal_len, mls_fault_t *fault);
-int mls_entry_bytes(mls_t *m, uint64_t n, char *buf, size_t cap, size_t *len);
-int mls_subject_bytes(mls_t *m, const uint8_t *name, size_t len, uint16_t *subject);
-int mls_object_bytes(mls_t *m, const uint8_t *name, size_t len, uint16_t *object);
-int mls_read_label_bytes(mls_t *m, uint32_t kind, const uint8_t *text, size_t len, mls_label_t *label);
-int mls_write_label_bytes(mls_t *m, uint32_t kind, const mls_label_t *label, char *buf, size_t cap, size_t *len);
+int mls_open_bytes(mls_monitor *m, const uint8_t *start, size_t len, mls_fault *fault);
+int mls_resume_bytes(mls_monitor *m, const uint8_t *start, size_t len, const uint8_t *journal, size_t journal_len, mls_fault *fault);
+int mls_entry_bytes(mls_monitor *m, uint64_t n, char *buf, size_t cap, size_t *len);
+int mls_subject_bytes(mls_monitor *m, const uint8_t *name, size_t len, uint16_t *subject);
+int mls_object_bytes(mls_monitor *m, const uint8_t *name, size_t len, uint16_t *object);
+int mls_read_label_bytes(mls_monitor *m, uint32_t kind, const uint8_t *text, size_t len, mls_label *label);
+int mls_write_label_bytes(mls_monitor *m, uint32_t kind, const mls_label *label, char *buf, size_t cap, size_t *len);
 
-int mls_open(mls_t *m, const uint8_t *start, size_t len, mls_fault_t *fault) {
+int mls_open(mls_monitor *m, const uint8_t *start, size_t len, mls_fault *fault) {
     return mls_open_bytes(m, bytes(start, len), len, fault);
 }
 
-int mls_resume(mls_t *m, const uint8_t *start, size_t len, const uint8_t *journal, size_t journal_len, mls_fault_t *fault) {
+int mls_resume(mls_monitor *m, const uint8_t *start, size_t len, const uint8_t *journal, size_t journal_len, mls_fault *fault) {
     return mls_resume_bytes(m, bytes(start, len), len, bytes(journal, journal_len), journal_len, fault);
 }
 
-int mls_entry_text(mls_t *m, uint64_t n, char *buf, size_t cap, size_t *len) {
+int mls_entry_text(mls_monitor *m, uint64_t n, char *buf, size_t cap, size_t *len) {
     return mls_entry_bytes(m, n, room(buf, cap), cap, len);
 }
 
-int mls_subject(mls_t *m, const uint8_t *name, size_t len, uint16_t *subject) {
+int mls_subject(mls_monitor *m, const uint8_t *name, size_t len, uint16_t *subject) {
     return mls_subject_bytes(m, bytes(name, len), len, subject);
 }
 
-int mls_object(mls_t *m, const uint8_t *name, size_t len, uint16_t *object) {
+int mls_object(mls_monitor *m, const uint8_t *name, size_t len, uint16_t *object) {
     return mls_object_bytes(m, bytes(name, len), len, object);
 }
 
-int mls_read_label(mls_t *m, int kind, const uint8_t *text, size_t len, mls_label_t *label) {
+int mls_read_label(mls_monitor *m, int kind, const uint8_t *text, size_t len, mls_label *label) {
     return mls_read_label_bytes(m, (uint32_t)kind, bytes(text, len), len, label);
 }
 
-int mls_write_label(mls_t *m, int kind, const mls_label_t *label, char *buf, size_t cap, size_t *len) {
+int mls_write_label(mls_monitor *m, int kind, const mls_label *label, char *buf, size_t cap, size_t *len) {
     return mls_write_label_bytes(m, (uint32_t)kind, label, room(buf, cap), cap, len);
 }
 

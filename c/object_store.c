@@ -9,30 +9,23 @@
 #include <string.h>
 
 typedef struct {
-    mls_t monitor;
+    mls_monitor monitor;
     char notes[8][64];
-} store_t;
+} note_store;
 
-static int number(int (*find)(mls_t *, const uint8_t *, size_t, uint16_t *), store_t *s, const char *name) {
+static int number(int (*find)(mls_monitor *, const uint8_t *, size_t, uint16_t *), note_store *s, const char *name) {
     uint16_t n = 0;
     return find(&s->monitor, (const uint8_t *)name, strlen(name), &n) == MLS_OK ? n : -1;
 }
 
 /* Asks for an access, and ends it again: 0 where it was granted, else the reply or a status below 0. */
-static int ask(store_t *s, int subject, int object, uint8_t mode) {
-    mls_request_t q;
-    mls_answer_t a;
-    int status, reply;
-    memset(&q, 0, sizeof q);
-    q.action = MLS_GET;
-    q.mode = mode;
-    q.subject = (uint16_t)subject;
-    q.object = (uint16_t)object;
-    status = mls_submit(&s->monitor, 0, &q, &a);
+static int ask(note_store *s, int subject, int object, uint8_t mode) {
+    uint16_t who = (uint16_t)subject, what = (uint16_t)object;
+    mls_answer a;
+    int reply, status = mls_get(&s->monitor, 0, who, what, mode, &a);
     if (status || a.reply) return status ? status : a.reply;
-    reply = mls_check(&s->monitor, q.subject, q.object, mode) ? 0 : MLS_UNDEFINED;
-    q.action = MLS_RELEASE;
-    status = mls_submit(&s->monitor, 0, &q, &a);
+    reply = mls_check(&s->monitor, who, what, mode) ? 0 : MLS_UNDEFINED;
+    status = mls_release(&s->monitor, 0, who, what, mode, &a);
     return status ? status : reply;
 }
 
@@ -42,13 +35,13 @@ static void tell(const char *who, const char *does, const char *what, int reply,
     else printf("%s %s %s: %s\n", who, does, what, reply < 0 ? mls_status_word(reply) : mls_reply_word(reply));
 }
 
-static void read_note(store_t *s, const char *who, const char *what) {
+static void read_note(note_store *s, const char *who, const char *what) {
     int subject = number(mls_subject, s, who), object = number(mls_object, s, what);
     if (subject < 0 || object < 0) tell(who, "reads", what, MLS_ENOTFOUND, "");
     else tell(who, "reads", what, ask(s, subject, object, MLS_READ), s->notes[object]);
 }
 
-static void write_note(store_t *s, const char *who, const char *what, const char *note) {
+static void write_note(note_store *s, const char *who, const char *what, const char *note) {
     int subject = number(mls_subject, s, who), object = number(mls_object, s, what), reply;
     if (subject < 0 || object < 0) {
         tell(who, "writes", what, MLS_ENOTFOUND, "");
@@ -61,8 +54,8 @@ static void write_note(store_t *s, const char *who, const char *what, const char
 
 int main(int argc, char **argv) {
     static uint8_t start[1 << 16];
-    static store_t store;
-    mls_fault_t fault;
+    static note_store store;
+    mls_fault fault;
     FILE *file = argc > 1 ? fopen(argv[1], "rb") : NULL;
     uint64_t n;
     if (!file) return 2;

@@ -23,8 +23,8 @@ static const char *const security[] = {"U", "C", "S", "S:A", "T:A,B"};
 static const char *const integrity[] = {"lo", "hi"};
 
 /* Makes a request, and writes its line. */
-static mls_request_t make(mls_t *m, FILE *script) {
-    mls_request_t q;
+static mls_request make(mls_monitor *m, FILE *script) {
+    mls_request q;
     const char *s = security[below(5)], *i = integrity[below(2)], *mode;
     memset(&q, 0, sizeof q);
     q.action = (uint8_t)below(8);
@@ -63,9 +63,9 @@ static FILE *create(const char *folder, const char *name, unsigned n) {
 
 int main(int argc, char **argv) {
     static uint8_t start[1 << 16];
-    mls_t m = MLS_INIT;
-    mls_fault_t fault;
-    mls_answer_t answer;
+    mls_monitor m = MLS_INIT;
+    mls_fault fault;
+    mls_answer answer;
     FILE *file = argc == 5 ? fopen(argv[1], "rb") : NULL;
     unsigned script, line, scripts, lines;
     uint64_t n;
@@ -77,7 +77,7 @@ int main(int argc, char **argv) {
     for (script = 0; script < scripts; script++) {
         file = create(argv[2], "%s/script%u", script);
         for (line = 0; line < lines; line++) {
-            mls_request_t q = make(&m, file);
+            mls_request q = make(&m, file);
             if (mls_submit(&m, script, &q, &answer)) return 2;
         }
         fclose(file);

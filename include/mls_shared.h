@@ -1,0 +1,136 @@
+/* mls_shared.h: a handle that threads share, behind a POSIX mutex. It is this header alone: nothing
+ * of it is in the library, nor proved.
+ *
+ * A mls_shared is made by MLS_SHARED_INIT, or by mls_shared_init, and neither copied nor moved
+ * after that. Each call below takes the mutex, makes the call of mls.h that has its name, and gives
+ * the mutex back; statuses and all else are as mls.h says. Between two calls another thread may
+ * ask: what mls_shared_check says was so at one moment of the call.
+ *
+ * The mutex is no part of what a signal handler may use. It isn't given back where a thread is
+ * cancelled within a call, which has no cancellation point but those of malloc and free.
+ */
+#ifndef MLS_SHARED_H
+#define MLS_SHARED_H
+
+#include "mls.h"
+
+#include <pthread.h>
+#include <stdlib.h>
+
+/* A handle with its mutex. Its fields are this header's. */
+typedef struct {
+    pthread_mutex_t mutex;
+    mls_monitor monitor;
+} mls_shared;
+
+#define MLS_SHARED_INIT { PTHREAD_MUTEX_INITIALIZER, MLS_INIT }
+
+/* Takes the mutex. Where that fails, the handle was never made: no call may go on without it. */
+MLS_INLINE mls_monitor *mls_shared_lock(mls_shared *s) {
+    if (pthread_mutex_lock(&s->mutex)) abort();
+    return &s->monitor;
+}
+
+/* Gives the mutex back. */
+MLS_INLINE void mls_shared_unlock(mls_shared *s) {
+    if (pthread_mutex_unlock(&s->mutex)) abort();
+}
+
+/* Makes a handle, which is closed: MLS_OK, or MLS_ENOMEM where the system has no mutex. */
+MLS_INLINE int mls_shared_init(mls_shared *s) {
+    mls_shared closed = MLS_SHARED_INIT;
+    *s = closed;
+    return pthread_mutex_init(&s->mutex, NULL) ? MLS_ENOMEM : MLS_OK;
+}
+
+MLS_INLINE int mls_shared_open(mls_shared *s, const uint8_t *start, size_t len, mls_fault *fault) {
+    int status = mls_open(mls_shared_lock(s), start, len, fault);
+    mls_shared_unlock(s);
+    return status;
+}
+
+MLS_INLINE int mls_shared_resume(mls_shared *s, const uint8_t *start, size_t len,
+                                 const uint8_t *journal, size_t journal_len, mls_fault *fault) {
+    int status = mls_resume(mls_shared_lock(s), start, len, journal, journal_len, fault);
+    mls_shared_unlock(s);
+    return status;
+}
+
+MLS_INLINE int mls_shared_submit(mls_shared *s, uint32_t session, const mls_request *request,
+                                 mls_answer *answer) {
+    int status = mls_submit(mls_shared_lock(s), session, request, answer);
+    mls_shared_unlock(s);
+    return status;
+}
+
+MLS_INLINE int mls_shared_check(mls_shared *s, uint16_t subject, uint16_t object, uint8_t mode) {
+    int is_held = mls_check(mls_shared_lock(s), subject, object, mode);
+    mls_shared_unlock(s);
+    return is_held;
+}
+
+MLS_INLINE int mls_shared_decide(mls_shared *s, const mls_request *request, mls_answer *answer) {
+    int status = mls_decide(mls_shared_lock(s), request, answer);
+    mls_shared_unlock(s);
+    return status;
+}
+
+MLS_INLINE uint64_t mls_shared_entries(mls_shared *s) {
+    uint64_t count = mls_entries(mls_shared_lock(s));
+    mls_shared_unlock(s);
+    return count;
+}
+
+MLS_INLINE int mls_shared_entry(mls_shared *s, uint64_t n, mls_journal_entry *entry) {
+    int status = mls_entry(mls_shared_lock(s), n, entry);
+    mls_shared_unlock(s);
+    return status;
+}
+
+MLS_INLINE int mls_shared_entry_text(mls_shared *s, uint64_t n, char *buf, size_t cap,
+                                     size_t *len) {
+    int status = mls_entry_text(mls_shared_lock(s), n, buf, cap, len);
+    mls_shared_unlock(s);
+    return status;
+}
+
+MLS_INLINE int mls_shared_subject(mls_shared *s, const uint8_t *name, size_t len,
+                                  uint16_t *subject) {
+    int status = mls_subject(mls_shared_lock(s), name, len, subject);
+    mls_shared_unlock(s);
+    return status;
+}
+
+MLS_INLINE int mls_shared_object(mls_shared *s, const uint8_t *name, size_t len, uint16_t *object) {
+    int status = mls_object(mls_shared_lock(s), name, len, object);
+    mls_shared_unlock(s);
+    return status;
+}
+
+MLS_INLINE int mls_shared_read_label(mls_shared *s, int kind, const uint8_t *text, size_t len,
+                                     mls_label *label) {
+    int status = mls_read_label(mls_shared_lock(s), kind, text, len, label);
+    mls_shared_unlock(s);
+    return status;
+}
+
+MLS_INLINE int mls_shared_write_label(mls_shared *s, int kind, const mls_label *label, char *buf,
+                                      size_t cap, size_t *len) {
+    int status = mls_write_label(mls_shared_lock(s), kind, label, buf, cap, len);
+    mls_shared_unlock(s);
+    return status;
+}
+
+/* Closes the handle, which may be opened again. */
+MLS_INLINE void mls_shared_close(mls_shared *s) {
+    mls_close(mls_shared_lock(s));
+    mls_shared_unlock(s);
+}
+
+/* Closes the handle and ends its mutex, which no thread holds or waits for. */
+MLS_INLINE void mls_shared_destroy(mls_shared *s) {
+    mls_shared_close(s);
+    if (pthread_mutex_destroy(&s->mutex)) abort();
+}
+
+#endif

@@ -1,0 +1,54 @@
+"""The exceptions, one for each status below 0 that a call from here can have. A denial is none: it is an answer."""
+from __future__ import annotations
+
+
+class Error(Exception):
+    """What the library refuses."""
+
+
+class Closed(Error, ValueError):
+    """The monitor is closed."""
+
+
+class OutOfMemory(Error, MemoryError):
+    """An allocation failed. Nothing was changed: the call may be made again."""
+
+
+class BadRequest(Error, ValueError):
+    """What was given is no request or no label: a number out of range, or a text that its scheme doesn't have."""
+
+
+class UnknownName(Error, KeyError):
+    """The start has no subject, or no object, of this name."""
+
+
+class NoSuchEntry(Error, IndexError):
+    """The journal has no entry of this number."""
+
+
+class StartRefused(Error, ValueError):
+    """The start file is refused: `fault` is the number of its fault, 1 Json to 7 Start, and `cause` that of a fault 3
+    Scheme or 7 Start, else 0. docs/FORMATS.md names them, and `mls lint` prints where the fault is."""
+
+    def __init__(self, fault: int, cause: int) -> None:
+        super().__init__(f"start {fault}" + (f" {cause}" if cause else ""))
+        self.fault, self.cause = fault, cause
+
+
+class JournalRefused(Error, ValueError):
+    """A line of the journal is no entry's: the first that is none, counted from 0, with its fault, 1 BadForm to 4
+    BadReply."""
+
+    def __init__(self, line: int, fault: int) -> None:
+        super().__init__(f"line {line}: entry {fault}")
+        self.line, self.fault = line, fault
+
+
+class ReplayDiffers(Error, ValueError):
+    """The journal isn't one of its start: `entry` is the first, counted from 0, that hasn't its place as number, or
+    hasn't the reply that the rules give, which is then in `wanted`, as a number of the library's."""
+
+    def __init__(self, entry: int, wanted: int | None) -> None:
+        told = "number" if wanted is None else f"reply, {wanted} wanted"
+        super().__init__(f"entry {entry}: {told}")
+        self.entry, self.wanted = entry, wanted

@@ -1,0 +1,82 @@
+"""The shared library by ctypes: the structs, the calls and the statuses as include/mls.h has them."""
+from __future__ import annotations
+
+import ctypes
+import functools
+import os
+from ctypes import POINTER, c_char_p, c_int, c_size_t, c_uint8, c_uint16, c_uint32, c_uint64, c_void_p
+
+# The name that the loader looks for, unless the environment names a file.
+NAME, VARIABLE = "libmls.so.0", "MLS_LIBRARY"
+VERSION = (0, 2)
+CLOSED, NO_MEMORY, INVALID = -1, -3, -4
+START_REFUSED, JOURNAL_REFUSED, REPLAY_DIFFERS = -5, -6, -7
+TOO_SHORT, NOT_FOUND = -8, -9
+
+
+class Handle(ctypes.Structure):
+    _fields_ = [("held", c_uint32), ("monitor", c_void_p)]
+
+
+class Label(ctypes.Structure):
+    _fields_ = [("level", c_uint8), ("categories", c_uint64 * 4)]
+
+
+class Request(ctypes.Structure):
+    _fields_ = [
+        ("action", c_uint8), ("mode", c_uint8), ("subject", c_uint16), ("other", c_uint16), ("object", c_uint16),
+        ("security", Label), ("integrity", Label),
+    ]  # fmt: skip
+
+
+class Answer(ctypes.Structure):
+    _fields_ = [("number", c_uint64), ("reply", c_uint16), ("object", c_uint16)]
+
+
+class Entry(ctypes.Structure):
+    _fields_ = [
+        ("number", c_uint64), ("session", c_uint32), ("reply", c_uint16), ("object", c_uint16), ("request", Request),
+    ]  # fmt: skip
+
+
+class Fault(ctypes.Structure):
+    _fields_ = [("kind", c_uint16), ("number", c_uint16), ("place", c_uint64)]
+
+
+MONITOR, LENGTH = POINTER(Handle), POINTER(c_size_t)
+# The calls: what each returns, and what it takes.
+CALLS = {
+    "mls_open": (c_int, [MONITOR, c_char_p, c_size_t, POINTER(Fault)]),
+    "mls_resume": (c_int, [MONITOR, c_char_p, c_size_t, c_char_p, c_size_t, POINTER(Fault)]),
+    "mls_submit": (c_int, [MONITOR, c_uint32, POINTER(Request), POINTER(Answer)]),
+    "mls_check": (c_int, [MONITOR, c_uint16, c_uint16, c_uint8]),
+    "mls_decide": (c_int, [MONITOR, POINTER(Request), POINTER(Answer)]),
+    "mls_entries": (c_uint64, [MONITOR]),
+    "mls_entry": (c_int, [MONITOR, c_uint64, POINTER(Entry)]),
+    "mls_entry_text": (c_int, [MONITOR, c_uint64, c_char_p, c_size_t, LENGTH]),
+    "mls_subject": (c_int, [MONITOR, c_char_p, c_size_t, POINTER(c_uint16)]),
+    "mls_object": (c_int, [MONITOR, c_char_p, c_size_t, POINTER(c_uint16)]),
+    "mls_read_label": (c_int, [MONITOR, c_int, c_char_p, c_size_t, POINTER(Label)]),
+    "mls_write_label": (c_int, [MONITOR, c_int, POINTER(Label), c_char_p, c_size_t, LENGTH]),
+    "mls_close": (None, [MONITOR]),
+    "mls_version": (c_char_p, []),
+    "mls_status_word": (c_char_p, [c_int]),
+    "mls_action_word": (c_char_p, [c_int]),
+    "mls_mode_word": (c_char_p, [c_int]),
+    "mls_reply_word": (c_char_p, [c_int]),
+    "mls_reason_word": (c_char_p, [c_int]),
+}  # fmt: skip
+
+
+@functools.lru_cache(maxsize=None)
+def load(name: str | None = None) -> ctypes.CDLL:
+    """Loads the library: of this file's name, of that in MLS_LIBRARY, or as the loader finds it. OSError where there is
+    none, and where it has another version than this package is for."""
+    library = ctypes.CDLL(name or os.environ.get(VARIABLE) or NAME)
+    for call, (result, arguments) in CALLS.items():
+        function = getattr(library, call)
+        function.restype, function.argtypes = result, arguments
+    found = tuple(int(it) for it in library.mls_version().split(b"."))
+    if found[0] != VERSION[0] or found < VERSION:
+        raise OSError(f"libmls has version {'.'.join(map(str, found))}, and {'.'.join(map(str, VERSION))} is wanted")
+    return library

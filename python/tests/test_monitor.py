@@ -1,0 +1,214 @@
+"""The package over the library: each call, each exception, what is resumed, and threads. MLS_LIBRARY names the library,
+where the loader doesn't find it; without one these tests are skipped."""
+import copy
+import doctest
+import gc
+import json
+import pathlib
+import pickle
+import threading
+import unittest
+
+import mls
+from mls import library
+
+PYTHON = pathlib.Path(__file__).resolve().parent.parent
+STANDARD = (PYTHON.parent / "examples" / "standard.json").read_bytes()
+KEPT = b"0 5 0 get-read 1 yes\n1 6 1 get-read 2 no star\n"
+
+try:
+    library.load()
+    MISSING = ""
+except OSError as error:
+    MISSING = f"there is no library: {error}"
+
+
+@unittest.skipIf(MISSING, MISSING)
+class Monitors(unittest.TestCase):
+    def setUp(self):
+        self.monitor = mls.Monitor.open(STANDARD)
+        self.addCleanup(self.monitor.close)
+
+    def asked(self, *answers):
+        """The answers' texts."""
+        return [str(it) for it in answers]
+
+    def test_each_action(self):
+        m = self.monitor
+        answers = [
+            m.get("sec", "write", "root"), m.create("sec", "root", "S:A", "lo"), m.give("sec", "append", "bob", 4),
+            m.get("bob", "append", 4), m.relabel("sec", 4, "S:A"), m.rescind("sec", "append", "bob", 4),
+            m.delete("sec", 4), m.release("sec", "write", "root"), m.level("bob", "C"), m.get("bob", "read", 4),
+        ]  # fmt: skip
+        texts = ["yes", "created 4", "yes", "yes", "yes", "yes", "yes", "yes", "yes", "undefined"]
+        self.assertEqual(self.asked(*answers), texts)
+        wanted = [
+            mls.Get(2, mls.Mode.WRITE, 0), mls.Create(2, 0, mls.Label(2, {0}), mls.Label(0)),
+            mls.Give(2, mls.Mode.APPEND, 1, 4), mls.Get(1, mls.Mode.APPEND, 4), mls.Relabel(2, 4, mls.Label(2, {0})),
+            mls.Rescind(2, mls.Mode.APPEND, 1, 4), mls.Delete(2, 4), mls.Release(2, mls.Mode.WRITE, 0),
+            mls.Level(1, mls.Label(1)), mls.Get(1, mls.Mode.READ, 4),
+        ]  # fmt: skip
+        self.assertEqual([it.request for it in m.entries()], wanted)
+        self.assertEqual([it.answer for it in m.entries()], answers)
+        self.assertEqual([it.number for it in answers], list(range(10)))
+
+    def test_a_denial_is_an_answer(self):
+        answer = self.monitor.get("bob", "read", "memo", session=6)
+        self.assertEqual(answer, mls.Answer(0, mls.Reply.DENIED, mls.Reason.STAR))
+        self.assertFalse(answer)
+        self.assertEqual(self.monitor.entry(0).session, 6)
+
+    def test_decide_changes_nothing(self):
+        m = self.monitor
+        for _ in range(2):
+            self.assertEqual(m.decide(mls.Get("ann", "read", "plans")), mls.Answer(0, mls.Reply.YES))
+        self.assertEqual((m.entry_count, m.check("ann", "read", "plans"), m.journal()), (0, False, b""))
+
+    def test_check_sees_what_is_held(self):
+        m = self.monitor
+        m.get("ann", "read", "plans")
+        self.assertIs(m.check("ann", "read", "plans"), True)
+        for row in (("ann", "write", "plans"), ("bob", "read", "plans"), ("ann", "read", 4095), (300, "read", "plans")):
+            self.assertIs(m.check(*row), False)
+        m.release("ann", "read", "plans")
+        self.assertIs(m.check("ann", "read", "plans"), False)
+
+    def test_names_and_labels(self):
+        m = self.monitor
+        self.assertEqual((m.subject("sec"), m.object("memo"), m.subject(7)), (2, 2, 7))
+        label = m.label("S:B,A")
+        self.assertEqual((label, m.label_text(label)), (mls.Label(2, {0, 1}), "S:A,B"))
+        self.assertEqual(m.label("hi", mls.Kind.INTEGRITY), mls.Label(1))
+        self.assertEqual(m.label_text(mls.Label(1), mls.Kind.INTEGRITY), "hi")
+        for name in ("memo", "", "n\0", "\xff"):
+            with self.assertRaises(mls.UnknownName):
+                m.subject(name)
+        for text in ("Q", "", "S:", "S\0"):
+            with self.assertRaises(mls.BadRequest):
+                m.label(text)
+        with self.assertRaises(mls.BadRequest):
+            m.label_text(mls.Label(15))
+
+    def test_numbers_that_ctypes_would_cut(self):
+        calls = [
+            lambda: self.monitor.get(65536, "read", "plans"),
+            lambda: self.monitor.check(0, "read", 65537),
+            lambda: self.monitor.get("ann", "read", "plans", session=2**32),
+            lambda: self.monitor.give("sec", "read", -1, "plans"),
+            lambda: self.monitor.entry(2**64),
+        ]
+        for call in calls:
+            with self.assertRaises(mls.BadRequest):
+                call()
+        self.assertEqual(self.monitor.entry_count, 0)
+
+    def test_entries_that_there_are_none_of(self):
+        for call in (self.monitor.entry, self.monitor.line):
+            with self.assertRaises(mls.NoSuchEntry):
+                call(0)
+
+    def test_lines_longer_than_the_first_room(self):
+        names = [f"c{n:03}" for n in range(256)]
+        categories = json.dumps(["A", "B", *names[2:]]).encode()
+        start = STANDARD.replace(b'"categories": ["A", "B"]', b'"categories": ' + categories)
+        with mls.Monitor.open(start) as m:
+            label = m.label("T:" + ",".join(["A", "B", *names[2:]]))
+            self.assertEqual(len(label.categories), 256)
+            self.assertEqual(m.label(m.label_text(label)), label)
+            m.level("bob", label)
+            self.assertGreater(len(m.line(0)), 256)
+            self.assertEqual(m.entry(0).request, mls.Level(1, label))
+
+    def test_a_journal_is_resumed(self):
+        with mls.Monitor.resume(STANDARD, KEPT) as m:
+            self.assertEqual((m.entry_count, m.check(0, "read", 1), m.journal()), (2, True, KEPT))
+            m.release("ann", "read", "plans")
+            self.assertEqual((m.journal(2), m.line(2)), (b"2 0 0 release read 1 yes\n",) * 2)
+            self.assertEqual([it.answer.number for it in m.entries(1)], [1, 2])
+
+    def test_what_is_refused(self):
+        rows = [
+            (b"{", 1, 0), (b"{}", 2, 0), (STANDARD.replace(b'["lo", "hi"]', b"[]"), 3, 1),
+            (STANDARD.replace(b'"current": "U"', b'"current": "T:A,B"', 1), 7, 6),
+        ]  # fmt: skip
+        for start, fault, cause in rows:
+            with self.assertRaises(mls.StartRefused) as caught:
+                mls.Monitor.open(start)
+            self.assertEqual((caught.exception.fault, caught.exception.cause), (fault, cause))
+        with self.assertRaises(mls.JournalRefused) as caught:
+            mls.Monitor.resume(STANDARD, KEPT + b"x\n")
+        self.assertEqual((caught.exception.line, caught.exception.fault), (2, 1))
+        for journal, entry, wanted in ((KEPT + KEPT, 2, None), (KEPT.replace(b"no star", b"yes"), 1, 19)):
+            with self.assertRaises(mls.ReplayDiffers) as caught:
+                mls.Monitor.resume(STANDARD, journal)
+            self.assertEqual((caught.exception.entry, caught.exception.wanted), (entry, wanted))
+
+    def test_a_closed_monitor(self):
+        m = self.monitor
+        m.close()
+        m.close()
+        self.assertTrue(m.is_closed)
+        calls = [
+            lambda: m.get(0, "read", 1), lambda: m.decide(mls.Delete(0, 1)), lambda: m.check(0, "read", 1), m.journal,
+            lambda: m.entry(0), lambda: m.line(0), lambda: m.entry_count, lambda: m.subject("ann"),
+            lambda: m.label("S"), lambda: m.label_text(mls.Label(0)),
+        ]  # fmt: skip
+        for call in calls:
+            with self.assertRaises(mls.Closed):
+                call()
+
+    def test_a_monitor_is_not_copied(self):
+        for call in (copy.copy, copy.deepcopy, pickle.dumps):
+            with self.assertRaises(TypeError):
+                call(self.monitor)
+
+    def test_a_monitor_that_nobody_has_is_closed(self):
+        m = mls.Monitor.open(STANDARD)
+        closing = m._close
+        del m
+        gc.collect()
+        self.assertFalse(closing.alive)
+
+    def test_threads_take_turns(self):
+        m, rounds, held = self.monitor, 300, []
+
+        def work(subject, object, session):
+            for _ in range(rounds):
+                if m.get(subject, "read", object, session=session):
+                    held.append(m.check(subject, "read", object))
+                    m.release(subject, "read", object, session=session)
+
+        rows = (("ann", "plans", 0), ("aud", "plans", 1), ("bob", "memo", 2), ("sec", "memo", 3))
+        threads = [threading.Thread(target=work, args=row) for row in rows]
+        for it in threads:
+            it.start()
+        for it in threads:
+            it.join()
+        self.assertTrue(held and all(held))
+        of_bob = [it.session for it in m.entries()].count(2)
+        self.assertEqual(of_bob, rounds)
+        with mls.Monitor.resume(STANDARD, m.journal()) as resumed:
+            self.assertEqual(resumed.entry_count, m.entry_count)
+
+    def test_words_are_those_of_the_library(self):
+        words = library.load()
+        rows = [
+            (words.mls_mode_word, mls.Mode, [it.name.lower() for it in mls.Mode]),
+            (words.mls_reason_word, mls.Reason, [it.name.lower() for it in mls.Reason]),
+            (words.mls_reply_word, mls.Reply, ["yes", "created", "undefined", "?"]),
+            (words.mls_action_word, range(8), [it.__name__.lower() for it in mls.requests.ACTIONS]),
+        ]
+        for call, numbers, wanted in rows:
+            self.assertEqual([call(it).decode() for it in numbers], wanted)
+
+
+def load_tests(loader, tests, pattern):
+    """With these, what README shows."""
+    if not MISSING:
+        readme = str(PYTHON / "README.md")
+        tests.addTests(doctest.DocFileSuite(readme, module_relative=False, globs={"standard": STANDARD}))
+    return tests
+
+
+if __name__ == "__main__":
+    unittest.main()
