@@ -1,4 +1,5 @@
-"""How bin/prove has the toolchain build crates side by side.
+"""What bin/prove, bin/test, bin/mutants and .ci/run know of the crates and of this machine; and how bin/prove has the
+toolchain build crates side by side.
 
 rt builds one library after the other, for it locks the folders of all that lie below. So each library is built in a
 room: a folder with copies of the sources that it needs, and with links to what is built of the libraries below it. What
@@ -16,8 +17,9 @@ ROOMS = f"{TOP}/out/rooms"
 SOURCES = ("src", "specs", "proofs")
 # What a build keeps in out/ of a library.
 BUILT = ("rlib", "incremental")
-# The command rt, which for the program alone would compute the sums of crates thousands of times.
-RT = (sys.executable, f"{TOP}/bin/remembering.py")
+# What a check of a crate may take, in bytes.
+MEMORY_OF_A_CHECK = 3_000_000_000
+BAR = 20
 
 
 def rows_of_crates():
@@ -43,6 +45,76 @@ def below(name, crates):
 
 def is_program(name):
     return os.path.exists(f"{TOP}/crates/{name}/src/main.rt")
+
+
+def lines_of(name, parts=SOURCES):
+    """How many lines these parts of a crate have: a measure of how long a check of it takes."""
+    count = 0
+    for part in parts:
+        for folder, _, names in os.walk(f"{TOP}/crates/{name}/{part}"):
+            for it in names:
+                with open(f"{folder}/{it}", "rb") as file:
+                    count += file.read().count(b"\n")
+    return count
+
+
+def processors():
+    """How many processors this run may use, by its mask and by the quota of its control group."""
+    count = len(os.sched_getaffinity(0))
+    try:
+        with open("/sys/fs/cgroup/cpu.max", encoding="ascii") as file:
+            quota, period = map(int, file.read().split())
+        return max(1, min(count, quota // period))
+    except (OSError, ValueError):
+        # (there is no such group, or no quota)
+        return count
+
+
+def lanes():
+    """How many checks of crates may run side by side: RT_JOBS, or one a processor, and at most one for each 3 GB that
+    is free."""
+    jobs = os.environ.get("RT_JOBS", "")
+    if jobs.isdigit() and int(jobs) > 0:
+        return int(jobs)
+    with open("/proc/meminfo", encoding="ascii") as file:
+        free = next(int(line.split()[1]) * 1024 for line in file if line.startswith("MemAvailable:"))
+    return max(1, min(processors(), free // MEMORY_OF_A_CHECK))
+
+
+def built(*words):
+    """Runs bin/built, and returns its status, what it prints and what it says of a fault."""
+    done = subprocess.run([f"{TOP}/bin/built", *words], stdin=subprocess.DEVNULL, capture_output=True, text=True)
+    return done.returncode, done.stdout.strip(), done.stderr
+
+
+def minutes(seconds):
+    return f"{int(seconds) // 60} min {int(seconds) % 60} s"
+
+
+def draw(part, text):
+    """Draws a bar on the terminal of which a part is done, and a text behind it."""
+    bar = "#" * int(BAR * part)
+    sys.stderr.write("\r\033[K" + f"[{bar:.<{BAR}}] {text}"[: os.get_terminal_size(2).columns - 1])
+    sys.stderr.flush()
+
+
+def compile_static(name, target):
+    """Proves a static library over the libraries as rt ci leaves them in out/ where none stood before, and compiles it.
+    (rt lib would prove those again, since rt ci marks none as built.) Returns what the compiler said where that failed,
+    else nothing."""
+    kit = os.path.dirname(subprocess.run(["rt", "doc"], check=True, stdout=subprocess.PIPE, text=True).stdout.strip())
+    crates, rows = listed(), rows_of_crates()
+    words = ["--crate-name", name, "src/lib.rt", "--crate-type", "staticlib", "--links", f"{name}=", "--jobs", "1"]
+    words += ["--antt-project", f"{kit}/rattle/logic/antt-project.json", "--logic-built", f"{kit}/logic_built"]
+    words += ["--toolchain", f"{kit}/toolchain", "-L", f"dependency={kit}/rlibs", "-o", target]
+    for it in ["std", *rows[name].partition(":")[2].split()]:
+        folder = f"{TOP}/crates/{it}/out/rlib" if it in crates else f"{kit}/rlibs"
+        words += ["--extern", f"{it}={folder}/{it}.rlib"]
+    for it in below(name, crates):
+        words += ["-L", f"dependency={TOP}/crates/{it}/out/rlib"]
+    streams = {"stdin": subprocess.DEVNULL, "stdout": subprocess.PIPE, "stderr": subprocess.STDOUT}
+    done = subprocess.run([f"{kit}/bin/rattle", "build", *words], cwd=f"{TOP}/crates/{name}", text=True, **streams)
+    return done.stdout if done.returncode else ""
 
 
 def copy_sources(name, room):
@@ -112,7 +184,7 @@ def build_library(name, crates, jobs, toolchain):
         # (as rt does, so that no rt works on this crate meanwhile)
         fcntl.flock(folder, fcntl.LOCK_EX)
         move_built(name, TOP, room)
-        fault = toolchain.fault([*RT, "lib", "--jobs", str(jobs)], f"{room}/crates/{name}")
+        fault = toolchain.fault(["rt", "lib", "--jobs", str(jobs)], f"{room}/crates/{name}")
         move_built(name, room, TOP)
     finally:
         os.close(folder)
@@ -123,4 +195,4 @@ def build_library(name, crates, jobs, toolchain):
 def build_last(name, jobs, toolchain):
     """Builds a crate in place, and runs a program once, on nothing. Returns as build_library does."""
     verb = "run" if is_program(name) else "lib"
-    return toolchain.fault([*RT, verb, "--jobs", str(jobs)], f"{TOP}/crates/{name}")
+    return toolchain.fault(["rt", verb, "--jobs", str(jobs)], f"{TOP}/crates/{name}")

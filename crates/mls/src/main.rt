@@ -2,17 +2,23 @@
 //! over the standard start.
 #![tactic(auto)]
 
+mod commands;
+mod files;
+mod questions;
+mod service;
+
 ghost use Rattle.std.specs.Prelude.{◌<◌, ◌≤◌, length, vec_len, All};
 
-use mls_commands::{check, ended_run, lent, read_scripts, replay, serve_standard, start_file};
-use mls_files::{NO_MEMORY, Progress, file_refused, refused};
-use mls_inquiries::answer;
-use mls_outcomes::MAX_SCRIPTS;
-use mls_runs::run_serial;
+use crate::commands::{
+    RunJournal, check, discard, ended_run, lent, open_run_journal, read_scripts, replay,
+    serve_standard, start_file,
+};
+use crate::questions::answer;
+use crate::service::serve_journal;
+use mls_replay::MAX_SCRIPTS;
+use mls_runs::{run_serial, run_threads};
 use mls_scripts::SCRIPT_LIMIT;
-use mls_service::serve_journal;
-use mls_threads::run_threads;
-use mls_words::{Job, RunWords, read_words};
+use mls_terminal::{Held, Job, NO_MEMORY, Progress, RunWords, file_refused, read_words, refused};
 use std::env;
 use std::env::FillError;
 use std::io::ErrorKind;
@@ -37,6 +43,7 @@ fn run_texts<R: Threads + Wait + Sync>(
     start: &[u8],
     texts: &[&[u8]],
     words: &RunWords<'_>,
+    journal: &mut Option<RunJournal<'_>>,
 ) -> ExitCode
     requires count { (0 < length texts.now) × (length texts.now ≤ MAX_SCRIPTS) }
     requires limit { All (λ text. length text.now ≤ SCRIPT_LIMIT) texts.now }
@@ -48,13 +55,36 @@ fn run_texts<R: Threads + Wait + Sync>(
     } else {
         run_threads(threads, alloc, start, texts, words.journal.is_some())
     };
-    ended_run(progress, done, words)
+    ended_run(progress, done, words.start, journal)
 }
 
-/// Runs scripts over the bytes of a start file, once they were read.
+/// Runs scripts over the bytes of a start file, once they were read and the journal's file was opened.
 fn lend_and_run<R: Threads + Wait + Sync>(
     threads: &R,
     progress: &mut Progress<'_>,
+    start: &[u8],
+    texts: &[Vec<u8>],
+    words: &RunWords<'_>,
+    journal: &mut Option<RunJournal<'_>>,
+) -> ExitCode
+    requires count { (0 < length texts.now) × (length texts.now ≤ MAX_SCRIPTS) }
+    requires limit { All (λ text. vec_len text ≤ SCRIPT_LIMIT) texts.now }
+{
+    let Ok(slices) = lent(progress.rt().alloc(), texts) else {
+        discard(progress.rt(), journal);
+        progress.end();
+        return refused(progress.rt(), NO_MEMORY, 1);
+    };
+    let status = run_texts(threads, progress, start, &slices, words, journal);
+    drop(slices);
+    status
+}
+
+/// Runs scripts that were read over the bytes of a start file, once the journal's file is open.
+fn open_and_run<R: Threads + Wait + Sync>(
+    threads: &R,
+    progress: &mut Progress<'_>,
+    held: Held,
     start: &[u8],
     texts: &[Vec<u8>],
     words: &RunWords<'_>,
@@ -62,27 +92,29 @@ fn lend_and_run<R: Threads + Wait + Sync>(
     requires count { (0 < length texts.now) × (length texts.now ≤ MAX_SCRIPTS) }
     requires limit { All (λ text. vec_len text ≤ SCRIPT_LIMIT) texts.now }
 {
-    let Ok(slices) = lent(progress.rt().alloc(), texts) else {
-        progress.end();
-        return refused(progress.rt(), NO_MEMORY, 1);
-    };
-    let status = run_texts(threads, progress, start, &slices, words);
-    drop(slices);
-    status
+    match open_run_journal(progress, held, words) {
+        Ok(mut journal) => {
+            let status = lend_and_run(threads, progress, start, texts, words, &mut journal);
+            drop(journal);
+            status
+        }
+        Err(status) => status,
+    }
 }
 
 /// Reads the scripts of a run whose start file was read, and runs them.
 fn read_and_run<R: Threads + Wait + Sync>(
     threads: &R,
     progress: &mut Progress<'_>,
+    mut held: Held,
     start: &[u8],
     words: &RunWords<'_>,
 ) -> ExitCode
     requires { (0 < vec_len words.now.scripts) × (vec_len words.now.scripts ≤ MAX_SCRIPTS) }
 {
-    match read_scripts(progress, words) {
+    match read_scripts(progress, &mut held, words) {
         Ok(texts) => {
-            let status = lend_and_run(threads, progress, start, &texts, words);
+            let status = open_and_run(threads, progress, held, start, &texts, words);
             drop(texts);
             status
         }
@@ -91,33 +123,48 @@ fn read_and_run<R: Threads + Wait + Sync>(
 }
 
 /// Runs scripts over a start file.
-fn run<R: Threads + Wait + Sync>(threads: &R, rt: &HostRuntime, words: &RunWords<'_>) -> ExitCode {
+fn run<R: Threads + Wait + Sync>(
+    threads: &R,
+    progress: &mut Progress<'_>,
+    words: &RunWords<'_>,
+) -> ExitCode {
     if words.scripts.is_empty() || words.scripts.len() > MAX_SCRIPTS {
-        return refused(rt, SCRIPT_COUNT, 2);
+        return refused(progress.rt(), SCRIPT_COUNT, 2);
     }
-    let mut progress = Progress::new(rt);
-    let start = match start_file(words.start).read(&mut progress) {
+    let mut held = Held::new(progress.rt().alloc(), words.journal.is_some());
+    let start = match start_file(words.start).read_held(progress, &mut held) {
         Ok(bytes) => bytes,
-        Err(fault) => return file_refused(&mut progress, words.start, fault),
+        Err(fault) => return file_refused(progress, words.start, fault),
     };
-    let status = read_and_run(threads, &mut progress, &start, words);
+    let status = read_and_run(threads, progress, held, &start, words);
     drop(start);
     status
 }
 
-/// Does what the words ask for. Threads are started by a run of scripts alone.
+/// Does a job. Threads are started by a run of scripts alone.
+fn run_job<R: Threads + Wait + Sync>(
+    threads: &R,
+    progress: &mut Progress<'_>,
+    job: Job<'_>,
+) -> ExitCode {
+    match job {
+        Job::Check { start } => check(progress, start),
+        Job::Run(words) => run(threads, progress, &words),
+        Job::Replay { start, journal } => replay(progress, start, journal),
+        Job::Serve(words) => serve_journal(progress, &words),
+        Job::Question(question) => answer(progress, &question),
+        Job::Answer => serve_standard(progress.rt()),
+    }
+}
+
+/// Does what the words ask for.
 fn run_words<R: Threads + Wait + Sync>(
     threads: &R,
     rt: &HostRuntime,
     words: &[String],
 ) -> ExitCode {
     match read_words(rt, words) {
-        Ok(Job::Check { start }) => check(rt, start),
-        Ok(Job::Run(words)) => run(threads, rt, &words),
-        Ok(Job::Replay { start, journal }) => replay(rt, start, journal),
-        Ok(Job::Serve(words)) => serve_journal(rt, &words),
-        Ok(Job::Question(question)) => answer(rt, &question),
-        Ok(Job::Answer) => serve_standard(rt),
+        Ok(job) => run_job(threads, &mut Progress::new(rt), job),
         Err(status) => status,
     }
 }

@@ -1,8 +1,8 @@
 -- What is opened.
 use Rattle.std.specs.Prelude.{◌≡◌, ℕ, List, [], Option, Some}
 use Rattle.std.proofs.Common.{ap, ◌∙◌}
-use Rattle.mls_starts.specs.Says.{SaysStart}
-use Rattle.mls_starts.specs.Ties.{Loaded}
+use Rattle.mls_start_file.specs.Says.{SaysStart}
+use Rattle.mls_start_file.specs.Ties.{Loaded}
 use Rattle.mls_c.specs.Faults.{Opens}
 use Rattle.mls_c.specs.Opened.{Opened, opened_with}
 

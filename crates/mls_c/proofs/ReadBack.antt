@@ -25,7 +25,7 @@ use Rattle.mls_requests.specs.declared.reply.Reply.{Reply}
 use Rattle.mls_requests.specs.declared.reply.Reply.TheVariants.{Yes, Created, No, Undefined}
 use Rattle.mls_requests.specs.declared.request.Request.{Request}
 use Rattle.mls_journal.specs.EntryText.{LabelHasRanges, ActionHasRanges, HasRanges}
-use Rattle.mls_starts.specs.Each.{having}
+use Rattle.mls_start_text.specs.Each.{having}
 use Rattle.mls_c.specs.Labels.{label_of, numbers_of_label}
 use Rattle.mls_c.specs.Requests.{mode_at, number_of_mode, action_of, numbers_of_action, request_of, numbers_of_request}
 use Rattle.mls_c.specs.Answers.{number_of_reason, number_of_reply, object_of_reply, numbers_of_entry}

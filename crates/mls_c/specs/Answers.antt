@@ -3,10 +3,9 @@ use Rattle.std.specs.Prelude.{◌≡◌, ◌⊎◌, ℕ, ◌+◌, ℤ, pos, leng
 use Rattle.std.specs.Prelude.{if◌then◌else◌}
 use Rattle.std.specs.FinSet as set
 use Rattle.mls_tables.specs.declared.mode.Mode.{Mode}
+use Rattle.mls_requests.specs.ReasonWords.{reason_place}
 use Rattle.mls_requests.specs.declared.entry.Entry.{Entry}
 use Rattle.mls_requests.specs.declared.reason.Reason.{Reason}
-use Rattle.mls_requests.specs.declared.reason.Reason.TheVariants.{Discretionary, Simple, Star, Integrity, Authority}
-use Rattle.mls_requests.specs.declared.reason.Reason.TheVariants.{Compatibility, Ceiling, Root, Full}
 use Rattle.mls_requests.specs.declared.reply.Reply.{Reply}
 use Rattle.mls_requests.specs.declared.reply.Reply.TheVariants.{Yes, Created, No, Undefined}
 use Rattle.mls_requests.specs.declared.request.Request.{Request}
@@ -17,17 +16,9 @@ use Rattle.mls_c.specs.declared.answer.Answer.{Answer}
 use Rattle.mls_c.specs.declared.answer.EntryNumbers.{EntryNumbers}
 use Rattle.mls_c.specs.declared.status.TheConstants.{OK, ECLOSED, ENOMEM, EINVAL, ENOTFOUND}
 
--- The number of a reason, in the order of the reasons. (own)
+-- The number of a reason, from 1 on in the order of the reasons. (own)
 abbrev pub number_of_reason : Reason → ℕ
-number_of_reason Discretionary = 1
-number_of_reason Simple = 2
-number_of_reason Star = 3
-number_of_reason Integrity = 4
-number_of_reason Authority = 5
-number_of_reason Compatibility = 6
-number_of_reason Ceiling = 7
-number_of_reason Root = 8
-number_of_reason Full = 9
+number_of_reason r = 1 + reason_place r
 
 -- The number of a reply: of a denial 16 and that of its reason. (own)
 abbrev pub number_of_reply : Reply → ℕ

@@ -2,13 +2,13 @@
 use Rattle.std.specs.Prelude.{◌≡◌, ℕ, ℤ, ◌⊎◌, List, [], Option, Some, None}
 use Rattle.mls_labels.specs.declared.scheme_fault.SchemeFault.{SchemeFault}
 use Rattle.mls_labels.specs.declared.scheme_fault.SchemeFault.TheVariants as scheme
-use Rattle.mls_builder.specs.declared.start_fault.StartFault.{StartFault}
-use Rattle.mls_builder.specs.declared.start_fault.StartFault.TheVariants as rows
-use Rattle.mls_starts.specs.declared.load_fault.LoadFault.{LoadFault}
-use Rattle.mls_starts.specs.declared.load_fault.LoadFault.TheVariants.{Json, Members, Scheme, Name, Label, Unknown}
-use Rattle.mls_starts.specs.declared.load_fault.LoadFault.TheVariants.{Start, Memory}
-use Rattle.mls_starts.specs.Says.{SaysStart, RefusesStart}
-use Rattle.mls_starts.specs.Ties.{Loaded}
+use Rattle.mls_state.specs.declared.start_fault.StartFault.{StartFault}
+use Rattle.mls_state.specs.declared.start_fault.StartFault.TheVariants as rows
+use Rattle.mls_start_text.specs.declared.load_fault.LoadFault.{LoadFault}
+use Rattle.mls_start_text.specs.declared.load_fault.LoadFault.TheVariants.{Json, Members, Scheme, Name, Label, Unknown}
+use Rattle.mls_start_text.specs.declared.load_fault.LoadFault.TheVariants.{Start, Memory}
+use Rattle.mls_start_file.specs.Says.{SaysStart, RefusesStart}
+use Rattle.mls_start_file.specs.Ties.{Loaded}
 use Rattle.mls_c.specs.Opened.{Opened, opened_with}
 use Rattle.mls_c.specs.declared.fault.FaultNumbers.{FaultNumbers}
 use Rattle.mls_c.specs.declared.status.TheConstants.{OK, EOPEN, ENOMEM, ESTART}

@@ -8,7 +8,7 @@ use Rattle.mls_requests.specs.declared.request.Request.{Request}
 use Rattle.mls_requests.specs.contracts.entry.Entry as entry
 use Rattle.mls_rules.specs.Rules.{reply}
 use Rattle.mls_monitor.specs.Journal.{fold}
-use Rattle.mls_starts.specs.Ties.{Loaded}
+use Rattle.mls_start_file.specs.Ties.{Loaded}
 
 -- An open monitor: the names of its start, the state that it started with, and its journal. (own)
 pub record Opened : Type 0 where

@@ -6,7 +6,7 @@ use Rattle.mls_requests.specs.declared.action.Action.{Action}
 use Rattle.mls_requests.specs.declared.action.Action.TheVariants.{Get, Release, Give, Rescind, Create, Delete}
 use Rattle.mls_requests.specs.declared.action.Action.TheVariants.{SubjectLevel, ObjectLevel}
 use Rattle.mls_requests.specs.declared.request.Request.{Request}
-use Rattle.mls_starts.specs.Each.{having}
+use Rattle.mls_start_text.specs.Each.{having}
 use Rattle.mls_c.specs.Labels.{label_of, numbers_of_label, no_label}
 use Rattle.mls_c.specs.declared.request.RequestNumbers.{RequestNumbers}
 

@@ -9,7 +9,7 @@ use Rattle.mls_labels.specs.Reading.{label_at, place_of}
 use Rattle.mls_labels.specs.Scheme.{Scheme, bounds_of}
 use Rattle.mls_journal.specs.EntryText.{entry_line}
 use Rattle.mls_lines.specs.Names.{Names}
-use Rattle.mls_starts.specs.Each.{having}
+use Rattle.mls_start_text.specs.Each.{having}
 use Rattle.mls_c.specs.Labels.{label_of, numbers_of_label}
 use Rattle.mls_c.specs.Opened.{Opened}
 use Rattle.mls_c.specs.declared.label.LabelNumbers.{LabelNumbers}

@@ -1,9 +1,9 @@
 //! Replies and entries in numbers.
-ghost use Rattle.std.specs.Prelude.{◌≡◌, ◌≤◌};
-ghost use Rattle.mls_c.specs.Answers.{number_of_reason, number_of_reply, object_of_reply, answer_of, numbers_of_entry};
+ghost use Rattle.std.specs.Prelude.{◌≡◌};
+ghost use Rattle.mls_c.specs.Answers.{number_of_reply, object_of_reply, answer_of, numbers_of_entry};
 
 use crate::request::RequestNumbers;
-use mls_requests::{Entry, Reason, Reply};
+use mls_requests::{Entry, Reply};
 
 /// The answer to a request: the number of its entry, the reply, and the object that was made, if one was.
 #[repr(C)]
@@ -25,24 +25,6 @@ pub struct EntryNumbers {
     pub request: RequestNumbers,
 }
 
-/// The number of a reason.
-fn number_of_reason(reason: Reason) -> u16
-    ensures number { result ≡ number_of_reason reason }
-    ensures few { result ≤ 9 }
-{
-    match reason {
-        Reason::Discretionary => 1,
-        Reason::Simple => 2,
-        Reason::Star => 3,
-        Reason::Integrity => 4,
-        Reason::Authority => 5,
-        Reason::Compatibility => 6,
-        Reason::Ceiling => 7,
-        Reason::Root => 8,
-        Reason::Full => 9,
-    }
-}
-
 /// The number of a reply.
 pub(crate) fn number_of_reply(reply: &Reply) -> u16
     ensures { result ≡ number_of_reply reply.now }
@@ -51,7 +33,7 @@ pub(crate) fn number_of_reply(reply: &Reply) -> u16
         Reply::Yes => 0,
         Reply::Created(_) => 1,
         Reply::Undefined => 2,
-        Reply::No(reason) => 16 + number_of_reason(*reason),
+        Reply::No(reason) => 17 + reason.place(),
     }
 }
 

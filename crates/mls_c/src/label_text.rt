@@ -3,7 +3,7 @@ ghost use Rattle.std.specs.Prelude.{◌≡◌, ◌≢◌, ◌⊎◌, length, opt
 ghost use Rattle.mls_labels.specs.Label.{has_label};
 ghost use Rattle.mls_labels.specs.LabelText.{written};
 ghost use Rattle.mls_labels.specs.Scheme.{bounds_of};
-ghost use Rattle.mls_starts.specs.Each.{having};
+ghost use Rattle.mls_start_text.specs.Each.{having};
 ghost use Rattle.mls_c.specs.Labels.{numbers_of_label, label_of};
 ghost use Rattle.mls_c.specs.Opened.{Opened};
 ghost use Rattle.mls_c.specs.Texts.{scheme_of, label_spelled, label_written, spelled_status, status_if_open};

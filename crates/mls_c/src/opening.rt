@@ -1,6 +1,6 @@
 //! Opening a monitor from a start file.
 ghost use Rattle.std.specs.Prelude.{◌≡◌, ◌≢◌, [], Some, IfOk, IfErr};
-ghost use Rattle.mls_starts.specs.Says.{SaysStart, RefusesStart};
+ghost use Rattle.mls_start_file.specs.Says.{SaysStart, RefusesStart};
 ghost use Rattle.mls_c.specs.Faults.{HasStartFault, Opens, OpenStatus};
 ghost use Rattle.mls_c.specs.Opened.{opened_with};
 ghost use Rattle.mls_c.specs.declared.status.TheConstants.{OK, ESTART};
@@ -10,7 +10,7 @@ use crate::handle::Mls;
 use crate::opened::Opened;
 use crate::status::{ENOMEM, EOPEN, ESTART, OK};
 use mls_monitor::Monitor;
-use mls_starts::{LoadFault, Loaded, read_start};
+use mls_start_file::{LoadFault, Loaded, read_start};
 use std::alloc::{AllocError, Global};
 
 /// The start that the bytes of a start file say, with its names.

@@ -5,14 +5,14 @@ use Rattle.mls_state.specs.State.{State}
 use Rattle.mls_requests.specs.declared.entry.Entry.{Entry}
 use Rattle.mls_journal.specs.EntryText.{journal_text}
 use Rattle.mls_lines.specs.Names.{Names}
-use Rattle.mls_feeds.specs.Entries.{AllBelow, of_session}
+use Rattle.mls_monitor.specs.Entries.{AllBelow, of_session}
 use Rattle.mls_scripts.specs.Lines.{lines_of}
 use Rattle.mls_scripts.specs.Script.{answers, after_lines}
 use Rattle.mls_scripts.proofs.Laws.{alone}
-use Rattle.mls_outcomes.specs.RunTexts.{heading}
+use Rattle.mls_replay.specs.RunTexts.{heading}
 use Rattle.mls_runs.specs.Run.{begins, scripts_left, scripts_text, run_entries, run_text}
-use Rattle.mls_script_feeds.specs.Threads.{LeavesInThreads}
-use Rattle.mls_outcomes.specs.RunTexts.{ending}
+use Rattle.mls_runs.specs.Threads.{LeavesInThreads}
+use Rattle.mls_replay.specs.RunTexts.{ending}
 
 -- where there is one session, all entries are its own
 all_own : (entries : List Entry) → AllBelow 1 entries → of_session 0 entries ≡ entries

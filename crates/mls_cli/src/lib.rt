@@ -3,15 +3,16 @@
 
 mod theorems;
 
-pub use mls_checks::{JOURNAL_LIMIT, START_LIMIT, check_start, replay_journal, write_fault};
 pub use mls_journal::EntryFault;
 pub use mls_lines::{
     Ask, Line, LineFault, MAX_LINE, Names, Vars, lines_law, numbers_law, read_line, tokens_law,
 };
 pub use mls_monitor::ReplayFault;
-pub use mls_outcomes::{CommandFault, MAX_SCRIPTS, RunText, status};
-pub use mls_runs::run_serial;
+pub use mls_replay::{
+    CommandFault, JOURNAL_LIMIT, MAX_SCRIPTS, RunText, START_LIMIT, check_start, replay_journal,
+    status, write_fault,
+};
+pub use mls_runs::{run_serial, run_threads};
 pub use mls_scripts::{SCRIPT_LIMIT, ScriptFeed, ServeFault, scripts_are_served_by_halves, serve};
-pub use mls_starts::{LoadFault, Loaded, read_start, standard_start};
-pub use mls_threads::run_threads;
+pub use mls_start_file::{LoadFault, Loaded, read_start, standard_start};
 pub use theorems::one_script_runs_alike;

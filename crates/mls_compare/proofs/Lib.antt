@@ -1,4 +1,3 @@
-mod Few
 mod Followed
 mod Growing
 mod Labels

@@ -6,9 +6,9 @@ use Rattle.mls_lines.specs.Names.{Names}
 use Rattle.mls_monitor.specs.Journal.{IsLegal}
 use Rattle.mls_requests.specs.declared.entry.Entry.{Entry}
 use Rattle.mls_state.specs.State.{State}
-use Rattle.mls_starts.specs.Says.{SaysStart}
-use Rattle.mls_starts.specs.Ties.{Loaded}
-use Rattle.mls_outcomes.specs.Loads.{RefusesLoad}
+use Rattle.mls_start_file.specs.Says.{SaysStart}
+use Rattle.mls_start_file.specs.Ties.{Loaded}
+use Rattle.mls_replay.specs.Loads.{RefusesLoad}
 use Rattle.mls_wording.specs.declared.answer.Answer.{Answer}
 use Rattle.mls_compare.specs.Comparing.{IsAnswer, FollowsJournal, ComparesWith, Compares, RefusesReplies, RefusesOther, RefusesSecond, RefusesComparison}
 use Rattle.mls_compare.specs.Following.{followed_text}

@@ -5,11 +5,11 @@ use Rattle.mls_monitor.specs.Journal.{IsLegal}
 use Rattle.mls_requests.specs.declared.entry.Entry.{Entry}
 use Rattle.mls_lines.specs.Names.{Names}
 use Rattle.mls_state.specs.State.{State}
-use Rattle.mls_starts.specs.Says.{SaysStart}
-use Rattle.mls_starts.specs.Ties.{Loaded}
-use Rattle.mls_outcomes.specs.Loads.{RefusesLoad}
-use Rattle.mls_outcomes.specs.declared.command.CommandFault.TheVariants as refused
-use Rattle.mls_checks.specs.Replayed.{RefusesJournal}
+use Rattle.mls_start_file.specs.Says.{SaysStart}
+use Rattle.mls_start_file.specs.Ties.{Loaded}
+use Rattle.mls_replay.specs.Loads.{RefusesLoad}
+use Rattle.mls_replay.specs.declared.command.CommandFault.TheVariants as refused
+use Rattle.mls_replay.specs.Replayed.{RefusesJournal}
 use Rattle.mls_wording.specs.declared.answer.Answer.{Answer}
 use Rattle.mls_compare.specs.Differences.{starts_text}
 use Rattle.mls_compare.specs.Following.{followed_text}

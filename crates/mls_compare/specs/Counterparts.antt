@@ -1,9 +1,7 @@
 -- Which names two starts share, and which numbers these names have in each.
-use Rattle.std.specs.Prelude.{◌≤◌, ℕ, Bool, length, Option, Some, None, List, [], ◌∷◌, map, slice_get, is_some}
+use Rattle.std.specs.Prelude.{ℕ, Bool, Option, Some, None, List, [], ◌∷◌, map, slice_get, is_some}
 use Rattle.std.specs.List.{flat_map, range_with_len}
 use Rattle.mls_labels.specs.Reading.{place_of}
-use Rattle.mls_lines.specs.Names.{Names}
-use Rattle.mls_tables.specs.declared.limits.TheConstants.{MAX_SUBJECTS, MAX_OBJECTS}
 use Rattle.mls_compare.specs.declared.shared.Shared.{Shared}
 
 -- The place of a name among others, where there is a name. (own)
@@ -31,8 +29,3 @@ shared_as n (Some m) = record { first = n; second = m } ∷ []
 -- The numbers below a count that have a counterpart, each with it. (own)
 unfoldable pub shared : List (List ℕ) → List (List ℕ) → ℕ → List Shared
 shared names others count = flat_map (λ n. shared_as n (counterpart names others n)) (range_with_len 0 count)
-
--- There are no more names than subjects and objects can have. (own)
-pub record HasFewNames (names : Names) : Type 0 where
-  pub subjects : length names.subjects ≤ MAX_SUBJECTS
-  pub objects : length names.objects ≤ MAX_OBJECTS

@@ -10,7 +10,7 @@ use Rattle.mls_requests.specs.declared.request.Request.{Request}
 use Rattle.mls_state.specs.State.{State}
 use Rattle.mls_rules.specs.Rules.{reply}
 use Rattle.mls_lines.specs.Names.{Names}
-use Rattle.mls_starts.specs.Ties.{Loaded}
+use Rattle.mls_start_file.specs.Ties.{Loaded}
 use Rattle.mls_wording.specs.Wording.{subject_text, object_text}
 use Rattle.mls_compare.specs.Counterparts.{is_among, shared}
 use Rattle.mls_compare.specs.Replying.{unless_agree}

@@ -9,7 +9,7 @@ use Rattle.mls_requests.specs.declared.request.Request.{Request}
 use Rattle.mls_state.specs.State.{State}
 use Rattle.mls_rules.specs.Rules.{reply, after}
 use Rattle.mls_lines.specs.Names.{Names}
-use Rattle.mls_starts.specs.Ties.{Loaded}
+use Rattle.mls_start_file.specs.Ties.{Loaded}
 use Rattle.mls_wording.specs.RequestText.{request_text}
 use Rattle.mls_compare.specs.Counterparts.{counterparts}
 use Rattle.mls_compare.specs.Carrying.{carried_request}

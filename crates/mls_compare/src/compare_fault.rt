@@ -1,6 +1,6 @@
 //! Why starts aren't compared.
 
-use mls_outcomes::CommandFault;
+use mls_replay::CommandFault;
 use std::alloc::AllocError;
 use thiserror::Error;
 
@@ -21,7 +21,7 @@ pub enum CompareFault {
 
 impl From<AllocError> for CompareFault {
     ghost use Rattle.std.specs.Prelude.{◌≡◌};
-    ghost use Rattle.mls_outcomes.specs.declared.command.CommandFault.TheVariants.{Memory};
+    ghost use Rattle.mls_replay.specs.declared.command.CommandFault.TheVariants.{Memory};
     ghost use Rattle.mls_compare.specs.declared.compare_fault.CompareFault.TheVariants.{First};
 
     ghost from_gives = { λ _ fault. fault ≡ First Memory };

@@ -1,19 +1,18 @@
 //! How start files differ.
 ghost use Rattle.std.specs.Prelude.{◌≡◌, ℕ, List, option_map, IfOk, IfErr, None, Some};
-ghost use Rattle.mls_starts.specs.Says.{SaysStart};
+ghost use Rattle.mls_start_file.specs.Says.{SaysStart};
 ghost use Rattle.mls_journal.specs.EntryText.{journal_text};
 ghost use Rattle.mls_compare.specs.Comparing.{Compares, ComparesWith, FollowsJournal, Tells};
 ghost use Rattle.mls_compare.specs.Comparing.{RefusesComparison, RefusesSecond, RefusesOther, RefusesReplies};
-ghost use Rattle.mls_compare.specs.Counterparts.{HasFewNames};
+ghost use Rattle.mls_start_file.specs.Ties.{HasFewNames};
 
 use crate::compare_fault::CompareFault;
 use crate::following::compare_replies;
-use crate::starts::{compare_starts, has_few_names};
-use mls_checks::{load_start, replay_over};
+use crate::starts::compare_starts;
 use mls_lines::Names;
 use mls_monitor::{Monitor, Start};
-use mls_outcomes::journal_is_legal;
-use mls_starts::Loaded;
+use mls_replay::{load_start, replay_over};
+use mls_start_file::Loaded;
 use mls_wording::Answer;
 use std::alloc::Global;
 
@@ -76,7 +75,6 @@ fn compare_over(
     ensures fault { IfErr result (λ fault. RefusesReplies start journal.now fault) }
 {
     let monitor = replayed(alloc, start, journal)?;
-    journal_is_legal(&monitor);
     let answer = compare_replies(alloc, names, second, monitor.entries());
     drop(monitor);
     Ok(answer?)
@@ -92,7 +90,8 @@ fn compare_parts(
     ensures ok { IfOk result (λ answer. FollowsJournal first.names first.start second.now journal.now answer) }
     ensures fault { IfErr result (λ fault. RefusesReplies first.start journal.now fault) }
 {
-    has_few_names(&first);
+    // that there are few names
+    let _ = first.names();
     let (names, start): (Names, Start) = first.into_parts();
     let answer = compare_over(alloc, &names, start, second, journal);
     drop(names);

@@ -1,7 +1,7 @@
 //! The lines of names that only one of two starts has.
 ghost use Rattle.std.specs.Prelude.{◌≡◌, ◌≤◌, ◌++◌, [], length, slice_get, string_bytes, OnOk, if◌then◌else◌};
 ghost use Rattle.mls_tables.specs.declared.limits.TheConstants.{MAX_SUBJECTS, MAX_OBJECTS};
-ghost use Rattle.mls_compare.specs.Counterparts.{HasFewNames};
+ghost use Rattle.mls_start_file.specs.Ties.{HasFewNames};
 ghost use Rattle.mls_compare.specs.Differences.{only_line, only_at, only_lines, only_text};
 
 use mls_lines::Names;

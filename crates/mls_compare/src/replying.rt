@@ -6,7 +6,6 @@ ghost use Rattle.mls_requests.specs.declared.reply.Reply.TheVariants.{No};
 ghost use Rattle.mls_compare.specs.Replying.{agree, replies_text};
 
 use mls_requests::{Reason, Reply};
-use mls_wording::push_reply;
 use std::alloc::AllocError;
 
 /// Whether a reply is a denial for this reason.
@@ -35,10 +34,5 @@ pub(crate) fn agree(first: &Reply, second: &Reply) -> bool
 pub(crate) fn push_replies(text: &mut String, first: Reply, second: Reply) -> Result<(), AllocError>
     ensures { OnOk result (string_bytes text.new ≡ string_bytes text.old ++ replies_text first second) }
 {
-    text.push_str(": ")?;
-    push_reply(text, first)?;
-    text.push_str(" > ")?;
-    push_reply(text, second)?;
-    text.push_str("\n")?;
-    Ok(())
+    writeln!(text, ": {first} > {second}")
 }

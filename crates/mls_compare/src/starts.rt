@@ -2,7 +2,7 @@
 ghost use Rattle.std.specs.Prelude.{◌≡◌, ◌++◌, ◌==◌, length, string_bytes, IfOk, OnOk};
 ghost use Rattle.mls_tables.specs.declared.limits.TheConstants.{MAX_SUBJECTS, MAX_OBJECTS};
 ghost use Rattle.mls_compare.specs.Comparing.{IsAnswer};
-ghost use Rattle.mls_compare.specs.Counterparts.{HasFewNames, shared};
+ghost use Rattle.mls_compare.specs.Counterparts.{shared};
 ghost use Rattle.mls_compare.specs.Differences.{gets_text, starts_text};
 
 use crate::gets::push_gets;
@@ -11,21 +11,9 @@ use crate::shared::{shared_objects, shared_subjects};
 use mls_lines::Names;
 use mls_monitor::Start;
 use mls_rules::State;
-use mls_starts::Loaded;
+use mls_start_file::Loaded;
 use mls_wording::Answer;
 use std::alloc::{AllocError, Global};
-
-/// A start has no more names than subjects and objects can have. The function does nothing: what it says is so of every
-/// start.
-pub(crate) fn has_few_names(loaded: &Loaded)
-    ensures { HasFewNames loaded.now.names }
-{
-    // that the names go with the start, and how many subjects and objects that has
-    let _ = loaded.names();
-    let start = loaded.start();
-    let _ = start.subject_count();
-    let _ = start.object_count();
-}
 
 /// Appends the lines of the gets, of subjects and objects that both starts have, that two states answer otherwise.
 fn push_shared(
@@ -109,8 +97,6 @@ pub(crate) fn compare_starts(
     ensures { IfOk result
         (λ found. IsAnswer (starts_text words.entry.0.now words.entry.1.now first.now second.now) found) }
 {
-    has_few_names(first);
-    has_few_names(second);
     let mut text = String::new(alloc);
     push_only(&mut text, words, first.names(), second.names())?;
     push_openings(

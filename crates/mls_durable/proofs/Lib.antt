@@ -2,10 +2,15 @@ mod Fronts
 mod Histories
 mod JournalFacts
 mod LineFacts
+mod Torn
+mod AnswerLines
+mod Asked
 mod Holes
+mod KeptLines
 mod Mending
 mod Moving
 mod Batching
 mod Pieces
+mod Greetings
 mod Whole
 mod Laws

@@ -1,7 +1,9 @@
 pub mod History
 pub mod Journals
+pub mod Sessions
 pub mod Moments
 pub mod Recovery
 pub mod Batches
 pub mod Attending
+pub mod Greeting
 pub mod Service

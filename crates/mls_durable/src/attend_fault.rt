@@ -7,6 +7,9 @@ pub enum AttendFault {
     /// The reader failed. An interrupted read counts as failed.
     #[error("the reader failed")]
     Read,
+    /// The input ended within a line, which isn't asked.
+    #[error("the last line isn't finished")]
+    Unfinished,
     /// Answers couldn't be handed out.
     #[error("the answers couldn't be written")]
     Write,

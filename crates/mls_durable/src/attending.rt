@@ -9,11 +9,11 @@ ghost use Rattle.mls_durable.specs.Attending.{Attends};
 use crate::attend_fault::AttendFault;
 use crate::batch::Batch;
 use crate::client::Client;
+use crate::options::Protocol;
 use crate::outside::Outside;
 use mls_journal::JOURNAL_LIMIT;
 use mls_lines::{Names, Vars};
 use mls_monitor::Monitor;
-use mls_scripts::Script;
 use std::alloc::Global;
 use std::io::Read;
 
@@ -23,7 +23,8 @@ const PIECE: usize = 65_536;
 /// Attends to a client through a buffer.
 fn attend_pieces<R: Read, O: Outside>(
     client: &mut Client,
-    script: &Script<'_, Global>,
+    names: &Names,
+    protocol: Protocol,
     monitor: &mut Monitor,
     buffer: &mut [u8],
     reader: &mut R,
@@ -35,8 +36,8 @@ fn attend_pieces<R: Read, O: Outside>(
     requires answers { client.old.batch.answers.items ≡ [] }
     ensures attends { let first = standing_of client.old.batch.vars.bound monitor.old in
         Known (O.history outside.old) (O.history outside.new) (λ before after.
-        SoFar script.now.names.now script.now.session first before [] (pending first client.old.batch) before
-        → Attends script.now.names.now script.now.session first (R.remaining reader.old) (R.remaining reader.new)
+        SoFar names.now protocol first before [] (pending first client.old.batch) before
+        → Attends names.now protocol first (R.remaining reader.old) (R.remaining reader.new)
         monitor.new.entries before after result) }
     ensures start { monitor.new.start ≡ monitor.old.start }
 {
@@ -45,24 +46,28 @@ fn attend_pieces<R: Read, O: Outside>(
             return Err(AttendFault::Read);
         };
         if count == 0 {
-            return client.take_end(script, monitor, outside);
+            return client.take_end();
         }
-        client.take_piece(script, monitor, &buffer[..count], outside)?;
+        client.take_piece(names, protocol, monitor, &buffer[..count], outside)?;
     }
     Err(AttendFault::Read)
 }
 
-/// Answers the lines of a client as the session `session`, to the end of its input, over a monitor whose journal is
-/// just what the file holds, all of it on the disk; the file has `len` bytes.
+/// Answers the lines of a client, to the end of its input, over a monitor whose journal is just what the file holds,
+/// all of it on the disk; the file has `len` bytes. The protocol says of which session a line is, and how it is
+/// answered.
 ///
 /// The lines that are complete in what was read are a batch, or more than one where the text of their entries would
 /// pass `BATCH` bytes: the entries are added to the file, which is synced, and then the answers are handed out. A batch
-/// that adds no entry syncs nothing. All of that is done before the reader is called again. There is no limit on the
-/// input; a line has at most `MAX_LINE` bytes.
+/// that adds no entry syncs nothing. All of that is done before the reader is called again. A last line without a
+/// newline isn't asked. There is no limit on the input; a line has at most `MAX_LINE` bytes, and a session's so many
+/// behind what tells its session.
 ///
 /// # Errors
 /// The lines before some line are answered, and no other. The monitor's start stays.
 /// - `Read`: all lines that are complete in what was read are answered. The monitor's journal is the file's.
+/// - `Unfinished`: the input ended within a line; the lines before it are answered. The monitor's journal is the
+///   file's.
 /// - `Write`: answers broke off; the entries of all lines that were asked are in the file, and synced.
 /// - `File`: no answer of the last batch is handed out; the file may have a front of the text of its entries. The file
 ///   has to be recovered.
@@ -75,7 +80,7 @@ fn attend_pieces<R: Read, O: Outside>(
 pub fn attend<R: Read, O: Outside>(
     alloc: Global,
     names: &Names,
-    session: u32,
+    protocol: Protocol,
     monitor: &mut Monitor,
     len: usize,
     reader: &mut R,
@@ -83,7 +88,7 @@ pub fn attend<R: Read, O: Outside>(
 ) -> Result<(), AttendFault>
     ensures attends { Known (O.history outside.old) (O.history outside.new) (λ before after.
         IsSettled monitor.old.entries before → len ≡ length (seen before)
-        → Attends names.now session (standing_of [] monitor.old) (R.remaining reader.old) (R.remaining reader.new)
+        → Attends names.now protocol (standing_of [] monitor.old) (R.remaining reader.old) (R.remaining reader.new)
         monitor.new.entries before after result) }
     ensures start { monitor.new.start ≡ monitor.old.start }
 {
@@ -92,7 +97,6 @@ pub fn attend<R: Read, O: Outside>(
     let Ok(mut buffer) = Vec::from_elem(alloc, 0u8, PIECE) else {
         return Err(AttendFault::Memory);
     };
-    let script = Script { names, session };
     let batch = Batch {
         vars: Vars::new(alloc),
         text: String::new(alloc),
@@ -102,5 +106,13 @@ pub fn attend<R: Read, O: Outside>(
     };
     let line = Vec::new(alloc);
     let mut client = Client { batch, line };
-    attend_pieces(&mut client, &script, monitor, &mut buffer, reader, outside)
+    attend_pieces(
+        &mut client,
+        names,
+        protocol,
+        monitor,
+        &mut buffer,
+        reader,
+        outside,
+    )
 }

@@ -1,4 +1,4 @@
--- What is picked of the four modes of a cell, one mode after the other, and of one item more of a list.
+-- What is picked of the four modes of a cell, one mode after the other.
 use Rattle.std.proofs.Common.{◌≡◌, ℕ, zero, suc, ◌+◌, ◌<◌, Bool, true, false, cond, not, ◌&&◌, List, [], ◌∷◌, ◌++◌, length, get_or, take, map, filter, refl, sym, ap, ◌∙◌, append-nil, arith}
 use Rattle.std.specs.List.{flat_map, range_with_len}
 use Rattle.std.proofs.lemmas.List.Concat.{flat_map-cons}
@@ -52,28 +52,3 @@ module _ {X Y : Type 0} (f : X → Y) (p : X → Bool) where
       ∙ ap (λ t. A ++ t) (map_filter b (c ∷ d ∷ [])
       ∙ ap (λ t. B ++ t) (map_filter c (d ∷ [])
       ∙ ap (λ t. C ++ t) (map_filter d [] ∙ append-nil D)))))
-
--- one item more
-pub flat_map_more : {X Y : Type 0} (f : X → List Y) (xs : List X) (i : ℕ) (d : X) → i < length xs
-    → flat_map f (take (i + 1) xs) ≡ flat_map f (take i xs) ++ f (get_or xs i d)
-flat_map_more f xs i d h =
-    ap (flat_map f) (take_more xs i d h) ∙ flat_map-append f (take i xs) (get_or xs i d ∷ [])
-    ∙ ap (λ t. flat_map f (take i xs) ++ t) (append-nil (f (get_or xs i d)))
-
--- one number more
-range_flat : {Y : Type 0} (f : ℕ → List Y) (a n : ℕ) → flat_map f (range_with_len a (suc n)) ≡ flat_map f (range_with_len a n) ++ f (a + n)
-range_flat f a zero =
-    let same : a ≡ a + 0 = omega arith in
-    flat_map-cons f a [] ∙ append-nil (f a) ∙ ap f same
-range_flat f a (suc n) =
-    let same : (a + 1) + n ≡ a + suc n = omega arith in
-    flat_map-cons f a (range_with_len (a + 1) (suc n))
-    ∙ ap (λ t. f a ++ t) (range_flat f (a + 1) n)
-    ∙ sym (append_assoc (f a) (flat_map f (range_with_len (a + 1) n)) (f ((a + 1) + n)))
-    ∙ (λ i. sym (flat_map-cons f a (range_with_len (a + 1) n)) i ++ f (same i))
-
-pub range_flat_more : {Y : Type 0} (f : ℕ → List Y) (n : ℕ) → flat_map f (range_with_len 0 (n + 1)) ≡ flat_map f (range_with_len 0 n) ++ f n
-range_flat_more f n =
-    let next : n + 1 ≡ suc n = omega arith in
-    let same : 0 + n ≡ n = omega arith in
-    ap (λ k. flat_map f (range_with_len 0 k)) next ∙ range_flat f 0 n ∙ ap (λ k. flat_map f (range_with_len 0 n) ++ f k) same

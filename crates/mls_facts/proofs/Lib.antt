@@ -4,6 +4,7 @@ pub mod Distinct
 pub mod Each
 pub mod Entries
 pub mod Filters
+pub mod Gathered
 pub mod Increasing
 pub mod Keys
 pub mod Least

@@ -1,5 +1,5 @@
 -- The start of the examples: nothing is wrong with its rows, and what its tables have.
-use Rattle.std.proofs.Common.{◌≡◌, ℕ, Bool, true, false, not, ◌&&◌, [], Option, Some, None, nat_lt, refl, ◌∙◌}
+use Rattle.std.proofs.Common.{◌≡◌, ℕ, Bool, true, false, not, ◌&&◌, [], Option, Some, None, nat_lt, refl, ◌∙◌, arith}
 use Rattle.std.specs.Prelude.{slice_get, option_and_then, if◌then◌else◌}
 use Rattle.std.specs.List.{list_any, list_all}
 use Rattle.std.specs.FinSet as set
@@ -18,11 +18,11 @@ use Rattle.mls_state.specs.declared.subject.ObjectLabels.{ObjectLabels}
 use Rattle.mls_state.specs.State.{State, is_subject, is_active}
 use Rattle.mls_state.specs.Audit.{access_holds}
 use Rattle.mls_state.specs.Properties.{IsSecure}
-use Rattle.mls_builder.specs.declared.start_fault.StartFault.{StartFault}
-use Rattle.mls_builder.specs.declared.start_fault.StartFault.TheVariants.{BadLabel, BadParent, CurrentAboveMaximum, NotCompatible, IntegrityAboveParent, NoSuchCell, NotSecure}
-use Rattle.mls_builder.specs.Rows.{labels_of, parents_of, opening}
-use Rattle.mls_builder.specs.StartFaults.{start_fault, labels_fit, parents_before, current_fits, security_fits, integrity_fits, is_cell}
-use Rattle.mls_builder.proofs.Laws.{subject_opening, active_opening, faultless, secure_opening}
+use Rattle.mls_state.specs.declared.start_fault.StartFault.{StartFault}
+use Rattle.mls_state.specs.declared.start_fault.StartFault.TheVariants.{BadLabel, BadParent, CurrentAboveMaximum, NotCompatible, IntegrityAboveParent, NoSuchCell, NotSecure}
+use Rattle.mls_start.specs.Rows.{labels_of, parents_of, opening}
+use Rattle.mls_start.specs.StartFaults.{start_fault, labels_fit, parents_before, current_fits, security_fits, integrity_fits, is_cell}
+use Rattle.mls_start.proofs.Laws.{subject_opening, active_opening, faultless, from_faultless, secure_opening}
 use Rattle.mls_laws.specs.Examples.{plain, example_rows, example_subjects, example_objects, example_cells}
 use Rattle.mls_laws.proofs.Plain.{plain_dominates, plain_within}
 
@@ -56,20 +56,20 @@ cells = each-from_list triples_total same_triple (is_cell 3 4) example_cells
 no_access : (p : Triple → Bool) → each {R = triple_cmp} example_rows.accesses p ≡ true
 no_access p = each-from_list triples_total same_triple p []
 
--- a fault whose test holds doesn't apply
-unless : (b : Bool) (fault : StartFault) (rest : Option StartFault) → b ≡ true → rest ≡ None → (if not b then Some fault else rest) ≡ None
-unless b fault rest holds none = rw holds none
-
 pub nothing_wrong : start_fault example_rows ≡ None
-nothing_wrong =
-    unless (labels_fit example_rows) BadLabel _ all_within
-    (unless (parents_before 1 example_objects) BadParent _ refl
-    (unless (list_all current_fits example_subjects) CurrentAboveMaximum _ currents
-    (unless (list_all (security_fits (labels_of example_rows)) example_objects) NotCompatible _ compatible
-    (unless (list_all (integrity_fits (labels_of example_rows)) example_objects) IntegrityAboveParent _ integrities
-    (unless (each example_rows.cells (is_cell 3 4)) NoSuchCell _ cells
-    (unless (each example_rows.accesses (is_cell 3 4)) NoSuchCell _ (no_access (is_cell 3 4))
-    (unless (each example_rows.accesses (access_holds (opening example_rows))) NotSecure _ (no_access (access_holds (opening example_rows))) refl)))))))
+nothing_wrong = from_faultless example_rows (record {
+  some = omega arith;
+  few = omega arith;
+  room = omega arith;
+  labels = all_within;
+  parents = refl;
+  currents = currents;
+  security = compatible;
+  integrity = integrities;
+  cells = cells;
+  accesses = no_access (is_cell 3 4);
+  secure = no_access (access_holds (opening example_rows));
+})
 
 abbrev pub start : State
 start = opening example_rows

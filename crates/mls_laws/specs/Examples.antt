@@ -10,8 +10,8 @@ use Rattle.mls_requests.specs.declared.reply.Reply.TheVariants.{Yes}
 use Rattle.mls_requests.specs.declared.entry.Entry.{Entry}
 use Rattle.mls_tree.specs.declared.profile.Profile.TheVariants.{One}
 use Rattle.mls_state.specs.declared.subject.Subject.{Subject}
-use Rattle.mls_builder.specs.declared.object_row.ObjectRow.{ObjectRow}
-use Rattle.mls_builder.specs.Rows.{Rows}
+use Rattle.mls_start.specs.declared.object_row.ObjectRow.{ObjectRow}
+use Rattle.mls_start.specs.Rows.{Rows}
 
 -- The label of a level, without categories. (own)
 abbrev pub plain : ℕ → Label

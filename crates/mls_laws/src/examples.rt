@@ -8,8 +8,8 @@ ghost use Rattle.mls_requests.specs.declared.reason.Reason.TheVariants.{Discreti
 ghost use Rattle.mls_requests.specs.declared.reply.Reply.TheVariants.{Yes, Created, No, Undefined};
 ghost use Rattle.mls_requests.specs.declared.entry.Entry.{Entry};
 ghost use Rattle.mls_state.specs.Properties.{IsSecure};
-ghost use Rattle.mls_builder.specs.Rows.{opening};
-ghost use Rattle.mls_builder.specs.StartFaults.{start_fault};
+ghost use Rattle.mls_start.specs.Rows.{opening};
+ghost use Rattle.mls_start.specs.StartFaults.{start_fault};
 ghost use Rattle.mls_rules.specs.Rules.{reply, after};
 ghost use Rattle.mls_monitor.specs.Journal.{IsLegal};
 ghost use Rattle.mls_laws.specs.Flow.{Flows, Feeds};

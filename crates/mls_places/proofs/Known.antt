@@ -8,8 +8,8 @@ use Rattle.mls_labels.specs.Reading.{place_of}
 use Rattle.mls_lines.specs.Names.{Names}
 use Rattle.mls_state.specs.State.{State, is_subject, is_active}
 use Rattle.mls_state.specs.declared.subject.ObjectLabels.{ObjectLabels}
-use Rattle.mls_starts.specs.Ties.{AreTied}
-use Rattle.mls_starts.specs.declared.labels.LabelledChild.{LabelledChild}
+use Rattle.mls_start_file.specs.Ties.{AreTied}
+use Rattle.mls_start_text.specs.declared.labels.LabelledChild.{LabelledChild}
 
 -- a name's place is one of them
 pub place_below : (names : List (List ℕ)) (name : List ℕ) (n : ℕ) → place_of names name ≡ Some n → n < length names

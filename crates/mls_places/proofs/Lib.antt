@@ -2,3 +2,4 @@ pub mod Each
 pub mod NameLists
 pub mod Known
 pub mod Trees
+mod Repeated

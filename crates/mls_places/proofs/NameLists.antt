@@ -24,21 +24,6 @@ any_other text (x ∷ xs) = rw (any_other text xs, same x.now text) refl where
     ] refl
   ] refl
 
-any_mapped : {X Y : Type 0} (f : X → Y) (p : Y → Bool) (xs : List X) → list_any p (map f xs) ≡ list_any (λ x. p (f x)) xs
-any_mapped f p [] = refl
-any_mapped f p (x ∷ xs) = ap (λ t. p (f x) || t) (any_mapped f p xs)
-
--- what a set of texts does with a name, seen as bytes
-pub was_added : {Z : Type 0} (keys : List (String Z)) (text : String Z) (name : List ℕ) → string_bytes text ≡ name → not (list_any (string_eq text) keys) ≡ not (list_any (bytes_eq name) (map string_bytes keys))
-was_added keys text name is = ap not (sym (any_mapped string_bytes (bytes_eq (string_bytes text)) keys) ∙ ap (λ bytes. list_any (bytes_eq bytes) (map string_bytes keys)) is)
-
-pub kept_with : {Z : Type 0} (keys : List (String Z)) (text : String Z) (name : List ℕ) (added : Bool) → string_bytes text ≡ name → added ≡ not (list_any (string_eq text) keys)
-    → map string_bytes (cond (list_any (string_eq text) keys) keys (keys ++ text ∷ [])) ≡ cond added (map string_bytes keys ++ name ∷ []) (map string_bytes keys)
-kept_with keys text name added is e = elim (list_any (string_eq text) keys) as (λ b. added ≡ not b → map string_bytes (cond b keys (keys ++ text ∷ [])) ≡ cond added (map string_bytes keys ++ name ∷ []) (map string_bytes keys)) [
-  | true ↦ λ no. rw no refl
-  | false ↦ λ yes. rw (yes, map-append) (ap (λ last. map string_bytes keys ++ last ∷ []) is)
-] e
-
 -- the faults of names with one more at the end
 pub faults_last : (before names : List (List ℕ)) (name : List ℕ) → faults_after before (names ++ name ∷ []) ≡ faults_after before names ++ name_fault (before ++ names) name ∷ []
 faults_last before [] name = ap (λ front. name_fault front name ∷ []) (sym (append-nil before))

@@ -6,7 +6,7 @@ use Rattle.std.specs.declared.alloc.Global.{Global}
 use Rattle.serde_json.specs.Data.{Data}
 use Rattle.serde_json.specs.View.{items_of, items_view, members_view}
 use Rattle.serde_json.specs.declared.value.Value.{Value}
-use Rattle.mls_starts.specs.Looking.{list_of}
+use Rattle.mls_start_text.specs.Looking.{list_of}
 use Rattle.mls_places.specs.Members.{has_none}
 use Rattle.mls_places.specs.Rows.{keys_of}
 

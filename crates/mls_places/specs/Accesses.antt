@@ -10,11 +10,11 @@ use Rattle.mls_tables.specs.Triples.{Triple}
 use Rattle.mls_lines.specs.Names.{Names}
 use Rattle.mls_state.specs.Properties.{discretionary_holds, simple_holds, star_holds, integrity_holds}
 use Rattle.mls_state.specs.State.{State}
-use Rattle.mls_starts.specs.Each.{having}
-use Rattle.mls_starts.specs.Loading.{load_of_file}
-use Rattle.mls_starts.specs.Texts.{SaidCell, SaidFile}
-use Rattle.mls_starts.specs.Ties.{Loaded}
-use Rattle.mls_starts.specs.declared.load_fault.LoadFault.{LoadFault}
+use Rattle.mls_start_text.specs.Each.{having}
+use Rattle.mls_start_file.specs.Loading.{load_of_file}
+use Rattle.mls_start_text.specs.Texts.{SaidCell, SaidFile}
+use Rattle.mls_start_file.specs.Ties.{Loaded}
+use Rattle.mls_start_text.specs.declared.load_fault.LoadFault.{LoadFault}
 use Rattle.mls_places.specs.Each.{at_each}
 use Rattle.mls_places.specs.Places.{line, on_item}
 

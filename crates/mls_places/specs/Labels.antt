@@ -6,7 +6,7 @@ use Rattle.mls_labels.specs.Scheme.{Scheme}
 use Rattle.mls_labels.specs.declared.label_fault.LabelFault.{LabelFault}
 use Rattle.mls_labels.specs.declared.label_fault.LabelFault.TheVariants.{BadForm, UnknownLevel, UnknownCategory}
 use Rattle.mls_labels.specs.declared.label_fault.LabelFault.TheVariants.{RepeatedCategory}
-use Rattle.mls_starts.specs.Texts.{SaidFile, SaidSubject, SaidObject, SaidChild}
+use Rattle.mls_start_text.specs.Texts.{SaidFile, SaidSubject, SaidObject, SaidChild}
 use Rattle.mls_places.specs.Each.{at_each}
 use Rattle.mls_places.specs.Places.{line, on_member}
 

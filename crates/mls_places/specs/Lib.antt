@@ -10,3 +10,4 @@ pub mod Starts
 pub mod Accesses
 pub mod PlaceText
 pub mod JsonPlaces
+pub mod Repeated

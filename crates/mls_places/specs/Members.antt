@@ -3,7 +3,7 @@ use Rattle.std.specs.Prelude.{ℕ, Bool, true, false, ◌==◌, ◌||◌, List, 
 use Rattle.mls_facts.specs.Numbered.{holds_of}
 use Rattle.serde_json.specs.Data.{Data, Items, no_items, item}
 use Rattle.serde_json.specs.Find.{get, as_number, as_u64, as_array, as_object}
-use Rattle.mls_starts.specs.Each.{having}
+use Rattle.mls_start_text.specs.Each.{having}
 use Rattle.mls_places.specs.Places.{key, Wrong, line}
 use Rattle.mls_places.specs.Rows.{within, here, required, items_wrong, members_wrong, scheme_wrong, row_wrong}
 use Rattle.mls_places.specs.declared.rows.Row.{Row}

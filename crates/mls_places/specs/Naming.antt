@@ -5,7 +5,7 @@ use Rattle.mls_labels.specs.declared.limits.TheConstants.{MAX_LEVELS, MAX_CATEGO
 use Rattle.mls_labels.specs.declared.scheme_fault.SchemeFault.{SchemeFault}
 use Rattle.mls_labels.specs.declared.scheme_fault.SchemeFault.TheVariants.{NoLevels, TooManyLevels, TooManyCategories}
 use Rattle.mls_labels.specs.declared.scheme_fault.SchemeFault.TheVariants.{BadName, RepeatedName, Memory}
-use Rattle.mls_starts.specs.Texts.{SaidFile, subject_names, object_names}
+use Rattle.mls_start_text.specs.Texts.{SaidFile, subject_names, object_names}
 use Rattle.mls_places.specs.Each.{at_each}
 use Rattle.mls_places.specs.NameFaults.{name_faults}
 use Rattle.mls_places.specs.Places.{line, on_member, on_names, on_name}

@@ -1,10 +1,10 @@
 -- The places where the fault of a start file applies.
 use Rattle.std.specs.Prelude.{ℕ, List, [], option_map, unwrap_or}
 use Rattle.serde_json.specs.Data.{Data}
-use Rattle.mls_starts.specs.Texts.{SaidFile, file_of}
-use Rattle.mls_starts.specs.declared.load_fault.LoadFault.{LoadFault}
-use Rattle.mls_starts.specs.declared.load_fault.LoadFault.TheVariants.{Json, Members, Scheme, Name, Label, Unknown}
-use Rattle.mls_starts.specs.declared.load_fault.LoadFault.TheVariants.{Start, Memory}
+use Rattle.mls_start_text.specs.Texts.{SaidFile, file_of}
+use Rattle.mls_start_text.specs.declared.load_fault.LoadFault.{LoadFault}
+use Rattle.mls_start_text.specs.declared.load_fault.LoadFault.TheVariants.{Json, Members, Scheme, Name, Label, Unknown}
+use Rattle.mls_start_text.specs.declared.load_fault.LoadFault.TheVariants.{Start, Memory}
 use Rattle.mls_places.specs.Labels.{labels_text}
 use Rattle.mls_places.specs.Members.{members_text}
 use Rattle.mls_places.specs.Naming.{names_text, schemes_text}

@@ -6,7 +6,7 @@ use Rattle.std.specs.Option.{option_or}
 use Rattle.std.specs.Str.{bytes_eq}
 use Rattle.serde_json.specs.Data.{Data, Items, Members, no_members, member}
 use Rattle.serde_json.specs.Find.{get, as_null, as_bool, as_str, as_array, as_object}
-use Rattle.mls_starts.specs.Looking.{list_of}
+use Rattle.mls_start_text.specs.Looking.{list_of}
 use Rattle.mls_places.specs.Places.{Step, key, number, Wrong}
 use Rattle.mls_places.specs.declared.rows.Row.{Row}
 use Rattle.mls_places.specs.declared.rows.Row.TheVariants.{Subject, Object, Cell}

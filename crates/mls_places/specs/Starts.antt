@@ -5,17 +5,17 @@ use Rattle.mls_facts.specs.Numbered.{holds_of}
 use Rattle.mls_labels.specs.Label.{dominates}
 use Rattle.mls_state.specs.declared.subject.ObjectLabels.{ObjectLabels}
 use Rattle.mls_state.specs.declared.subject.Subject.{Subject}
-use Rattle.mls_builder.specs.StartFaults.{current_fits}
-use Rattle.mls_builder.specs.declared.start_fault.StartFault.{StartFault}
-use Rattle.mls_builder.specs.declared.start_fault.StartFault.TheVariants.{NoSubjects, TooManySubjects, TooManyObjects}
-use Rattle.mls_builder.specs.declared.start_fault.StartFault.TheVariants.{BadLabel, BadParent, CurrentAboveMaximum}
-use Rattle.mls_builder.specs.declared.start_fault.StartFault.TheVariants.{NotCompatible, IntegrityAboveParent}
-use Rattle.mls_builder.specs.declared.start_fault.StartFault.TheVariants.{NoSuchCell, NotSecure}
-use Rattle.mls_starts.specs.Each.{having}
-use Rattle.mls_starts.specs.Labelling.{Labelled, labels_of}
-use Rattle.mls_starts.specs.Naming.{names_of}
-use Rattle.mls_starts.specs.Texts.{SaidFile}
-use Rattle.mls_starts.specs.declared.labels.LabelledChild.{LabelledChild}
+use Rattle.mls_start.specs.StartFaults.{current_fits}
+use Rattle.mls_state.specs.declared.start_fault.StartFault.{StartFault}
+use Rattle.mls_state.specs.declared.start_fault.StartFault.TheVariants.{NoSubjects, TooManySubjects, TooManyObjects}
+use Rattle.mls_state.specs.declared.start_fault.StartFault.TheVariants.{BadLabel, BadParent, CurrentAboveMaximum}
+use Rattle.mls_state.specs.declared.start_fault.StartFault.TheVariants.{NotCompatible, IntegrityAboveParent}
+use Rattle.mls_state.specs.declared.start_fault.StartFault.TheVariants.{NoSuchCell, NotSecure}
+use Rattle.mls_start_text.specs.Each.{having}
+use Rattle.mls_start_text.specs.Labelling.{Labelled, labels_of}
+use Rattle.mls_start_text.specs.Naming.{names_of}
+use Rattle.mls_start_text.specs.Texts.{SaidFile}
+use Rattle.mls_start_text.specs.declared.labels.LabelledChild.{LabelledChild}
 use Rattle.mls_places.specs.Accesses.{accesses_text}
 use Rattle.mls_places.specs.Each.{at_each}
 use Rattle.mls_places.specs.Places.{line, on_list, on_member}

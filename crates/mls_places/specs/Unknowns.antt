@@ -2,7 +2,7 @@
 use Rattle.std.specs.Prelude.{ℕ, List, [], ◌++◌, codes, is_some, if◌then◌else◌}
 use Rattle.mls_labels.specs.Reading.{place_of}
 use Rattle.mls_requests.specs.ModeWords.{read_mode}
-use Rattle.mls_starts.specs.Texts.{SaidFile, SaidChild, SaidCell, subject_names, object_names}
+use Rattle.mls_start_text.specs.Texts.{SaidFile, SaidChild, SaidCell, subject_names, object_names}
 use Rattle.mls_places.specs.Each.{at_each}
 use Rattle.mls_places.specs.Places.{line, on_member, on_item}
 

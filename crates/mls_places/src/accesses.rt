@@ -1,9 +1,9 @@
 //! Where a file has accesses that break a property.
 ghost use Rattle.std.specs.Prelude.{◌≡◌, ◌++◌, map, string_bytes, IsTrue, OnOk, IfOk};
 ghost use Rattle.mls_state.specs.State.{is_subject, is_active};
-ghost use Rattle.mls_starts.specs.Ties.{Loaded};
-ghost use Rattle.mls_starts.specs.Ties.{AreTied};
-ghost use Rattle.mls_starts.specs.Views.{text_view, cell_view, file_view};
+ghost use Rattle.mls_start_file.specs.Ties.{Loaded};
+ghost use Rattle.mls_start_file.specs.Ties.{AreTied};
+ghost use Rattle.mls_start_text.specs.Views.{text_view, cell_view, file_view};
 ghost use Rattle.mls_places.specs.Accesses.{broken, access_line, cell_accesses, accesses_lines, accesses_text};
 ghost use Rattle.mls_places.specs.Each.{at_each};
 
@@ -11,7 +11,8 @@ use crate::place::Place;
 use crate::writing::push_place;
 use mls_lines::Names;
 use mls_requests::Reason;
-use mls_starts::{CellText, FileText, Loaded, load_file, mode_of};
+use mls_start_file::{Loaded, load_file};
+use mls_start_text::{CellText, FileText, mode_of};
 use mls_state::{State, discretionary_holds, integrity_holds, simple_holds, star_holds};
 use mls_tables::{Mode, ObjectId, SubjectId};
 use serde_json::Value;

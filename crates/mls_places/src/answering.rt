@@ -2,20 +2,20 @@
 ghost use Rattle.std.specs.Prelude.{◌≡◌, string_bytes, IfOk};
 ghost use Rattle.serde_json.specs.Data.{Data};
 ghost use Rattle.serde_json.specs.View.{view};
-ghost use Rattle.mls_starts.specs.Looking.{IsReadAs};
-ghost use Rattle.mls_starts.specs.Says.{RefusesStart};
-ghost use Rattle.mls_starts.specs.Views.{file_view};
+ghost use Rattle.mls_start_text.specs.Looking.{IsReadAs};
+ghost use Rattle.mls_start_file.specs.Says.{RefusesStart};
+ghost use Rattle.mls_start_text.specs.Views.{file_view};
 ghost use Rattle.mls_places.specs.JsonPlaces.{TellsJson};
 ghost use Rattle.mls_places.specs.PlaceText.{file_text, by_file, places_text};
 
-use crate::json::json_text;
 use crate::labels::labels_text;
 use crate::members::members_text;
 use crate::naming::names_text;
+use crate::refused_json::json_text;
 use crate::schemes::schemes_text;
 use crate::starts::start_text;
 use crate::unknowns::unknowns_text;
-use mls_starts::{FileText, LoadFault, read_tree};
+use mls_start_text::{FileText, LoadFault, read_tree};
 use serde_json::Value;
 use std::alloc::{AllocError, Global};
 
@@ -71,7 +71,7 @@ fn bytes_text(alloc: Global, bytes: &[u8], fault: LoadFault) -> Result<String, A
     }
 }
 
-/// The places where the fault applies for which [`read_start`](mls_starts::read_start) refuses the bytes of a start
+/// The places where the fault applies for which [`read_start`](mls_start_file::read_start) refuses the bytes of a start
 /// file, a line each: a JSON pointer, a colon, a space and some words, in the file's order. Of `Members` it is the
 /// first place alone; of `Json` it is the line and the column where the JSON breaks off, and no clause says that these
 /// are the right ones.

@@ -1,8 +1,8 @@
 //! Where a file has label texts that are refused.
 ghost use Rattle.std.specs.Prelude.{◌≡◌, ◌++◌, map, string_bytes, OnOk, IfOk};
-ghost use Rattle.mls_starts.specs.NameViews.{names_view};
-ghost use Rattle.mls_starts.specs.Naming.{names_of};
-ghost use Rattle.mls_starts.specs.Views.{subject_view, object_view, child_view, file_view};
+ghost use Rattle.mls_start_text.specs.NameViews.{names_view};
+ghost use Rattle.mls_start_text.specs.Naming.{names_of};
+ghost use Rattle.mls_start_text.specs.Views.{subject_view, object_view, child_view, file_view};
 ghost use Rattle.mls_places.specs.Each.{at_each};
 ghost use Rattle.mls_places.specs.Labels.{label_words, label_line, subject_lines, object_lines, child_lines};
 ghost use Rattle.mls_places.specs.Labels.{labels_text};
@@ -10,7 +10,7 @@ ghost use Rattle.mls_places.specs.Labels.{labels_text};
 use crate::place::Place;
 use crate::writing::push_place;
 use mls_labels::{LabelFault, Scheme};
-use mls_starts::{ChildText, FileNames, FileText, ObjectText, Schemes, SubjectText};
+use mls_start_text::{ChildText, FileNames, FileText, ObjectText, Schemes, SubjectText};
 use std::alloc::{AllocError, Global};
 
 /// The words for a label's fault.

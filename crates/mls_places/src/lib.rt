@@ -1,14 +1,15 @@
-//! Where the fault of a start file that is refused applies.
+//! Where the fault of a start file that is refused applies, and where one that is accepted has a member twice.
 #![tactic(auto)]
 
 mod accesses;
 mod answering;
-mod json;
 mod labels;
 mod members;
 mod name_fault;
 mod naming;
 mod place;
+mod refused_json;
+mod repeats;
 mod rows;
 mod schemes;
 mod seen;
@@ -17,3 +18,4 @@ mod unknowns;
 mod writing;
 
 pub use answering::places;
+pub use repeats::repeated_members;

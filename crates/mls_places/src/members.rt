@@ -4,7 +4,7 @@ ghost use Rattle.std.specs.Option.{option_or};
 ghost use Rattle.mls_facts.specs.Numbered.{holds_of};
 ghost use Rattle.serde_json.specs.Find.{get, as_array, as_number, as_u64};
 ghost use Rattle.serde_json.specs.View.{view, members_view};
-ghost use Rattle.mls_starts.specs.Each.{having};
+ghost use Rattle.mls_start_text.specs.Each.{having};
 ghost use Rattle.mls_places.specs.Members.{rows_wrong, objects_wrong, has_none, optional, profile_wrong, file_keys};
 ghost use Rattle.mls_places.specs.Members.{known_wrong, members_text};
 ghost use Rattle.mls_places.specs.Places.{key, place_view, spot_view};

@@ -1,13 +1,13 @@
 //! Where a file has names of subjects or objects that are refused.
-ghost use Rattle.std.specs.Prelude.{◌≡◌, ◌++◌, ◌∷◌, map, codes, string_bytes, OnOk, IfOk};
-ghost use Rattle.mls_starts.specs.Texts.{subject_names, object_names};
-ghost use Rattle.mls_starts.specs.Views.{subject_view, child_view, file_view};
+ghost use Rattle.std.specs.Prelude.{◌≡◌, ◌++◌, map, codes, string_bytes, OnOk, IfOk};
+ghost use Rattle.mls_start_text.specs.Texts.{subject_names, object_names};
+ghost use Rattle.mls_start_text.specs.Views.{file_view};
 ghost use Rattle.mls_places.specs.Naming.{name_words, name_line, name_lines, names_text};
 
 use crate::name_fault::{NameFault, name_faults};
 use crate::place::Place;
 use crate::writing::push_place;
-use mls_starts::{ChildText, FileText, ObjectText, SubjectText};
+use mls_start_text::FileText;
 use std::alloc::{AllocError, Global};
 
 /// The words for what is wrong with a name.
@@ -53,39 +53,6 @@ fn push_names(
     Ok(())
 }
 
-/// The names of subjects.
-fn subject_names<'a>(
-    alloc: Global,
-    subjects: &[SubjectText<'a>],
-) -> Result<Vec<&'a str>, AllocError>
-    ensures { IfOk result
-        (λ names. map (λ name. name.now) names.items ≡ map (λ s. s.name) (map subject_view subjects.now)) }
-{
-    let mut names = Vec::with_capacity(alloc, subjects.len())?;
-    for subject in subjects {
-        names.push(subject.name)?;
-    }
-    Ok(names)
-}
-
-/// The names of the root and of the objects below it.
-fn object_names<'a>(
-    alloc: Global,
-    root: &ObjectText<'a>,
-    children: &[ChildText<'a>],
-) -> Result<Vec<&'a str>, AllocError>
-    ensures { IfOk result
-        (λ names. map (λ name. name.now) names.items
-        ≡ root.now.name.now ∷ map (λ c. c.object.name) (map child_view children.now)) }
-{
-    let mut names = Vec::new(alloc);
-    names.push(root.name)?;
-    for child in children {
-        names.push(child.object.name)?;
-    }
-    Ok(names)
-}
-
 /// Appends the lines of the subjects' names that are refused.
 fn push_subject_names(
     alloc: Global,
@@ -96,7 +63,7 @@ fn push_subject_names(
         (string_bytes text.new
         ≡ string_bytes text.old ++ name_lines (codes "subjects") (subject_names (file_view file.now))) }
 {
-    let names = subject_names(alloc, &file.subjects)?;
+    let names = file.subject_names(alloc)?;
     push_names(alloc, text, "subjects", &names)
 }
 
@@ -110,7 +77,7 @@ fn push_object_names(
         (string_bytes text.new
         ≡ string_bytes text.old ++ name_lines (codes "objects") (object_names (file_view file.now))) }
 {
-    let names = object_names(alloc, &file.root, &file.children)?;
+    let names = file.object_names(alloc)?;
     push_names(alloc, text, "objects", &names)
 }
 

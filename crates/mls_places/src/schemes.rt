@@ -1,6 +1,6 @@
 //! Where a file has schemes that are refused.
 ghost use Rattle.std.specs.Prelude.{◌≡◌, ◌++◌, [], map, length, nat_lt, string_bytes, if◌then◌else◌, OnOk, IfOk};
-ghost use Rattle.mls_starts.specs.Views.{scheme_view, file_view};
+ghost use Rattle.mls_start_text.specs.Views.{scheme_view, file_view};
 ghost use Rattle.mls_places.specs.Each.{at_each};
 ghost use Rattle.mls_places.specs.NameFaults.{name_faults};
 ghost use Rattle.mls_places.specs.Naming.{bad_line, repeated_line, count_line, scheme_lines, schemes_text};
@@ -9,7 +9,7 @@ use crate::name_fault::{NameFault, name_faults};
 use crate::place::Place;
 use crate::writing::push_place;
 use mls_labels::{MAX_CATEGORIES, MAX_LEVELS, SchemeFault};
-use mls_starts::{FileText, SchemeText};
+use mls_start_text::{FileText, SchemeText};
 use std::alloc::{AllocError, Global};
 
 /// Appends the line of a name in a scheme that is no NAME.

@@ -2,10 +2,10 @@
 ghost use Rattle.std.specs.Prelude.{◌≡◌, ◌++◌, [], nat_lt, string_bytes, slice_get, Some, if◌then◌else◌, OnOk, IfOk};
 ghost use Rattle.mls_facts.specs.Numbered.{holds_of};
 ghost use Rattle.mls_labels.specs.Label.{dominates};
-ghost use Rattle.mls_starts.specs.Labelling.{labels_of};
-ghost use Rattle.mls_starts.specs.LabelViews.{labels_view};
-ghost use Rattle.mls_starts.specs.Naming.{names_of};
-ghost use Rattle.mls_starts.specs.Views.{file_view};
+ghost use Rattle.mls_start_text.specs.Labelling.{labels_of};
+ghost use Rattle.mls_start_text.specs.LabelViews.{labels_view};
+ghost use Rattle.mls_start_text.specs.Naming.{names_of};
+ghost use Rattle.mls_start_text.specs.Views.{file_view};
 ghost use Rattle.mls_places.specs.Starts.{before_line, before_lines, current_line, current_lines, object_labels};
 ghost use Rattle.mls_places.specs.Starts.{parent_labels, security_line, security_lines, integrity_line};
 ghost use Rattle.mls_places.specs.Starts.{integrity_lines, labelled_lines, by_labels, start_text};
@@ -15,8 +15,8 @@ use crate::accesses::accesses_text;
 use crate::labels::known_names;
 use crate::place::Place;
 use crate::writing::push_place;
-use mls_builder::StartFault;
-use mls_starts::{FileLabels, FileText, LabelledChild};
+use mls_start::StartFault;
+use mls_start_text::{FileLabels, FileText, LabelledChild};
 use mls_state::{ObjectLabels, Subject};
 use std::alloc::{AllocError, Global};
 

@@ -1,7 +1,7 @@
 //! Where a file names what isn't there.
 ghost use Rattle.std.specs.Prelude.{◌≡◌, ◌++◌, [], map, codes, is_some, string_bytes, if◌then◌else◌, OnOk, IfOk};
 ghost use Rattle.mls_labels.specs.Reading.{place_of};
-ghost use Rattle.mls_starts.specs.Views.{text_view, child_view, cell_view, file_view};
+ghost use Rattle.mls_start_text.specs.Views.{text_view, child_view, cell_view, file_view};
 ghost use Rattle.mls_places.specs.Each.{at_each};
 ghost use Rattle.mls_places.specs.Unknowns.{named_line, parent_line, mode_line, cell_lines, unknown_lines};
 ghost use Rattle.mls_places.specs.Unknowns.{unknowns_text};
@@ -11,7 +11,7 @@ use crate::labels::known_names;
 use crate::place::Place;
 use crate::writing::push_place;
 use mls_labels::NameSet;
-use mls_starts::{CellText, ChildText, FileText, NameSets, mode_of};
+use mls_start_text::{CellText, ChildText, FileText, NameSets, mode_of};
 use serde_json::Value;
 use std::alloc::{AllocError, Global};
 

@@ -6,7 +6,7 @@ use crate::monitors::request;
 use mls_cli::{MAX_SCRIPTS, Names, ScriptFeed, read_start};
 use mls_monitor::{Entry, Monitor};
 use mls_requests::{Ask, Reply};
-use mls_script_feeds::{done_text, make_feeds};
+use mls_runs::{done_text, make_feeds};
 use mls_sessions::{Answer, Feed};
 use mls_tables::ObjectId;
 use std::io;

@@ -1,6 +1,6 @@
 //! A run of feeds, each in a thread of its own.
 ghost use Rattle.std.specs.Prelude.{IfOk};
-ghost use Rattle.mls_feeds.specs.Feeds.{AllAt};
+ghost use Rattle.mls_monitor.specs.Feeds.{AllAt};
 
 use crate::keeper::{FEEDS, Keeper};
 use crate::monitors::open_monitor;

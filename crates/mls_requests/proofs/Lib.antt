@@ -1,3 +1,4 @@
 pub mod NumberLemmas
 pub mod ReplyTexts
+pub mod WordLengths
 pub mod WordTables

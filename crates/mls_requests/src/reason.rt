@@ -1,7 +1,7 @@
 //! Why a request is denied, and the word for it.
-ghost use Rattle.std.specs.Prelude.{◌≡◌};
+ghost use Rattle.std.specs.Prelude.{◌≡◌, ◌<◌};
 ghost use Rattle.std.specs.Str.{bytes_eq};
-ghost use Rattle.mls_requests.specs.ReasonWords.{reason_word, read_reason};
+ghost use Rattle.mls_requests.specs.ReasonWords.{reason_word, reason_place, read_reason};
 
 /// Why a request is denied: the first condition of its rule that fails.
 #[derive(Clone, Copy, Debug, PartialEq, Eq)]
@@ -39,6 +39,14 @@ impl Reason {
         Reason::Root,
         Reason::Full,
     ];
+
+    /// Its place in the order of reasons.
+    pub fn place(self) -> u16
+        ensures place { result ≡ reason_place self }
+        ensures few { result < 9 }
+    {
+        self as u16
+    }
 
     /// The word of the reason.
     pub fn word(self) -> &'static str

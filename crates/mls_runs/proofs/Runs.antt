@@ -6,9 +6,9 @@ use Rattle.mls_state.specs.State.{State}
 use Rattle.mls_requests.specs.declared.entry.Entry.{Entry}
 use Rattle.mls_journal.specs.EntryText.{journal_text}
 use Rattle.mls_lines.specs.Names.{Names}
-use Rattle.mls_starts.specs.Says.{SaysStart}
-use Rattle.mls_starts.specs.Ties.{Loaded}
-use Rattle.mls_outcomes.proofs.Laws.{journal_asked}
+use Rattle.mls_start_file.specs.Says.{SaysStart}
+use Rattle.mls_start_file.specs.Ties.{Loaded}
+use Rattle.mls_replay.proofs.AskedJournals.{journal_asked}
 use Rattle.mls_runs.specs.Run.{left_entries, script_text, session_after, scripts_left, scripts_text, run_entries, run_text, RunsOver}
 
 -- no script leaves what was there

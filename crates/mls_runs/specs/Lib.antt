@@ -1,1 +1,4 @@
 pub mod Run
+pub mod Threads
+pub mod RunFeeds
+pub mod RunFaults

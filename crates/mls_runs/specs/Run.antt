@@ -5,11 +5,11 @@ use Rattle.mls_state.specs.State.{State}
 use Rattle.mls_requests.specs.declared.entry.Entry.{Entry}
 use Rattle.mls_journal.specs.EntryText.{journal_text}
 use Rattle.mls_lines.specs.Names.{Names}
-use Rattle.mls_starts.specs.Says.{SaysStart}
-use Rattle.mls_starts.specs.Ties.{Loaded}
+use Rattle.mls_start_file.specs.Says.{SaysStart}
+use Rattle.mls_start_file.specs.Ties.{Loaded}
 use Rattle.mls_scripts.specs.Lines.{lines_of}
 use Rattle.mls_scripts.specs.Script.{Standing, answers, after_lines}
-use Rattle.mls_outcomes.specs.RunTexts.{heading, ending}
+use Rattle.mls_replay.specs.RunTexts.{heading, ending}
 
 -- Where a script begins: it has bound no variable, and the journal is what the scripts before it left. (own)
 abbrev pub begins : State → List Entry → Standing

@@ -10,10 +10,10 @@ use Rattle.mls_requests.specs.declared.ask.Ask.TheVariants.{Submit, Check}
 use Rattle.mls_requests.specs.declared.entry.Entry.{Entry}
 use Rattle.mls_monitor.specs.Journal.{IsLegal, fold}
 use Rattle.mls_lines.specs.Names.{Names}
-use Rattle.mls_feeds.specs.Feeds.{Exchange, IsTold, AreTold}
-use Rattle.mls_feeds.specs.Entries.{of_session}
-use Rattle.mls_feeds.specs.declared.feed.Answer.{Answer as Told}
-use Rattle.mls_feeds.specs.declared.feed.Answer.TheVariants as told
+use Rattle.mls_monitor.specs.Feeds.{Exchange, IsTold, AreTold}
+use Rattle.mls_monitor.specs.Entries.{of_session}
+use Rattle.mls_monitor.specs.declared.feed.Answer.{Answer as Told}
+use Rattle.mls_monitor.specs.declared.feed.Answer.TheVariants as told
 use Rattle.mls_scripts.specs.Fed.{Prints}
 use Rattle.mls_scripts.specs.Halves.{Asking, next_of, heard_by, vars_told, told_by, after_ask}
 use Rattle.mls_scripts.specs.Script.{Standing, state_at, entry_for, answer_bytes, answers, after_lines}

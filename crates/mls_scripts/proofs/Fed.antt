@@ -1,7 +1,7 @@
 -- What a script prints that is fed to its end.
 use Rattle.std.proofs.Common.{◌≡◌, ℕ, Bool, true, false, List, [], ◌∷◌, ◌++◌, Option, Some, None, refl, sym, ap, ◌∙◌, subst, append_assoc, append-nil, drop}
 use Rattle.mls_lines.specs.Names.{Names}
-use Rattle.mls_feeds.specs.Feeds.{Exchange, Turn, in_turns, asks_of, answers_of, GaveAhead, Heard, Fed}
+use Rattle.mls_monitor.specs.Feeds.{Exchange, Turn, in_turns, asks_of, answers_of, GaveAhead, Heard, Fed}
 use Rattle.mls_scripts.specs.Feed.{ScriptFeed, GoesOn, first_of, first_binds, left_to_bind}
 use Rattle.mls_scripts.specs.Fed.{Gives, GivesAhead, Takes, Prints}
 use Rattle.mls_scripts.specs.Halves.{next_of, heard, heard_by, vars_told}

@@ -1,9 +1,6 @@
 -- What a writer took of a text.
 use Rattle.std.proofs.Common.{◌≡◌, ℕ, ◌-◌, ◌≤◌, arith, List, [], ◌∷◌, ◌++◌, Option, Result, Ok, Err, length, take, drop, sym, ap, ◌∙◌, subst, append_assoc, take-append-drop}
 use Rattle.std.proofs.lemmas.Slice.{between_to_end}
-use Rattle.mls_requests.specs.declared.reason.Reason.{Reason}
-use Rattle.mls_requests.specs.declared.reason.Reason.TheVariants.{Discretionary, Simple, Star, Integrity, Authority, Compatibility, Ceiling, Root, Full}
-use Rattle.mls_requests.specs.ReasonWords.{reason_word}
 use Rattle.mls_lines.specs.declared.fault.LineFault.{LineFault}
 use Rattle.mls_lines.specs.declared.fault.LineFault.TheVariants.{BadForm, UnknownName, BadLabel}
 use Rattle.mls_lines.specs.Fault.{fault_text}
@@ -20,19 +17,7 @@ pub taken_more : (text written rest : List ℕ) (n : ℕ) → text ≡ written +
 taken_more text written rest n whole =
     whole ∙ ap (λ r. written ++ r) (sym (ap (λ d. take n rest ++ d) (between_to_end rest n (length rest) (omega arith)) ∙ take-append-drop n rest)) ∙ sym (append_assoc written (take n rest) _)
 
--- every reason's word has room in a line
-pub reason_fits : (r : Reason) → length (reason_word r) ≤ 40
-reason_fits Discretionary = omega arith
-reason_fits Simple = omega arith
-reason_fits Star = omega arith
-reason_fits Integrity = omega arith
-reason_fits Authority = omega arith
-reason_fits Compatibility = omega arith
-reason_fits Ceiling = omega arith
-reason_fits Root = omega arith
-reason_fits Full = omega arith
-
--- every fault's text has
+-- every fault's text has room in a line
 pub fault_fits : (f : LineFault) → length (fault_text f) ≤ 40
 fault_fits BadForm = omega arith
 fault_fits UnknownName = omega arith

@@ -2,8 +2,8 @@
 use Rattle.std.specs.Prelude.{◌≡◌, ℕ, true, false, List, [], ◌∷◌, ◌++◌, Option, Some, None}
 use Rattle.mls_requests.specs.declared.ask.Ask.{Ask}
 use Rattle.mls_lines.specs.Names.{Names}
-use Rattle.mls_feeds.specs.Feeds.{Exchange}
-use Rattle.mls_feeds.specs.declared.feed.Answer.{Answer as Told}
+use Rattle.mls_monitor.specs.Feeds.{Exchange}
+use Rattle.mls_monitor.specs.declared.feed.Answer.{Answer as Told}
 use Rattle.mls_scripts.specs.Feed.{ScriptFeed, GoesOn, GoesAhead, Hears}
 use Rattle.mls_scripts.specs.Halves.{next_of, heard_by, vars_told}
 use Rattle.mls_scripts.specs.Script.{answer_bytes}

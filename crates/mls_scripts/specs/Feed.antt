@@ -4,10 +4,10 @@ use Rattle.std.specs.Coded.{Coded, code_by, coded×, coded_ℕ, coded_bool, code
 use Rattle.mls_requests.specs.declared.ask.Ask.{Ask}
 use Rattle.mls_requests.specs.contracts.ask.Ask as ask
 use Rattle.mls_lines.specs.Names.{Names, names_code}
-use Rattle.mls_feeds.specs.declared.feed.Answer.{Answer as Told}
-use Rattle.mls_feeds.specs.declared.feed.Stage.{Stage}
-use Rattle.mls_feeds.specs.declared.feed.Stage.TheVariants.{Done}
-use Rattle.mls_feeds.specs.contracts.feed.Stage as stage
+use Rattle.mls_monitor.specs.declared.feed.Answer.{Answer as Told}
+use Rattle.mls_monitor.specs.declared.feed.Stage.{Stage}
+use Rattle.mls_monitor.specs.declared.feed.Stage.TheVariants.{Done}
+use Rattle.mls_monitor.specs.contracts.feed.Stage as stage
 use Rattle.mls_scripts.specs.Lines.{lines_of}
 use Rattle.mls_scripts.specs.Script.{answer_bytes}
 use Rattle.mls_scripts.specs.Halves.{Asking, next_of, heard, vars_told}

@@ -8,8 +8,8 @@ use Rattle.mls_lines.specs.declared.fault.LineFault.{LineFault}
 use Rattle.mls_lines.specs.Names.{Names}
 use Rattle.mls_lines.specs.LineView.{LineView, Blank, Asks}
 use Rattle.mls_lines.specs.ScriptLine.{line_of}
-use Rattle.mls_feeds.specs.declared.feed.Answer.{Answer as Told}
-use Rattle.mls_feeds.specs.declared.feed.Answer.TheVariants as told
+use Rattle.mls_monitor.specs.declared.feed.Answer.{Answer as Told}
+use Rattle.mls_monitor.specs.declared.feed.Answer.TheVariants as told
 use Rattle.mls_scripts.specs.declared.answer.Answer.{Answer}
 use Rattle.mls_scripts.specs.declared.answer.Answer.TheVariants.{Nothing, Fault, Held, Replied}
 use Rattle.mls_scripts.specs.Script.{Standing, state_at, entry_for, answer_bytes, vars_after, left_by, answers}

@@ -1,6 +1,6 @@
 //! A script that is fed: it gives what it asks, one after the other, and is told the answers.
 ghost use Rattle.std.specs.Prelude.{◌≡◌, ◌<◌, ◌≤◌, ◌++◌, [], false, length, option_to_list, IfSome, IfNone, IfOk, OnOk};
-ghost use Rattle.mls_feeds.specs.declared.feed.Stage.TheVariants as stage;
+ghost use Rattle.mls_monitor.specs.declared.feed.Stage.TheVariants as stage;
 ghost use Rattle.mls_scripts.specs.Lines.{lines_of};
 ghost use Rattle.mls_scripts.specs.Halves.{next_of};
 ghost use Rattle.mls_scripts.specs.Feed.{asking_of, ended};
@@ -9,8 +9,8 @@ mod giving;
 
 use crate::halves::make_room;
 use crate::looking::{enqueue, go_over};
-use mls_feeds::Stage;
 use mls_lines::{Names, Vars};
+use mls_monitor::Stage;
 use mls_requests::Ask;
 use std::alloc::{AllocError, Global};
 use std::collections::VecDeque;
@@ -38,7 +38,7 @@ pub struct ScriptFeed<'a> {
 
 impl<'a> Model for ScriptFeed<'a> {
     ghost use Rattle.std.specs.Prelude.{◌≡◌, ◌≢◌, ◌<◌, [], option_map, string_bytes, IfSome};
-    ghost use Rattle.mls_feeds.specs.declared.feed.Stage.TheVariants.{Waiting};
+    ghost use Rattle.mls_monitor.specs.declared.feed.Stage.TheVariants.{Waiting};
     ghost use Rattle.mls_scripts.specs.Feed.{ScriptFeed, feed_code};
 
     ghost Value = { ScriptFeed };

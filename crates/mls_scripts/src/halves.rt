@@ -5,8 +5,8 @@ ghost use Rattle.mls_scripts.specs.Halves.{heard, vars_told};
 
 use crate::answer::Answer;
 use crate::output::write_answer;
-use mls_feeds::Answer as Told;
 use mls_lines::Vars;
+use mls_monitor::Answer as Told;
 use mls_requests::{Ask, Reply};
 use std::alloc::{AllocError, Allocator};
 

@@ -75,7 +75,7 @@ fn write_pair<W: Write>(writer: &mut W, first: &str, second: &str) -> Result<(),
 ///
 /// # Errors
 /// `Write` where the writer failed.
-#[tactic(auto, using(crate::proofs::Texts::reason_fits))]
+#[tactic(auto, using(mls_requests::proofs::WordLengths::reason_fits))]
 fn write_reply<W: Write>(writer: &mut W, reply: Reply) -> Result<(), ServeFault>
     ensures { Writes (W.contents writer.old) (W.contents writer.new) (reply_text reply ++ 10 ∷ []) result }
 {

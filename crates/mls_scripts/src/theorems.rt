@@ -6,8 +6,8 @@ ghost use Rattle.mls_lines.specs.Names.{Names};
 ghost use Rattle.mls_scripts.specs.Script.{Standing, answers, after_lines};
 ghost use Rattle.mls_scripts.specs.Halves.{Asking, next_of, ByHalves};
 ghost use Rattle.mls_scripts.specs.Fed.{Prints};
-ghost use Rattle.mls_feeds.specs.Entries.{of_session};
-ghost use Rattle.mls_feeds.specs.Feeds.{Exchange, AreTold};
+ghost use Rattle.mls_monitor.specs.Entries.{of_session};
+ghost use Rattle.mls_monitor.specs.Feeds.{Exchange, AreTold};
 
 /// What `serve` answers to a script, and where the script then stands, is what the halves of its steps make, with the
 /// monitor's own step between them. So a script that is fed alone, and told what the monitor answers, has the answers

@@ -10,11 +10,11 @@ use Rattle.mls_requests.specs.declared.entry.Entry.{Entry}
 use Rattle.mls_requests.specs.declared.request.Request.{Request}
 use Rattle.mls_monitor.specs.Journal.{fold}
 use Rattle.mls_sessions.specs.Journals.{Journal, journal, Appends}
-use Rattle.mls_feeds.specs.Entries.{of_session}
+use Rattle.mls_monitor.specs.Entries.{of_session}
 use Rattle.mls_sessions.specs.Feeds.{Gets, GetsMore, AllGet}
-use Rattle.mls_feeds.specs.Feeds.{Exchange, IsTold, AreTold}
-use Rattle.mls_feeds.specs.declared.feed.Answer.{Answer as Told}
-use Rattle.mls_feeds.specs.declared.feed.Answer.TheVariants as told
+use Rattle.mls_monitor.specs.Feeds.{Exchange, IsTold, AreTold}
+use Rattle.mls_monitor.specs.declared.feed.Answer.{Answer as Told}
+use Rattle.mls_monitor.specs.declared.feed.Answer.TheVariants as told
 use Rattle.mls_sessions.proofs.OwnEntries.{own-append, all-append}
 
 -- exchanges, one after the other

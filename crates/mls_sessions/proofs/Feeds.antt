@@ -7,16 +7,16 @@ use Rattle.mls_state.specs.State.{State}
 use Rattle.mls_requests.specs.declared.ask.Ask.{Ask}
 use Rattle.mls_requests.specs.declared.entry.Entry.{Entry}
 use Rattle.mls_sessions.specs.Journals.{Journal}
-use Rattle.mls_feeds.specs.Entries.{of_session}
+use Rattle.mls_monitor.specs.Entries.{of_session}
 use Rattle.mls_sessions.specs.Rule.{begun, base, news, member}
 use Rattle.mls_sessions.specs.Sessions.{Office, Session, session_at, IsOf, HasAll, newcomers, history, own, member_of, number_of}
 use Rattle.mls_sessions.specs.declared.gate_table.View.TheVariants.{Sessions}
 use Rattle.mls_sessions.specs.Runs.{Returned}
 use Rattle.mls_sessions.specs.Feeds.{Learns, Tells, Halts, TakesTurn, BreaksOff, FeedEnds, Serves, Row, NoWorse, IsWorst, AllNoWorse, AllServe, AllServed, AllTold}
-use Rattle.mls_feeds.specs.Feeds.{Exchange, Turn, asks_of, answers_of, in_turns, AreTold, GaveAhead, Heard, Halted, Gave, Talks, AllFed}
+use Rattle.mls_monitor.specs.Feeds.{Exchange, Turn, asks_of, answers_of, in_turns, AreTold, GaveAhead, Heard, Halted, Gave, Talks, AllFed}
 use Rattle.mls_sessions.specs.declared.asked.Asked.{Asked}
 use Rattle.mls_sessions.specs.declared.asked.Asked.TheVariants.{ToTheEnd, UntilRefused, NotAtAll}
-use Rattle.mls_feeds.specs.declared.feed.Answer.{Answer as Told}
+use Rattle.mls_monitor.specs.declared.feed.Answer.{Answer as Told}
 use Rattle.mls_sessions.proofs.OwnEntries.{own-append}
 use Rattle.mls_sessions.proofs.Exchanges.{told_then, told_longer}
 use Rattle.mls_sessions.proofs.Learnt.{history_is}

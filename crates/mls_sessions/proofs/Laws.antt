@@ -5,4 +5,4 @@ pub use Rattle.mls_sessions.proofs.SeatsKeep.{ascending_last, at_most}
 -- a session at its place is of the office, and another with its number may stand there
 pub use Rattle.mls_sessions.proofs.Lists.{ascending_read, ascending_put}
 -- a list of feeds at a stage, with one more
-pub use Rattle.mls_feeds.proofs.Laws.{at_snoc}
+pub use Rattle.mls_monitor.proofs.FeedLists.{at_snoc}

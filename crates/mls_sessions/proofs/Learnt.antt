@@ -7,11 +7,11 @@ use Rattle.mls_requests.specs.declared.ask.Ask.TheVariants.{Submit, Check}
 use Rattle.mls_requests.specs.declared.entry.Entry.{Entry}
 use Rattle.mls_requests.specs.declared.request.Request.{Request}
 use Rattle.mls_monitor.specs.Journal.{fold}
-use Rattle.mls_feeds.specs.Entries.{of_session}
+use Rattle.mls_monitor.specs.Entries.{of_session}
 use Rattle.mls_sessions.specs.Rule.{begun, base}
 use Rattle.mls_sessions.specs.Sessions.{Office, Session, IsOf, Submits, Sees, history, own, member_of, number_of}
 use Rattle.mls_sessions.specs.Feeds.{Learns}
-use Rattle.mls_feeds.specs.declared.feed.Answer.TheVariants as told
+use Rattle.mls_monitor.specs.declared.feed.Answer.TheVariants as told
 use Rattle.mls_sessions.proofs.OwnEntries.{own-append, own-same}
 
 snoc_alone : {A : Type 0} (xs : List A) (a : A) → xs ++ a ∷ [] ≡ a ∷ [] → xs ≡ []

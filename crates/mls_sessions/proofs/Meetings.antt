@@ -13,7 +13,7 @@ use Rattle.mls_sessions.specs.declared.gate_table.Member.{Member}
 use Rattle.mls_sessions.specs.declared.gate_table.View.{View}
 use Rattle.mls_sessions.specs.declared.gate_table.View.TheVariants.{Spent, Sessions}
 use Rattle.mls_sessions.specs.Journals.{Charter}
-use Rattle.mls_feeds.specs.Entries.{of_session}
+use Rattle.mls_monitor.specs.Entries.{of_session}
 use Rattle.mls_sessions.specs.Rule.{member, Gated}
 use Rattle.mls_sessions.specs.Steps.{Seat, longer, Agree, looked, both_of}
 use Rattle.mls_sessions.specs.Sessions.{seated}

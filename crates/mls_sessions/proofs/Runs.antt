@@ -6,12 +6,12 @@ use Rattle.mls_requests.specs.declared.entry.Entry.{Entry}
 use Rattle.mls_state.specs.State.{State}
 use Rattle.mls_monitor.specs.Journal.{Monitor}
 use Rattle.mls_sessions.specs.Journals.{journal_of}
-use Rattle.mls_feeds.specs.Entries.{AllBelow}
+use Rattle.mls_monitor.specs.Entries.{AllBelow}
 use Rattle.mls_sessions.specs.Rule.{begun, base}
 use Rattle.mls_sessions.specs.Sessions.{Office, Session, IsOf, Ascending, Leaves, number_of}
 use Rattle.mls_sessions.specs.Runs.{Returned, Grew}
-use Rattle.mls_feeds.specs.Feeds.{AllAt}
-use Rattle.mls_feeds.specs.declared.feed.Stage.{Stage}
+use Rattle.mls_monitor.specs.Feeds.{AllAt}
+use Rattle.mls_monitor.specs.declared.feed.Stage.{Stage}
 
 pub returned_snoc : (o : Office) (ss ts : List Session) (s t : Session) → Returned o ss ts → IsOf o t → number_of t.view ≡ number_of s.view → Returned o (ss ++ s ∷ []) (ts ++ t ∷ [])
 returned_snoc o [] [] s t r is same = (is, same, tt)

@@ -12,14 +12,14 @@ use Rattle.atomic_table.specs.Table.{State, Act, step, keeps, takes, gives, open
 use Rattle.atomic_table.proofs.Lists.{at_set, set_again, set_here}
 use Rattle.mls_requests.specs.declared.entry.Entry.{Entry}
 use Rattle.mls_sessions.specs.Journals.{Stands, Journal, journal, Charter}
-use Rattle.mls_feeds.specs.Entries.{of_session, AllBelow}
+use Rattle.mls_monitor.specs.Entries.{of_session, AllBelow}
 use Rattle.mls_sessions.specs.Rule.{member, word_of, Names, base, present, IsMember, Fits, IsUnused, Knows, Running, IsEmpty, IsFilling, Gated, news, begun}
 use Rattle.mls_sessions.specs.Steps.{Seat, filled, settled, Taken, won, kept_view, kept, marked, updated_view, updated}
 use Rattle.mls_sessions.specs.declared.gate_table.Member.{Member}
 use Rattle.mls_sessions.specs.declared.gate_table.View.{View}
 use Rattle.mls_sessions.specs.declared.gate_table.View.TheVariants.{Spent, Starting, Filling, Giving, Sessions, Holding}
 use Rattle.mls_sessions.specs.Sessions.{member_of, taken_of, seated}
-use Rattle.mls_feeds.specs.Entries.{AllOf}
+use Rattle.mls_monitor.specs.Entries.{AllOf}
 use Rattle.mls_sessions.proofs.OwnEntries.{own-append, below-append, prefix_refl, prefix_more, own-none, below-all}
 
 -- a word that names a session isn't free

@@ -4,9 +4,9 @@ use Rattle.mls_state.specs.State.{State}
 use Rattle.mls_requests.specs.declared.ask.Ask.{Ask}
 use Rattle.mls_requests.specs.declared.entry.Entry.{Entry}
 use Rattle.mls_sessions.specs.Journals.{Charter, Journal, journal}
-use Rattle.mls_feeds.specs.Entries.{AllOf}
-use Rattle.mls_feeds.specs.Feeds.{Exchange, asks_of, answers_of, IsTold, AreTold, Turn, in_turns, Heard, Halted, Gave}
-use Rattle.mls_feeds.specs.Feeds.{Talks, Fed}
+use Rattle.mls_monitor.specs.Entries.{AllOf}
+use Rattle.mls_monitor.specs.Feeds.{Exchange, asks_of, answers_of, IsTold, AreTold, Turn, in_turns, Heard, Halted, Gave}
+use Rattle.mls_monitor.specs.Feeds.{Talks, Fed}
 use Rattle.mls_sessions.specs.Rule.{begun}
 use Rattle.mls_sessions.specs.Sessions.{Office, Session, history, number_of}
 use Rattle.mls_sessions.specs.declared.gate_table.View.{View}
@@ -16,7 +16,7 @@ use Rattle.mls_sessions.specs.declared.run_fault.RunFaultKind.{RunFaultKind}
 use Rattle.mls_sessions.specs.declared.run_fault.RunFaultKind.TheVariants.{BadCount, Memory, Thread}
 use Rattle.mls_sessions.specs.declared.given.Given.{Given}
 use Rattle.mls_sessions.specs.declared.given.Given.TheVariants.{Nothing, One, Several}
-use Rattle.mls_feeds.specs.declared.feed.Answer.{Answer as Told}
+use Rattle.mls_monitor.specs.declared.feed.Answer.{Answer as Told}
 
 -- A monitor was asked this for session k and answered that: its journal got what it answers by, and no entry of another
 -- session. (own)

@@ -9,7 +9,7 @@ use Rattle.atomic_table.specs.Table.{State as TableState}
 use Rattle.mls_state.specs.State.{State}
 use Rattle.mls_requests.specs.declared.entry.Entry.{Entry}
 use Rattle.mls_sessions.specs.Journals.{Journal, journal, Charter, Stands}
-use Rattle.mls_feeds.specs.Entries.{of_session, AllBelow}
+use Rattle.mls_monitor.specs.Entries.{of_session, AllBelow}
 use Rattle.mls_sessions.specs.declared.gate_table.Member.{Member}
 use Rattle.mls_sessions.specs.declared.gate_table.View.{View}
 use Rattle.mls_sessions.specs.declared.gate_table.View.TheVariants.{Spent, Starting, Filling, Giving, Sessions, Holding}

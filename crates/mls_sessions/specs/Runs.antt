@@ -4,7 +4,7 @@ use mathlib.Core.List.{IsPrefix}
 use Rattle.mls_state.specs.State.{State}
 use Rattle.mls_requests.specs.declared.entry.Entry.{Entry}
 use Rattle.mls_monitor.specs.Journal.{Monitor}
-use Rattle.mls_feeds.specs.Entries.{AllBelow}
+use Rattle.mls_monitor.specs.Entries.{AllBelow}
 use Rattle.mls_sessions.specs.Sessions.{Office, Session, IsOf, number_of}
 
 -- The same sessions, number by number, each of the office. (own)

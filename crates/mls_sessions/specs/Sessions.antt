@@ -7,7 +7,7 @@ use Rattle.atomic_table.specs.Seated.{TableId, table_id_coded}
 use Rattle.mls_requests.specs.declared.entry.Entry.{Entry}
 use Rattle.mls_requests.specs.declared.request.Request.{Request}
 use Rattle.mls_sessions.specs.Journals.{Journal, Charter, charter_code, Stands}
-use Rattle.mls_feeds.specs.Entries.{of_session, AllBelow}
+use Rattle.mls_monitor.specs.Entries.{of_session, AllBelow}
 use Rattle.mls_sessions.specs.Rule.{begun, base, present, news, member}
 use Rattle.mls_sessions.specs.Steps.{Seat}
 use Rattle.mls_sessions.specs.declared.gate_table.Member.{Member}

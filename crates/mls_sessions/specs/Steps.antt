@@ -5,7 +5,7 @@ use mathlib.Core.List.{IsPrefix}
 use Rattle.atomic_table.specs.Table.{Me, Step}
 use Rattle.mls_requests.specs.declared.entry.Entry.{Entry}
 use Rattle.mls_sessions.specs.Journals.{Journal, Charter}
-use Rattle.mls_feeds.specs.Entries.{of_session}
+use Rattle.mls_monitor.specs.Entries.{of_session}
 use Rattle.mls_sessions.specs.Rule.{member, present, news}
 use Rattle.mls_sessions.specs.declared.gate_table.Member.{Member}
 use Rattle.mls_sessions.specs.declared.gate_table.View.{View}

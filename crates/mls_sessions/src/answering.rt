@@ -3,7 +3,7 @@ ghost use Rattle.std.specs.Prelude.{◌≡◌, ◌<◌, ◌≤◌, ◌+◌, [], 
 ghost use Rattle.mls_sessions.specs.Feeds.{GetsMore, AllGet};
 
 use crate::boxed_monitor::BoxedMonitor;
-use mls_feeds::Answer;
+use mls_monitor::Answer;
 use mls_requests::Ask;
 use std::alloc::AllocError;
 

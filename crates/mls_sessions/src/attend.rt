@@ -8,7 +8,7 @@ use crate::exchange::take_turn;
 use crate::limits::AHEAD;
 use crate::office::Office;
 use crate::session::Session;
-use mls_feeds::{Answer, Feed, Stage};
+use mls_monitor::{Answer, Feed, Stage};
 use mls_requests::Ask;
 use std::alloc::Global;
 use std::snapshot::Snapshot;
@@ -83,7 +83,7 @@ pub struct Back<'a, F>(pub &'a Office, pub Snapshot<Session>, pub Snapshot<F>);
 
 impl<'a, F: Feed> Promise<(Session, F, Asked)> for Back<'a, F> {
     ghost use Rattle.mls_sessions.specs.declared.asked.Asked.TheVariants.{ToTheEnd};
-    ghost use Rattle.mls_feeds.specs.declared.feed.Stage.TheVariants.{Done};
+    ghost use Rattle.mls_monitor.specs.declared.feed.Stage.TheVariants.{Done};
 
     ghost kept_by = { λ p r. IsOf p.0.now r.0 × (number_of r.0.view ≡ number_of p.1.value.view)
         × (r.2 ≡ ToTheEnd → F.stands_at r.1 ≡ Done)

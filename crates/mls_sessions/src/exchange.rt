@@ -8,7 +8,7 @@ use crate::given::Given;
 use crate::limits::AHEAD;
 use crate::office::Office;
 use crate::session::Session;
-use mls_feeds::{Answer, Feed, Stage};
+use mls_monitor::{Answer, Feed, Stage};
 use mls_requests::Ask;
 use std::alloc::AllocError;
 use std::sync::Wait;

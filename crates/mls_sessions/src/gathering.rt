@@ -1,11 +1,11 @@
 //! What a feed asks in one turn at the gate, and what it is told after it.
 ghost use Rattle.std.specs.Prelude.{◌≡◌, ◌≢◌, ◌<◌, ◌≤◌, length, None, vec_len, vec_capacity};
 ghost use Rattle.mls_sessions.specs.Feeds.{asks_given};
-ghost use Rattle.mls_feeds.specs.Feeds.{Gave, Heard, Halted};
+ghost use Rattle.mls_monitor.specs.Feeds.{Gave, Heard, Halted};
 
 use crate::given::Given;
 use crate::limits::AHEAD;
-use mls_feeds::{Answer, Feed, Stage};
+use mls_monitor::{Answer, Feed, Stage};
 use mls_requests::Ask;
 
 /// What the feed asks next, and what it asks ahead, as long as there is room. One ask alone isn't put into the list.

@@ -31,7 +31,7 @@ mod try_fault;
 mod turn;
 
 pub use limits::MAX_SESSIONS;
-pub use mls_feeds::{Answer, Feed, Stage};
+pub use mls_monitor::{Answer, Feed, Stage};
 pub use office::Office;
 pub use office_fault::{CloseFault, OfficeFault, OfficeFaultKind};
 pub use run::run_sessions;

@@ -1,13 +1,13 @@
 //! The lists of sessions and feeds that go out to threads and come back.
 ghost use Rattle.std.specs.Prelude.{◌≡◌, ◌+◌, ◌<◌, ◌≤◌, ◌∷◌, ◌++◌, [], vec_len, vec_capacity, IfSome, IfNone};
 ghost use Rattle.mls_sessions.specs.Sessions.{IsOf, Ascending};
-ghost use Rattle.mls_feeds.specs.Feeds.{AllAt};
+ghost use Rattle.mls_monitor.specs.Feeds.{AllAt};
 ghost use Rattle.mls_sessions.specs.Feeds.{IsWorst};
 
 use crate::asked::Asked;
 use crate::office::Office;
 use crate::session::Session;
-use mls_feeds::{Feed, Stage};
+use mls_monitor::{Feed, Stage};
 
 /// Puts one more behind those that came back.
 #[tactic(auto, using(crate::proofs::Laws::at_snoc))]

@@ -5,13 +5,13 @@ use Rattle.std.specs.declared.alloc.AllocError.{AllocError}
 use Rattle.mls_labels.specs.declared.limits.TheConstants.{MAX_LEVELS, MAX_CATEGORIES}
 use Rattle.mls_labels.specs.Scheme.{Scheme, IsScheme, bounds_of}
 use Rattle.mls_lines.specs.Names.{Names}
-use Rattle.mls_starts.specs.Says.{SaysStart}
-use Rattle.mls_starts.specs.Ties.{AreTied, Loaded}
+use Rattle.mls_start_file.specs.Says.{SaysStart}
+use Rattle.mls_start_file.specs.Ties.{AreTied, Loaded}
 use Rattle.mls_state.specs.State.{State, is_active}
-use Rattle.mls_outcomes.specs.declared.command.CommandFault.TheVariants as refused
-use Rattle.mls_replays.specs.Replays.{Replayed, ReplaysAt, RefusesAt}
-use Rattle.mls_replays.specs.declared.question_fault.QuestionFault.{QuestionFault}
-use Rattle.mls_replays.specs.declared.question_fault.QuestionFault.TheVariants.{Files}
+use Rattle.mls_replay.specs.declared.command.CommandFault.TheVariants as refused
+use Rattle.mls_replay.specs.Replays.{Replayed, ReplaysAt, RefusesAt}
+use Rattle.mls_replay.specs.declared.question_fault.QuestionFault.{QuestionFault}
+use Rattle.mls_replay.specs.declared.question_fault.QuestionFault.TheVariants.{Files}
 use Rattle.mls_snapshots.specs.Orders.{IsOrder}
 use Rattle.mls_snapshots.specs.Renaming.{AreRenamed, IsFirstFree, IsNameOf, IsNamed}
 use Rattle.mls_snapshots.specs.Renumbering.{IsSameBy}

@@ -3,4 +3,3 @@ pub mod Renaming
 pub mod Renumbering
 pub mod Schemes
 pub mod Snapshots
-pub mod Tables

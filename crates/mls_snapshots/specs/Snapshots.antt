@@ -1,11 +1,11 @@
 -- When a text is a start file that opens with a state, up to numbers of objects.
 use Rattle.std.specs.Prelude.{◌≡◌, ◌<◌, ℕ, List, length, Option}
-use Rattle.mls_checks.specs.declared.checking.TheConstants.{START_LIMIT}
-use Rattle.mls_outcomes.specs.declared.command.CommandFault.TheVariants.{Memory}
-use Rattle.mls_replays.specs.Replays.{Replayed, ReplaysAt, RefusesAt}
-use Rattle.mls_replays.specs.declared.question_fault.QuestionFault.TheVariants.{Files}
-use Rattle.mls_starts.specs.Says.{SaysStart}
-use Rattle.mls_starts.specs.Ties.{Loaded}
+use Rattle.mls_replay.specs.declared.checking.TheConstants.{START_LIMIT}
+use Rattle.mls_replay.specs.declared.command.CommandFault.TheVariants.{Memory}
+use Rattle.mls_replay.specs.Replays.{Replayed, ReplaysAt, RefusesAt}
+use Rattle.mls_replay.specs.declared.question_fault.QuestionFault.TheVariants.{Files}
+use Rattle.mls_start_file.specs.Says.{SaysStart}
+use Rattle.mls_start_file.specs.Ties.{Loaded}
 use Rattle.mls_snapshots.specs.Orders.{IsOrder}
 use Rattle.mls_snapshots.specs.Renaming.{AreRenamed}
 use Rattle.mls_snapshots.specs.Renumbering.{IsSameBy}

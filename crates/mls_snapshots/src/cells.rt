@@ -4,10 +4,9 @@ ghost use Rattle.std.specs.FinSet as set;
 ghost use Rattle.mls_state.specs.State.{is_active};
 ghost use Rattle.mls_tables.specs.declared.mode.Mode.{Mode as ModeName};
 ghost use Rattle.mls_snapshots.specs.Renumbering.{IsCarriedOver};
-ghost use Rattle.mls_snapshots.specs.Tables.{triples_of};
+ghost use Rattle.mls_state.specs.Tables.{triples_of};
 
-use crate::tables::{Table, modes};
-use mls_rules::State;
+use mls_state::{State, Table};
 use mls_tables::{Mode, Modes, ObjectId, SubjectId};
 
 /// Whether two sets of modes are the same.
@@ -32,7 +31,7 @@ fn is_same_cell(
     ensures { IsTrue result → (x : ModeName) → set.contains (triples_of table other.now) (s, k, x)
         ≡ set.contains (triples_of table state.now) (s, o, x) }
 {
-    are_same(modes(other, table, s, k), modes(state, table, s, o))
+    are_same(table.modes(other, s, k), table.modes(state, s, o))
 }
 
 /// Whether a subject has the same modes with each object of an order and with its place.

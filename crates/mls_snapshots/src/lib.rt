@@ -12,7 +12,6 @@ mod snapshot_fault;
 mod snapshots;
 mod start_text;
 mod subjects;
-mod tables;
 mod text_lists;
 
 pub use snapshot_fault::SnapshotFault;

@@ -10,10 +10,9 @@ use crate::names::are_renamed;
 use crate::objects::are_renumbered;
 use crate::order::is_order;
 use crate::subjects::has_same_subjects;
-use crate::tables::Table;
 use mls_lines::Names;
-use mls_rules::State;
-use mls_starts::Loaded;
+use mls_start_file::Loaded;
+use mls_state::{State, Table};
 use mls_tables::ObjectId;
 use std::alloc::{AllocError, Global};
 

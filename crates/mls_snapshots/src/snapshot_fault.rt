@@ -1,7 +1,6 @@
 //! Why there is no start file of a state.
 
-use mls_outcomes::CommandFault;
-use mls_replays::QuestionFault;
+use mls_replay::{CommandFault, QuestionFault};
 use std::alloc::AllocError;
 use thiserror::Error;
 
@@ -11,7 +10,7 @@ pub enum SnapshotFault {
     /// The files are refused, there is no such state, or an allocation failed.
     #[error("{0}")]
     Question(QuestionFault),
-    /// The start file would be longer than [`START_LIMIT`](mls_checks::START_LIMIT).
+    /// The start file would be longer than [`START_LIMIT`](mls_replay::START_LIMIT).
     #[error("the start file is too long")]
     TooLong,
     /// What was written doesn't open with the state. No state is known for which this happens.
@@ -32,8 +31,8 @@ impl From<QuestionFault> for SnapshotFault {
 
 impl From<AllocError> for SnapshotFault {
     ghost use Rattle.std.specs.Prelude.{◌≡◌};
-    ghost use Rattle.mls_outcomes.specs.declared.command.CommandFault.TheVariants.{Memory};
-    ghost use Rattle.mls_replays.specs.declared.question_fault.QuestionFault.TheVariants.{Files};
+    ghost use Rattle.mls_replay.specs.declared.command.CommandFault.TheVariants.{Memory};
+    ghost use Rattle.mls_replay.specs.declared.question_fault.QuestionFault.TheVariants.{Files};
     ghost use Rattle.mls_snapshots.specs.declared.snapshot_fault.SnapshotFault.TheVariants.{Question};
 
     ghost from_gives = { λ _ fault. fault ≡ Question (Files Memory) };

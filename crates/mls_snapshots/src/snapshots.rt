@@ -1,15 +1,14 @@
 //! The state that a journal leads to, as a start file.
 ghost use Rattle.std.specs.Prelude.{◌≡◌, ◌≤◌, IsTrue, IfOk, IfErr, OnOk, string_bytes, string_len};
 ghost use Rattle.mls_snapshots.specs.Snapshots.{IsSnapshotOf, SnapshotsAt, RefusesSnapshot, IsOwnFault};
-ghost use Rattle.mls_checks.specs.declared.checking.TheConstants.{START_LIMIT};
+ghost use Rattle.mls_replay.specs.declared.checking.TheConstants.{START_LIMIT};
 
 use crate::order::object_order;
 use crate::same::is_like;
 use crate::snapshot_fault::SnapshotFault;
 use crate::start_text::start_text;
-use mls_checks::START_LIMIT;
-use mls_replays::{Replay, replay_at};
-use mls_starts::{LoadFault, read_start};
+use mls_replay::{Replay, START_LIMIT, replay_at};
+use mls_start_file::{LoadFault, read_start};
 use mls_tables::ObjectId;
 use std::alloc::{AllocError, Global};
 
@@ -55,7 +54,7 @@ fn snapshot_of(alloc: Global, replay: &Replay) -> Result<String, SnapshotFault>
 }
 
 /// The state that a journal leads to from a start file, or the one before the entry of a number, as a start file that
-/// opens with it: of at most [`START_LIMIT`](mls_checks::START_LIMIT) bytes, with the same subjects and schemes. Its
+/// opens with it: of at most [`START_LIMIT`](mls_replay::START_LIMIT) bytes, with the same subjects and schemes. Its
 /// objects are numbered anew: parents before their children, and of those whose parents are named the one of the least
 /// number next. They have the names that the start has for their numbers; one without has `o` and its number, or where
 /// that is taken the next number whose name is free. What is written is read back and compared with the state before it

@@ -1,13 +1,11 @@
 //! The text of a start file that opens with a state. No clause says what is written: it is read back and compared.
 use crate::new_names::NewNames;
 use crate::schemes::{category_label, label_text, level_label};
-use crate::tables::{Table, modes};
 use crate::text_lists::{Rows, Words};
 use mls_labels::{MAX_CATEGORIES, MAX_LEVELS, Scheme};
 use mls_lines::Names;
 use mls_requests::mode_word;
-use mls_rules::State;
-use mls_state::{ObjectLabels, Subject};
+use mls_state::{ObjectLabels, State, Subject, Table};
 use mls_tables::{Mode, Modes, ObjectId, SubjectId};
 use mls_tree::Profile;
 use mls_wording::{push_integrity, push_security, push_subject};
@@ -214,7 +212,7 @@ fn push_row(
     s: SubjectId,
 ) -> Result<(), AllocError> {
     for o in order {
-        let modes = modes(state, table, s, *o);
+        let modes = table.modes(state, s, *o);
         if !modes.is_empty() {
             rows.begin_row(text)?;
             push_cell_members(text, naming, s, *o, modes)?;

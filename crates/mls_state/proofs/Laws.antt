@@ -6,3 +6,5 @@ pub use Rattle.mls_state.proofs.EachTriple.{Each-empty, Each-insert, Each-remove
 pub use Rattle.mls_state.proofs.AllTriples.{Each-from_all, all-from_Each, at-from_Each}
 -- the objects stay a tree
 pub use Rattle.mls_state.proofs.TreeKept.{grown_tree, delete_tree, relabel_tree}
+-- what tables have of subjects that aren't known and objects that aren't active: nothing
+pub use Rattle.mls_state.proofs.Unlisted.{unknown_subject, inactive_object}

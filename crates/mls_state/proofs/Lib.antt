@@ -11,3 +11,4 @@ mod Removing
 mod Replacing
 mod Tables
 mod TreeKept
+mod Unlisted

@@ -4,3 +4,4 @@ pub mod First
 pub mod Properties
 pub mod State
 pub mod StateView
+pub mod Tables

@@ -1,8 +1,7 @@
 //! A start file and a journal each single byte of which is changed.
 use crate::standard_file::STANDARD;
-use mls_checks::{check_start, replay_journal};
 use mls_journal::{next_entry, write_entry};
-use mls_outcomes::CommandFault;
+use mls_replay::{CommandFault, check_start, replay_journal};
 use std::alloc::{AllocError, Global};
 use std::process::Abort;
 use std::test::Fail;

@@ -1,8 +1,7 @@
 //! The lines of faults that no file has: a label of a file is within its bounds, and a cell names what is there.
-use mls_builder::StartFault;
-use mls_checks::write_fault;
-use mls_outcomes::{CommandFault, status};
-use mls_starts::LoadFault;
+use mls_replay::{CommandFault, status, write_fault};
+use mls_start::StartFault;
+use mls_start_file::LoadFault;
 use std::alloc::Global;
 
 /// Faults of a start in the file `s.json`, and their lines.

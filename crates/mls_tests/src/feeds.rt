@@ -1,11 +1,10 @@
 //! A script that is fed alone, and told what a monitor answers, has the answers that serving it writes.
 use crate::standard::standard_monitor;
-use mls_feeds::{Answer, Feed, Stage};
 use mls_lines::Names;
-use mls_monitor::Monitor;
+use mls_monitor::{Answer, Feed, Monitor, Stage};
 use mls_requests::Ask;
 use mls_scripts::{ScriptFeed, serve};
-use mls_starts::standard_start;
+use mls_start_file::standard_start;
 use std::alloc::{AllocError, Global};
 use std::process::Abort;
 

@@ -4,7 +4,7 @@ use mls_lines::Vars;
 use mls_monitor::Monitor;
 use mls_requests::{Reason, Reply};
 use mls_scripts::{Answer, Script};
-use mls_starts::standard_start;
+use mls_start_file::standard_start;
 use mls_tables::ObjectId;
 use refusing::Refusing;
 use std::alloc::{AllocError, Allocator, Global};

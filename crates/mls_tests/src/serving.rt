@@ -10,7 +10,7 @@ use failing::{reader_fails_in_turn, stuck_writer_leaves_what_was_read, writer_fa
 use mls_lines::Names;
 use mls_monitor::Entry;
 use mls_scripts::{ServeFault, serve};
-use mls_starts::standard_start;
+use mls_start_file::standard_start;
 use refusals::allocations_are_refused;
 use std::alloc::Global;
 use std::cell::Cell;

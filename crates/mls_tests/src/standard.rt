@@ -1,8 +1,8 @@
 //! The standard start, made in one place and lent to tests: a function that owns names or a monitor takes long to
 //! prove.
-use mls_builder::Start;
 use mls_monitor::Monitor;
-use mls_starts::{Loaded, standard_start};
+use mls_start::Start;
+use mls_start_file::{Loaded, standard_start};
 use std::alloc::{AllocError, Allocator};
 
 /// The start alone.

@@ -1,9 +1,9 @@
 //! The standard start and the standard file: each read of what they open with, beside the tables of the format.
 use crate::standard_file::STANDARD;
-use mls_builder::Start;
 use mls_labels::{Label, Scheme};
 use mls_lines::Names;
-use mls_starts::{LoadFault, Loaded, read_start, standard_start};
+use mls_start::Start;
+use mls_start_file::{LoadFault, Loaded, read_start, standard_start};
 use mls_state::{State, is_secure};
 use mls_tables::{Mode, Modes, ObjectId, SubjectId};
 use std::alloc::{Allocator, Global};

@@ -4,7 +4,7 @@ use crate::refusals::opening;
 use crate::seen::sees;
 use crate::standard::{CALLS_WITH_ACCESSES, begun, give};
 use crate::starts::counts;
-use mls_builder::{Start, StartBuilder, StartFault};
+use mls_start::{Start, StartBuilder, StartFault};
 use mls_state::State;
 use refusing::Refusing;
 use std::alloc::{AllocError, Allocator, Global};

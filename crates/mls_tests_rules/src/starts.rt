@@ -4,7 +4,7 @@ use crate::standard::{
     ANN, PLANS, SEC, begun, built, give_rows, integrity, security, started, started_with_accesses,
 };
 use crate::steps::{Step, look_all};
-use mls_builder::{Start, StartBuilder};
+use mls_start::{Start, StartBuilder};
 use mls_state::{State, is_secure};
 use mls_tables::{Mode, ObjectId, SubjectId};
 use std::alloc::{AllocError, Allocator, Global};

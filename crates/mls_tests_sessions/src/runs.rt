@@ -1,6 +1,6 @@
 //! Runs of feeds, in threads, and what they leave.
 ghost use Rattle.std.specs.Prelude.{◌≡◌, IfOk};
-ghost use Rattle.mls_feeds.specs.Feeds.{AllAt};
+ghost use Rattle.mls_monitor.specs.Feeds.{AllAt};
 
 use crate::asker::{Asker, Manner, asked};
 use crate::standard::standard_monitor;

@@ -1,9 +1,9 @@
 //! A monitor over the standard start, and what is asked of it.
-use mls_builder::Start;
 use mls_labels::{CatSet, Label, SecLabel};
 use mls_monitor::{Monitor, replay};
 use mls_requests::{Action, Entry, Reason, Reply, Request};
-use mls_starts::{Loaded, standard_start};
+use mls_start::Start;
+use mls_start_file::{Loaded, standard_start};
 use mls_tables::{Mode, ObjectId, SubjectId};
 use std::alloc::{AllocError, Global};
 

@@ -1,6 +1,6 @@
 //! Turns at a monitor, with work between them.
 ghost use Rattle.std.specs.Prelude.{◌≡◌, IfOk};
-ghost use Rattle.mls_feeds.specs.Feeds.{AllAt};
+ghost use Rattle.mls_monitor.specs.Feeds.{AllAt};
 
 use mls_monitor::Monitor;
 use mls_requests::{Action, Ask, Request};

@@ -1,12 +1,12 @@
 //! What a script that is fed gives, and what it makes of the answers.
 ghost use Rattle.std.specs.Prelude.{◌≡◌, ◌<◌, ◌≤◌, ◌+◌, true, length, None, IfSome, IfNone};
-ghost use Rattle.mls_feeds.specs.declared.feed.Stage.TheVariants as stage;
+ghost use Rattle.mls_monitor.specs.declared.feed.Stage.TheVariants as stage;
 ghost use Rattle.mls_scripts.specs.Fed.{Gives, GivesAhead, Takes};
 
 use crate::feed::ScriptFeed;
 use crate::halves::{bind_heard, hear, push_answer};
 use crate::looking::{Next, Seen, enqueue, is_full, look};
-use mls_feeds::{Answer as Told, Feed, Stage};
+use mls_monitor::{Answer as Told, Feed, Stage};
 use mls_requests::Ask;
 
 impl<'a> Feed for ScriptFeed<'a> {

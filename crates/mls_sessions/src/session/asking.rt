@@ -12,7 +12,7 @@ use crate::office::Office;
 use crate::session::Session;
 use crate::try_fault::{Busy, TryFault};
 use crate::turn::{inspect, record, record_all, wait};
-use mls_feeds::Answer;
+use mls_monitor::Answer;
 use mls_requests::{Ask, Entry, Request};
 use mls_tables::{Mode, ObjectId, SubjectId};
 use std::alloc::AllocError;

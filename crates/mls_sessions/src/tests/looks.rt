@@ -1,6 +1,6 @@
 //! Sessions that look at a held gate never, once or often before they nap or sleep: all threads come to their end.
 ghost use Rattle.std.specs.Prelude.{◌≡◌, length, vec_len, IfOk, IsTrue};
-ghost use Rattle.mls_feeds.specs.Feeds.{AllAt};
+ghost use Rattle.mls_monitor.specs.Feeds.{AllAt};
 ghost use Rattle.mls_sessions.specs.Sessions.{Ascending, newcomers};
 
 use crate::asked::Asked;
@@ -9,7 +9,7 @@ use crate::office::Office;
 use crate::run::run_open;
 use crate::session::Session;
 use crate::tests::small::{get_read, small_monitor};
-use mls_feeds::{Answer, Feed, Stage};
+use mls_monitor::{Answer, Feed, Stage};
 use mls_requests::Ask;
 use std::alloc::{AllocError, Global};
 use std::process::Abort;

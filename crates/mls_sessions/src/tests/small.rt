@@ -1,8 +1,8 @@
 //! A start that tests open a monitor over.
-use mls_builder::{Start, StartBuilder};
 use mls_labels::{Bounds, CatSet, IntLabel, Label, SecLabel};
 use mls_monitor::Monitor;
 use mls_requests::{Action, Request};
+use mls_start::{Start, StartBuilder};
 use mls_tables::{Mode, ObjectId, SubjectId};
 use std::alloc::{AllocError, Global};
 

@@ -2,8 +2,8 @@
 //! calls.
 use crate::seen::sees;
 use crate::standard::{integrity, security};
-use mls_builder::{StartBuilder, StartFault};
 use mls_labels::Bounds;
+use mls_start::{StartBuilder, StartFault};
 use mls_tables::{Mode, ObjectId, SubjectId};
 use std::alloc::{AllocError, Global};
 use std::process::Abort;

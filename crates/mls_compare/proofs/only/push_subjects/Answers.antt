@@ -2,7 +2,8 @@ use Rattle.std.proofs.Common.{◌≤◌, ◌++◌, ◌+◌, ◌∙◌, ap, lengt
 use Rattle.std.specs.List.{slice_get}
 use Rattle.std.proofs.lemmas.List.{take_all}
 use Rattle.mls_compare.specs.Differences.{only_at, only_lines}
-use Rattle.mls_compare.proofs.Growing.{grows, only_more}
+use Rattle.mls_facts.proofs.Gathered.{grows}
+use Rattle.mls_compare.proofs.Growing.{only_more}
 use Rattle.mls_compare.proofs.only.push_subjects.Goals as goal
 
 pub loop-n-preserved : goal.loop-n-preserved

@@ -9,7 +9,7 @@ returns-in_default-clause-attends g c = λ before is. (
   before,
   is,
   λ settled len.
-      attends_nothing c.args.names.now c.args.session (standing_of [] c.args.monitor.now) (Unit {0}) (g.R.Read.remaining c.args.reader.now) c.args.monitor.now.entries before refl c.entries.ensures.legal settled,
+      attends_nothing c.args.names.now c.args.protocol (standing_of [] c.args.monitor.now) (Unit {0}) (g.R.Read.remaining c.args.reader.now) c.args.monitor.now.entries before refl c.entries.ensures.legal settled,
 )
 
 pub returns-clause-attends : goal.returns-clause-attends
@@ -22,6 +22,6 @@ returns-clause-attends g c = λ before is.
       done.0,
       done.1,
       λ settled len.
-          attends_from c.args.names.now c.args.session first start (g.R.Read.remaining c.args.reader.now) (g.R.Read.remaining c.attend_pieces.new.reader) c.attend_pieces.new.monitor.entries before done.0 c.attend_pieces.result same
-          (done.2 (begins c.args.names.now c.args.session first start before p c.args.len same c.entries.ensures.legal settled refl c.new-2.ensures.bytes c.new-3.ensures.items len c.saturating_sub.ensures)),
+          attends_from c.args.names.now c.args.protocol first start (g.R.Read.remaining c.args.reader.now) (g.R.Read.remaining c.attend_pieces.new.reader) c.attend_pieces.new.monitor.entries before done.0 c.attend_pieces.result same
+          (done.2 (begins c.args.names.now c.args.protocol first start before p c.args.len same c.entries.ensures.legal settled refl c.new-2.ensures.bytes c.new-3.ensures.items len c.saturating_sub.ensures)),
     )

@@ -6,7 +6,7 @@ use Rattle.mls_durable.proofs.attending.attend_pieces.Given as goal
 
 abbrev pub invariant-loop : goal.invariant-loop
 invariant-loop g l = record {
-  taken : Taken l.script.names.now l.script.session (standing_of l.initial.client.batch.vars.bound l.initial.monitor)
+  taken : Taken l.names l.protocol (standing_of l.initial.client.batch.vars.bound l.initial.monitor)
       (pending (standing_of l.initial.client.batch.vars.bound l.initial.monitor) l.initial.client.batch)
       (g.R.Read.remaining l.initial.reader) (g.R.Read.remaining l.reader) (pending (standing_of l.client.batch.vars.bound l.monitor) l.client.batch) l.client.line.items
       (g.O.Outside.history l.initial.outside) (g.O.Outside.history l.outside);

@@ -1,7 +1,7 @@
 use Rattle.std.proofs.Common.{◌≡◌, ◌++◌, sym, ap, ◌∙◌, arith}
 use Rattle.std.specs.List.{flat_map, range_with_len}
 use Rattle.mls_explain.specs.Prospects.{permitted_modes}
-use Rattle.mls_explain.proofs.Cells.{range_flat_more}
+use Rattle.mls_facts.proofs.Gathered.{range_flat_more}
 use Rattle.mls_explain.proofs.Lists.{same_count}
 use Rattle.mls_explain.proofs.permitted.prospects.Goals as goal
 

@@ -1,7 +1,7 @@
 use Rattle.std.proofs.Common.{◌++◌, ◌∙◌, ap, string_bytes, arith}
 use Rattle.mls_places.proofs.Each.{one_more_seen}
 use Rattle.mls_places.specs.Accesses.{cell_accesses}
-use Rattle.mls_starts.specs.Views.{cell_view}
+use Rattle.mls_start_text.specs.Views.{cell_view}
 use Rattle.mls_places.proofs.accesses.push_cells.Goals as goal
 
 pub loop-row-preserved : goal.loop-row-preserved

@@ -1,7 +1,7 @@
 use Rattle.std.proofs.Common.{◌≡◌, ◌++◌, map, take, string_bytes}
 use Rattle.mls_places.specs.Accesses.{cell_accesses}
 use Rattle.mls_places.specs.Each.{at_each}
-use Rattle.mls_starts.specs.Views.{cell_view}
+use Rattle.mls_start_text.specs.Views.{cell_view}
 use Rattle.mls_places.proofs.accesses.push_cells.Given as goal
 
 -- the lines of what was looked at are written

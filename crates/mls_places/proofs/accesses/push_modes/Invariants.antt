@@ -1,7 +1,7 @@
 use Rattle.std.proofs.Common.{◌≡◌, ◌++◌, map, take, string_bytes}
 use Rattle.mls_places.specs.Accesses.{access_line}
 use Rattle.mls_places.specs.Each.{at_each}
-use Rattle.mls_starts.specs.Views.{text_view}
+use Rattle.mls_start_text.specs.Views.{text_view}
 use Rattle.mls_places.proofs.accesses.push_modes.Given as goal
 
 -- the lines of what was looked at are written

@@ -1,7 +1,7 @@
 use Rattle.std.proofs.Common.{◌≡◌, ◌++◌, map, take, string_bytes}
 use Rattle.mls_places.specs.Each.{at_each}
 use Rattle.mls_places.specs.Labels.{child_lines}
-use Rattle.mls_starts.specs.Views.{child_view}
+use Rattle.mls_start_text.specs.Views.{child_view}
 use Rattle.mls_places.proofs.labels.push_children.Given as goal
 
 -- the lines of what was looked at are written

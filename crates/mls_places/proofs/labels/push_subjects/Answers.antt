@@ -1,7 +1,7 @@
 use Rattle.std.proofs.Common.{arith}
 use Rattle.mls_places.proofs.Each.{one_more_seen}
 use Rattle.mls_places.specs.Labels.{subject_lines}
-use Rattle.mls_starts.specs.Views.{subject_view}
+use Rattle.mls_start_text.specs.Views.{subject_view}
 use Rattle.mls_places.proofs.labels.push_subjects.Goals as goal
 
 pub loop-n-preserved : goal.loop-n-preserved

@@ -1,7 +1,7 @@
 use Rattle.std.proofs.Common.{◌≡◌, ◌++◌, map, take, string_bytes}
 use Rattle.mls_places.specs.Each.{at_each}
 use Rattle.mls_places.specs.Labels.{subject_lines}
-use Rattle.mls_starts.specs.Views.{subject_view}
+use Rattle.mls_start_text.specs.Views.{subject_view}
 use Rattle.mls_places.proofs.labels.push_subjects.Given as goal
 
 -- the lines of what was looked at are written

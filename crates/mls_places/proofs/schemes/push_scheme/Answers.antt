@@ -1,7 +1,7 @@
 use Rattle.std.proofs.Common.{◌≡◌, [], ◌++◌, codes, map, length, string_bytes, subst, sym}
 use Rattle.std.specs.Prelude.{nat_lt, OnOk, if◌then◌else◌}
 use Rattle.mls_labels.specs.declared.limits.TheConstants.{MAX_LEVELS, MAX_CATEGORIES}
-use Rattle.mls_starts.specs.Views.{scheme_view}
+use Rattle.mls_start_text.specs.Views.{scheme_view}
 use Rattle.mls_places.specs.Naming.{count_line, scheme_lines}
 use Rattle.mls_places.proofs.schemes.push_scheme.Goals as goal
 

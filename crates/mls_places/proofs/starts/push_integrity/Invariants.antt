@@ -1,7 +1,7 @@
 use Rattle.std.proofs.Common.{◌≡◌, ◌++◌, take, string_bytes}
 use Rattle.mls_places.specs.Each.{at_each}
 use Rattle.mls_places.specs.Starts.{object_labels, integrity_line}
-use Rattle.mls_starts.specs.LabelViews.{labels_view}
+use Rattle.mls_start_text.specs.LabelViews.{labels_view}
 use Rattle.mls_places.proofs.starts.push_integrity.Given as goal
 
 -- the lines of what was looked at are written

@@ -1,7 +1,7 @@
 use Rattle.std.proofs.Common.{◌++◌, ◌∙◌, ap, string_bytes, ◌+◌, arith}
 use Rattle.mls_places.proofs.Each.{one_more}
 use Rattle.mls_places.specs.Starts.{object_labels, security_line}
-use Rattle.mls_starts.specs.LabelViews.{labels_view}
+use Rattle.mls_start_text.specs.LabelViews.{labels_view}
 use Rattle.mls_places.proofs.starts.push_security.Goals as goal
 
 pub loop-n-preserved : goal.loop-n-preserved

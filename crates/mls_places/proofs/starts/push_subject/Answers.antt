@@ -1,6 +1,6 @@
 use Rattle.std.proofs.Common.{◌≡◌, [], ◌++◌, string_bytes, subst}
 use Rattle.std.specs.Prelude.{OnOk, if◌then◌else◌}
-use Rattle.mls_builder.specs.StartFaults.{current_fits}
+use Rattle.mls_start.specs.StartFaults.{current_fits}
 use Rattle.mls_places.specs.Places.{line, place_view}
 use Rattle.mls_places.proofs.starts.push_subject.Goals as goal
 

@@ -2,7 +2,7 @@ use Rattle.std.proofs.Common.{◌≡◌, [], ◌++◌, string_bytes, subst}
 use Rattle.std.specs.Prelude.{OnOk, if◌then◌else◌}
 use Rattle.mls_facts.specs.Numbered.{holds_of}
 use Rattle.mls_labels.specs.Label.{dominates}
-use Rattle.mls_starts.specs.LabelViews.{labels_view}
+use Rattle.mls_start_text.specs.LabelViews.{labels_view}
 use Rattle.mls_places.specs.Starts.{object_labels, parent_labels}
 use Rattle.mls_places.specs.Places.{line, place_view}
 use Rattle.mls_places.proofs.starts.push_untrustworthy.Goals as goal

@@ -1,7 +1,7 @@
 use Rattle.std.proofs.Common.{◌++◌, ◌∙◌, ap, string_bytes, arith}
 use Rattle.mls_places.proofs.Each.{one_more_seen}
 use Rattle.mls_places.specs.Unknowns.{cell_lines}
-use Rattle.mls_starts.specs.Views.{cell_view}
+use Rattle.mls_start_text.specs.Views.{cell_view}
 use Rattle.mls_places.proofs.unknowns.push_cells.Goals as goal
 
 pub loop-n-preserved : goal.loop-n-preserved

@@ -1,7 +1,7 @@
 use Rattle.std.proofs.Common.{◌++◌, ◌∙◌, ap, string_bytes, arith}
 use Rattle.mls_places.proofs.Each.{one_more_seen}
 use Rattle.mls_places.specs.Unknowns.{mode_line}
-use Rattle.mls_starts.specs.Views.{text_view}
+use Rattle.mls_start_text.specs.Views.{text_view}
 use Rattle.mls_places.proofs.unknowns.push_modes.Goals as goal
 
 pub loop-k-preserved : goal.loop-k-preserved

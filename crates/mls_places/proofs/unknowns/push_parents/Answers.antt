@@ -1,7 +1,7 @@
 use Rattle.std.proofs.Common.{◌+◌, arith}
 use Rattle.mls_places.proofs.Each.{one_more_seen}
 use Rattle.mls_places.specs.Unknowns.{parent_line}
-use Rattle.mls_starts.specs.Views.{child_view}
+use Rattle.mls_start_text.specs.Views.{child_view}
 use Rattle.mls_places.proofs.unknowns.push_parents.Goals as goal
 
 pub loop-n-preserved : goal.loop-n-preserved

@@ -1,7 +1,7 @@
 use Rattle.std.proofs.Common.{◌≡◌, ◌<◌, ◌≤◌, vec_len, vec_capacity}
-use Rattle.mls_feeds.specs.declared.feed.Stage.TheVariants.{Waiting}
+use Rattle.mls_monitor.specs.declared.feed.Stage.TheVariants.{Waiting}
 use Rattle.mls_sessions.specs.declared.limits.TheConstants.{AHEAD}
-use Rattle.mls_feeds.specs.Feeds.{Gave}
+use Rattle.mls_monitor.specs.Feeds.{Gave}
 use Rattle.mls_sessions.proofs.gathering.take_asks.Given as goal
 
 abbrev pub invariant-loop-feed : goal.invariant-loop-feed

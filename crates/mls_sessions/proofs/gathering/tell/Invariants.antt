@@ -1,6 +1,6 @@
 use Rattle.std.proofs.Common.{◌≡◌, ◌+◌, ◌<◌, ◌≤◌, take}
-use Rattle.mls_feeds.specs.declared.feed.Stage.TheVariants.{Ready, Waiting}
-use Rattle.mls_feeds.specs.Feeds.{Heard}
+use Rattle.mls_monitor.specs.declared.feed.Stage.TheVariants.{Ready, Waiting}
+use Rattle.mls_monitor.specs.Feeds.{Heard}
 use Rattle.mls_sessions.proofs.gathering.tell.Given as goal
 
 abbrev pub invariant-loop-answer : goal.invariant-loop-answer

@@ -2,7 +2,7 @@ use Rattle.std.proofs.Common.{◌≡◌, ℕ, ◌<◌, Some}
 use Rattle.std.specs.Prelude.{slice_get}
 use Rattle.std.specs.FinSet as set
 use Rattle.mls_tables.specs.declared.mode.Mode.{Mode}
-use Rattle.mls_snapshots.specs.Tables.{triples_of}
+use Rattle.mls_state.specs.Tables.{triples_of}
 use Rattle.mls_snapshots.proofs.cells.is_same_row.Given as goal
 
 -- the places so far have the modes of their objects

@@ -1,5 +1,5 @@
-use Rattle.mls_feeds.specs.declared.feed.Stage.TheVariants.{Ready}
-use Rattle.mls_feeds.specs.Feeds.{AllAt}
+use Rattle.mls_monitor.specs.declared.feed.Stage.TheVariants.{Ready}
+use Rattle.mls_monitor.specs.Feeds.{AllAt}
 use Rattle.mls_tests_sessions.proofs.runs.make_feeds.Given as goal
 
 abbrev pub invariant-loop-k : goal.invariant-loop-k

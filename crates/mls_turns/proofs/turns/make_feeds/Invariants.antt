@@ -1,5 +1,5 @@
-use Rattle.mls_feeds.specs.declared.feed.Stage.TheVariants.{Ready}
-use Rattle.mls_feeds.specs.Feeds.{AllAt}
+use Rattle.mls_monitor.specs.declared.feed.Stage.TheVariants.{Ready}
+use Rattle.mls_monitor.specs.Feeds.{AllAt}
 use Rattle.mls_turns.proofs.turns.make_feeds.Given as goal
 
 abbrev pub invariant-loop : goal.invariant-loop

@@ -1,7 +1,7 @@
 use Rattle.std.proofs.Common.{ap, ◌∙◌, ◌++◌, ◌∷◌, [], cond, not, map, string_bytes}
 use Rattle.std.specs.List.{list_any}
 use Rattle.std.specs.Str.{bytes_eq}
-use Rattle.mls_places.proofs.NameLists.{was_added, kept_with}
+use Rattle.mls_labels.proofs.NamePlaces.{was_added, kept_with}
 use Rattle.mls_places.proofs.seen.SeenNames.insert.Goals as goal
 
 pub returns-clause-added : goal.returns-clause-added

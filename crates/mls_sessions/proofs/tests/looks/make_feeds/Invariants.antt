@@ -1,6 +1,6 @@
 use Rattle.std.proofs.Common.{◌≡◌, vec_len}
-use Rattle.mls_feeds.specs.declared.feed.Stage.TheVariants.{Ready}
-use Rattle.mls_feeds.specs.Feeds.{AllAt}
+use Rattle.mls_monitor.specs.declared.feed.Stage.TheVariants.{Ready}
+use Rattle.mls_monitor.specs.Feeds.{AllAt}
 use Rattle.mls_sessions.proofs.tests.looks.make_feeds.Given as goal
 
 abbrev pub invariant-loop-session : goal.invariant-loop-session

@@ -1,0 +1,10 @@
+//! The commands that answer questions about start files and journals, over files.
+mod answering;
+mod asking;
+mod comparison;
+mod listing;
+mod snapshots;
+mod sources;
+mod starts;
+
+pub use answering::answer;

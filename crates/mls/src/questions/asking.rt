@@ -1,0 +1,86 @@
+//! The commands that ask about a request.
+use crate::questions::answering::{Named, ended};
+use crate::questions::sources::{Bytes, read_source};
+use mls_explain_text::{ask as asked, explain as explained, who as listed};
+use mls_requests::read_mode;
+use mls_terminal::{Progress, Source};
+use std::process::ExitCode;
+
+/// The words that fault lines name.
+fn named<'a>(source: &Source<'a>, object: &'a str) -> Named<'a> {
+    Named {
+        start: source.start,
+        journal: source.journal.unwrap_or(""),
+        subject: "",
+        object,
+    }
+}
+
+/// Prints what a line would be answered.
+pub(crate) fn ask(progress: &mut Progress<'_>, source: &Source<'_>, line: &str) -> ExitCode {
+    let bytes = match read_source(progress, source) {
+        Ok(bytes) => bytes,
+        Err(status) => return status,
+    };
+    let Bytes { start, journal } = &bytes;
+    progress.begin("asking");
+    let done = asked(
+        progress.rt().alloc(),
+        start,
+        journal.as_deref(),
+        source.at,
+        line.as_bytes(),
+    );
+    drop(bytes);
+    ended(progress, named(source, ""), done)
+}
+
+/// Prints why a line, or an entry, is answered as it is.
+pub(crate) fn explain(
+    progress: &mut Progress<'_>,
+    source: &Source<'_>,
+    line: Option<&str>,
+) -> ExitCode {
+    let bytes = match read_source(progress, source) {
+        Ok(bytes) => bytes,
+        Err(status) => return status,
+    };
+    let Bytes { start, journal } = &bytes;
+    let line = line.map(|line| line.as_bytes());
+    progress.begin("explaining");
+    let done = explained(
+        progress.rt().alloc(),
+        start,
+        journal.as_deref(),
+        source.at,
+        line,
+    );
+    drop(bytes);
+    ended(progress, named(source, ""), done)
+}
+
+/// Prints who may get an object.
+pub(crate) fn who(
+    progress: &mut Progress<'_>,
+    source: &Source<'_>,
+    object: &str,
+    mode: Option<&str>,
+) -> ExitCode {
+    let bytes = match read_source(progress, source) {
+        Ok(bytes) => bytes,
+        Err(status) => return status,
+    };
+    let Bytes { start, journal } = &bytes;
+    let mode = mode.and_then(|mode| read_mode(mode.as_bytes()));
+    progress.begin("looking");
+    let done = listed(
+        progress.rt().alloc(),
+        start,
+        journal.as_deref(),
+        source.at,
+        object,
+        mode,
+    );
+    drop(bytes);
+    ended(progress, named(source, object), done)
+}

@@ -1,0 +1,100 @@
+//! The lines that tell why a service ended, or what it did with a torn end, and the statuses.
+use crate::commands::command_refused;
+use crate::files::{CallFault, OpenFault};
+use mls_durable::{AttendFault, RecoverFault, ServiceFault};
+use mls_replay::CommandFault;
+use mls_terminal::{NO_MEMORY, NOT_WRITTEN, refused};
+use std::io;
+use std::process::ExitCode;
+
+/// Tells that the end of a journal is torn, or was cut off, behind so many entries.
+pub(crate) fn tell_end(rt: &HostRuntime, file: &str, what: &str, entries: u64) -> io::Result<()> {
+    match entries.checked_sub(1) {
+        Some(last) => eprintln!(rt; "mls: {file}: {what} after entry {last}"),
+        None => eprintln!(rt; "mls: {file}: {what} before entry 0"),
+    }
+}
+
+/// Tells what is wrong with a file.
+fn tell_file(rt: &HostRuntime, file: &str, what: &str) -> ExitCode {
+    let _ = eprintln!(rt; "mls: {file}: {what}");
+    ExitCode::from(1)
+}
+
+/// Tells which call on a file has failed, and why.
+pub(crate) fn tell_call(rt: &HostRuntime, file: &str, fault: &CallFault) {
+    let _ = eprintln!(rt; "mls: {file}: {fault}");
+}
+
+/// Tells why a journal's file wasn't opened.
+pub(crate) fn open_refused(rt: &HostRuntime, file: &str, fault: OpenFault) -> ExitCode {
+    match fault {
+        OpenFault::Call(fault) => {
+            tell_call(rt, file, &fault);
+            ExitCode::from(fault.status())
+        }
+        OpenFault::InUse => tell_file(rt, file, "in use"),
+    }
+}
+
+/// The status after a fault of a file: a call on it failed, and that was told; or an allocation failed before it was
+/// made.
+fn file_failed(rt: &HostRuntime, failure: Option<u8>) -> ExitCode {
+    match failure {
+        Some(status) => ExitCode::from(status),
+        None => refused(rt, NO_MEMORY, 1),
+    }
+}
+
+/// Tells why a journal isn't one to go on from.
+fn recover_refused(
+    rt: &HostRuntime,
+    journal: &str,
+    fault: RecoverFault,
+    failure: Option<u8>,
+) -> ExitCode {
+    match fault {
+        RecoverFault::Memory => refused(rt, NO_MEMORY, 1),
+        RecoverFault::TooLong => tell_file(rt, journal, "too long"),
+        RecoverFault::Replay(fault) => command_refused(rt, journal, &CommandFault::from(fault)),
+        RecoverFault::Entry { line, fault } => {
+            command_refused(rt, journal, &CommandFault::Entry { line, fault })
+        }
+        RecoverFault::Torn { entries } => {
+            let _ = tell_end(rt, journal, "torn", entries);
+            ExitCode::from(1)
+        }
+        RecoverFault::File | RecoverFault::Keep => file_failed(rt, failure),
+    }
+}
+
+/// Tells why the input wasn't answered to its end.
+fn attend_refused(
+    rt: &HostRuntime,
+    journal: &str,
+    fault: AttendFault,
+    failure: Option<u8>,
+) -> ExitCode {
+    match fault {
+        AttendFault::Read => refused(rt, "mls: input: read", 1),
+        AttendFault::Unfinished => refused(rt, "mls: input: unfinished line", 1),
+        AttendFault::Write => refused(rt, NOT_WRITTEN, 1),
+        AttendFault::Memory => refused(rt, NO_MEMORY, 1),
+        AttendFault::TooLong => tell_file(rt, journal, "too long"),
+        AttendFault::File => file_failed(rt, failure),
+    }
+}
+
+/// Tells why a service ended before its input. `failure` is the status to end with where a call on a file has failed,
+/// which was told then.
+pub(crate) fn service_refused(
+    rt: &HostRuntime,
+    journal: &str,
+    fault: ServiceFault,
+    failure: Option<u8>,
+) -> ExitCode {
+    match fault {
+        ServiceFault::Recover(fault) => recover_refused(rt, journal, fault, failure),
+        ServiceFault::Attend(fault) => attend_refused(rt, journal, fault, failure),
+    }
+}

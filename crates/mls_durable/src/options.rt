@@ -1,0 +1,28 @@
+//! How a service takes its lines, what it tells, and what it does with a torn end.
+use crate::recover_fault::TornEnd;
+
+/// Who asks.
+#[derive(Clone, Copy, Debug, PartialEq, Eq)]
+pub enum Asker {
+    /// All lines are of this session, and are lines of a script.
+    Session(u32),
+    /// Each line begins with the number of its session and a space.
+    EachLine,
+}
+
+/// How lines are taken, and how they are answered.
+#[derive(Clone, Copy, Debug, PartialEq, Eq)]
+pub struct Protocol {
+    pub asker: Asker,
+    /// The number of the entry stands behind an answer that has one.
+    pub numbers: bool,
+}
+
+/// How a service takes its lines, what it tells, and what it does with a torn end.
+#[derive(Clone, Copy, Debug, PartialEq, Eq)]
+pub struct Options {
+    pub protocol: Protocol,
+    /// The start's names and the accesses that are held are told before the number of the next entry.
+    pub names: bool,
+    pub torn: TornEnd,
+}

@@ -1,0 +1,7 @@
+use Rattle.std.proofs.Common.{◌≡◌, ◌++◌, take, string_bytes}
+use Rattle.mls_explain_text.specs.Obstacles.{subject_lines}
+use Rattle.mls_explain_text.proofs.obstacles.push_subject_lines.Given as goal
+
+-- the lines of the accesses so far are written
+abbrev pub invariant-loop-access : goal.invariant-loop-access
+invariant-loop-access l = string_bytes l.text ≡ string_bytes l.fn.text ++ subject_lines l.names (take l.access-index l.accesses)

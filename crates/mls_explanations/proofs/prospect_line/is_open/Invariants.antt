@@ -1,7 +1,0 @@
-use Rattle.std.specs.Prelude.{◌≡◌, drop}
-use Rattle.mls_explanations.specs.Who.{is_open}
-use Rattle.mls_explanations.proofs.prospect_line.is_open.Given as goal
-
--- it depends on what is left
-abbrev pub invariant-loop-prospect : goal.invariant-loop-prospect
-invariant-loop-prospect l = is_open l.prospects ≡ is_open (drop l.prospect-index l.prospects)

@@ -1,4 +1,0 @@
-pub mod Ranges
-pub mod Pairs
-pub mod Reach
-pub mod Found

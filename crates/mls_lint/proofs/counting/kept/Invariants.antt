@@ -1,4 +1,0 @@
-use Rattle.mls_lint.proofs.counting.kept.Given as goal
-
-abbrev pub invariant-loop-c : goal.invariant-loop-c
-invariant-loop-c l = Unit {0}

@@ -1,5 +1,0 @@
-use Rattle.mls_lint.proofs.Found.{all_true}
-use Rattle.mls_lint.proofs.dead.dead_permissions.Goals as goal
-
-pub returns-clause-each : goal.returns-clause-each
-returns-clause-each g c = all_true c.args.state.now c.agrees.ensures.tree c.in_ok-found.found.items c.in_ok-found.ensures

@@ -1,4 +1,0 @@
-pub mod Dead
-pub mod Findings
-pub mod Flows
-pub mod LintText

@@ -1,2 +1,0 @@
-pub mod JournalTexts
-pub mod Laws

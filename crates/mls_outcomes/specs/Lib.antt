@@ -1,3 +1,0 @@
-pub mod RunTexts
-pub mod Commands
-pub mod Loads

@@ -1,8 +1,0 @@
-use Rattle.std.proofs.Common.{◌≡◌, map, take}
-use Rattle.mls_starts.specs.Views.{subject_view}
-use Rattle.mls_places.proofs.naming.subject_names.Given as goal
-
--- the names of the subjects so far
-abbrev pub invariant-loop-subject : goal.invariant-loop-subject
-invariant-loop-subject l =
-    map (λ name. name.now) l.names.items ≡ map (λ s. s.name) (map subject_view (take l.subject-index l.subjects))

@@ -1,0 +1,7 @@
+pub mod Firsts
+pub mod Found
+pub mod Lists
+pub mod Pairs
+pub mod Ranges
+pub mod Reach
+pub mod Within

@@ -1,0 +1,7 @@
+pub mod Covers
+pub mod Distinct
+pub mod Drawing
+pub mod Dead
+pub mod Findings
+pub mod Flows
+pub mod LintText

@@ -1,0 +1,44 @@
+//! The drawing of a start's labels.
+ghost use Rattle.std.specs.Prelude.{◌≡◌, true, string_bytes, IfOk};
+ghost use Rattle.mls_review.specs.Drawing.{drawing};
+
+use crate::covering::covering_pairs;
+use crate::distinct::distinct_labels;
+use crate::drawing::{push_edges, push_nodes};
+use mls_lines::Names;
+use mls_start::Start;
+use mls_state::State;
+use mls_wording::Answer;
+use std::alloc::{AllocError, Global};
+
+/// The drawing of a state's labels.
+fn drawing(alloc: Global, names: &Names, state: &State) -> Result<String, AllocError>
+    ensures { IfOk result (λ text. string_bytes text ≡ drawing names.now state.now) }
+{
+    let labels = distinct_labels(alloc, state)?;
+    let covers = covering_pairs(alloc, &labels)?;
+    let mut text = String::from_str(alloc, "digraph lattice {\nrankdir=BT;\nnode [shape=box];\n")?;
+    push_nodes(alloc, &mut text, names, state, &labels)?;
+    push_edges(&mut text, names, &labels, &covers)?;
+    text.push_str("}\n")?;
+    Ok(text)
+}
+
+/// The security labels of a start and their covering pairs, as the state has them that it opens with, drawn as DOT: a
+/// node for each label, with the names of those that have it, and an edge from each label to each that covers it. The
+/// answer is always positive.
+///
+/// # Errors
+/// `AllocError` where an allocation failed.
+pub fn lattice(alloc: Global, names: &Names, start: &Start) -> Result<Answer, AllocError>
+    ensures text { IfOk result (λ drawn. string_bytes drawn.text ≡ drawing names.now start.now) }
+    ensures positive { IfOk result (λ drawn. drawn.is_positive ≡ true) }
+{
+    let state = start.opening(alloc)?;
+    let text = drawing(alloc, names, &state)?;
+    drop(state);
+    Ok(Answer {
+        text,
+        is_positive: true,
+    })
+}

@@ -1,9 +1,0 @@
-//! `mls serve` over a real file: how its journal is opened, locked and synced, and what is told of it.
-#![tactic(auto)]
-
-mod command;
-mod faults;
-mod file_outside;
-mod opening;
-
-pub use command::serve_journal;

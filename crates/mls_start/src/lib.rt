@@ -1,0 +1,11 @@
+//! The builder of starts: what it is given, what is wrong with that, and the secure start that it makes.
+#![tactic(auto)]
+
+mod counts;
+mod object_row;
+mod start;
+mod start_builder;
+
+pub use mls_state::StartFault;
+pub use start::Start;
+pub use start_builder::{BuildRefused, StartBuilder};

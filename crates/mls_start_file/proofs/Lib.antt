@@ -1,0 +1,6 @@
+pub mod Counts
+mod Few
+pub mod Placed
+pub mod Said
+pub mod StandardRows
+pub mod Tied

@@ -1,0 +1,5 @@
+pub mod Below
+pub mod Laws
+pub mod Placed
+pub mod Rows
+pub mod Trees

@@ -1,0 +1,12 @@
+pub mod Below
+pub mod Each
+pub mod LabelViews
+pub mod Labelling
+pub mod Looking
+pub mod NameViews
+pub mod Naming
+pub mod PlaceViews
+pub mod Placing
+pub mod Refusing
+pub mod Texts
+pub mod Views

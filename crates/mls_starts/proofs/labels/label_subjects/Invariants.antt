@@ -1,9 +1,0 @@
-use Rattle.std.proofs.Common.{◌≡◌, map, take, Some}
-use Rattle.mls_starts.specs.Each.{each_of}
-use Rattle.mls_starts.specs.Labelling.{labelled_subject}
-use Rattle.mls_starts.specs.Views.{subject_view}
-use Rattle.mls_starts.proofs.labels.label_subjects.Given as goal
-
--- the rows are those of the subjects so far
-abbrev pub invariant-loop-subject : goal.invariant-loop-subject
-invariant-loop-subject l = each_of (labelled_subject l.schemes.security l.schemes.integrity) (map subject_view (take l.subject-index l.subjects)) ≡ Some l.rows.items

@@ -1,0 +1,88 @@
+//! Arguments of commands, as rows of a table.
+use clap::{Arg, ArgAction};
+use std::alloc::{AllocError, Global};
+
+/// What an argument is, and when it has to be there.
+#[derive(Clone, Copy, Debug)]
+pub(crate) enum Kind {
+    /// An operand that has to be there.
+    Operand,
+    /// An operand that may be left out.
+    Optional,
+    /// An operand that has to be there unless the option `--at` is.
+    UnlessAt,
+    /// An operand that is the word of a mode, and may be left out.
+    Mode,
+    /// One operand or more.
+    Operands,
+    /// An option with a text, which help calls so.
+    Text(&'static str),
+    /// An option with a text that has to be there.
+    NeededText(&'static str),
+    /// An option with a number of 32 bits.
+    Session,
+    /// An option with the number of an entry.
+    Entry,
+    /// An option with the number of an entry of the journal that the option `--journal` names.
+    EntryOfJournal,
+    /// An option without a value.
+    Flag,
+    /// An option without a value that can't stand beside this option.
+    FlagWithout(&'static str),
+    /// An option without a value that stands beside this option alone.
+    FlagBeside(&'static str),
+}
+
+/// An argument of a command.
+#[derive(Clone, Copy, Debug)]
+pub(crate) struct Argument {
+    pub name: &'static str,
+    pub kind: Kind,
+    pub help: &'static str,
+}
+
+/// The words of modes.
+const MODES: [&str; 4] = ["execute", "read", "append", "write"];
+
+/// An option with a value.
+fn with_value<'a>(arg: Arg<'a>, name: &'a str, value: &'a str) -> Arg<'a> {
+    arg.long(name).value_name(value).action(ArgAction::Set)
+}
+
+/// An option with the number of an entry.
+fn with_entry<'a>(arg: Arg<'a>, name: &'a str) -> Arg<'a> {
+    with_value(arg, name, "N").value_parser(clap::value_parser!(u64))
+}
+
+/// An option without a value.
+fn as_flag<'a>(arg: Arg<'a>, name: &'a str) -> Arg<'a> {
+    arg.long(name).action(ArgAction::SetTrue)
+}
+
+impl Argument {
+    /// The argument of this kind.
+    fn of_kind<'a>(&self, arg: Arg<'a>) -> Result<Arg<'a>, AllocError> {
+        match self.kind {
+            Kind::Operand => Ok(arg.required(true)),
+            Kind::Optional => Ok(arg),
+            Kind::UnlessAt => arg.required_unless_present("at"),
+            Kind::Mode => Ok(arg.value_parser(MODES.as_slice())),
+            Kind::Operands => Ok(arg.required(true).num_args(1..).action(ArgAction::Append)),
+            Kind::Text(value) => Ok(with_value(arg, self.name, value)),
+            Kind::NeededText(value) => Ok(with_value(arg, self.name, value).required(true)),
+            Kind::Session => {
+                Ok(with_value(arg, self.name, "K").value_parser(clap::value_parser!(u32)))
+            }
+            Kind::Entry => Ok(with_entry(arg, self.name)),
+            Kind::EntryOfJournal => with_entry(arg, self.name).requires_arg("journal"),
+            Kind::Flag => Ok(as_flag(arg, self.name)),
+            Kind::FlagWithout(other) => as_flag(arg, self.name).conflicts_with(other),
+            Kind::FlagBeside(other) => as_flag(arg, self.name).requires_arg(other),
+        }
+    }
+
+    /// The argument, as clap has it.
+    pub(crate) fn built<'a>(&self, alloc: Global) -> Result<Arg<'a>, AllocError> {
+        self.of_kind(Arg::new(alloc, self.name).help(self.help))
+    }
+}

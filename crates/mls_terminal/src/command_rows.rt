@@ -1,0 +1,373 @@
+//! The commands of the program, as rows of a table.
+use crate::argument::{Argument, Kind};
+
+/// The commands of the program. What each is asked for is read where they are told apart: one that isn't read doesn't
+/// compile.
+#[derive(Clone, Copy, Debug)]
+pub(crate) enum CommandName {
+    Check,
+    Run,
+    Replay,
+    Serve,
+    Ask,
+    Explain,
+    Who,
+    Lint,
+    Lattice,
+    Journal,
+    State,
+    Compare,
+}
+
+/// A command of the program.
+#[derive(Clone, Copy, Debug)]
+pub(crate) struct CommandRow {
+    pub command: CommandName,
+    pub name: &'static str,
+    pub about: &'static str,
+    pub example: &'static str,
+    pub arguments: &'static [Argument],
+}
+
+/// The operand `START`.
+const START: Argument = Argument {
+    name: "START",
+    kind: Kind::Operand,
+    help: "The start file, JSON",
+};
+
+/// The operand `JOURNAL`.
+const JOURNAL: Argument = Argument {
+    name: "JOURNAL",
+    kind: Kind::Operand,
+    help: "The journal, as mls run writes it",
+};
+
+/// The option `--journal` of a question.
+const OF_JOURNAL: Argument = Argument {
+    name: "journal",
+    kind: Kind::Text("FILE"),
+    help: "A journal of START, whose state is looked at; without it, the state that START opens with",
+};
+
+/// The option `--at` of a question.
+const AT: Argument = Argument {
+    name: "at",
+    kind: Kind::EntryOfJournal,
+    help: "The state before entry N, counted from 0; without it, after the last entry",
+};
+
+/// The arguments of `check`.
+const CHECK_ARGUMENTS: [Argument; 1] = [START];
+
+/// The arguments of `run`.
+const RUN_ARGUMENTS: [Argument; 4] = [
+    Argument {
+        name: "serial",
+        kind: Kind::Flag,
+        help: "Runs the scripts one after the other, and not each in a thread of its own",
+    },
+    Argument {
+        name: "journal",
+        kind: Kind::Text("FILE"),
+        help: "Writes the journal to FILE, and what FILE had is lost; where FILE is START, a SCRIPT or the journal \
+            of a service that runs, nothing is asked",
+    },
+    START,
+    Argument {
+        name: "SCRIPT",
+        kind: Kind::Operands,
+        help: "The scripts, at most 64; the first is session 0",
+    },
+];
+
+/// The arguments of `replay`.
+const REPLAY_ARGUMENTS: [Argument; 2] = [START, JOURNAL];
+
+/// The arguments of `serve`.
+const SERVE_ARGUMENTS: [Argument; 8] = [
+    Argument {
+        name: "session",
+        kind: Kind::Session,
+        help: "The number of the session that asks; without it 0",
+    },
+    Argument {
+        name: "sessions",
+        kind: Kind::FlagWithout("session"),
+        help: "Each line begins with the number of its session and a space, and so does its answer",
+    },
+    Argument {
+        name: "numbers",
+        kind: Kind::Flag,
+        help: "Prints the number of its entry behind an answer that has one",
+    },
+    Argument {
+        name: "names",
+        kind: Kind::Flag,
+        help: "Prints the names of START and the accesses that are held before the number of the next entry",
+    },
+    Argument {
+        name: "recover",
+        kind: Kind::Flag,
+        help: "Cuts off an end of the journal that a crash has torn, and keeps it in FILE.torn, or in FILE.torn.1, \
+            FILE.torn.2, .. where that is there",
+    },
+    Argument {
+        name: "cut-damage",
+        kind: Kind::FlagBeside("recover"),
+        help: "Cuts off, and keeps, also damage at the end of the journal that no crash leaves",
+    },
+    Argument {
+        name: "journal",
+        kind: Kind::NeededText("FILE"),
+        help: "The journal, which is made where it isn't there",
+    },
+    START,
+];
+
+/// The arguments of `ask`.
+const ASK_ARGUMENTS: [Argument; 4] = [
+    OF_JOURNAL,
+    AT,
+    START,
+    Argument {
+        name: "LINE",
+        kind: Kind::Operand,
+        help: "A line as a script has it, quoted, but without variables; #N is object N",
+    },
+];
+
+/// The arguments of `explain`.
+const EXPLAIN_ARGUMENTS: [Argument; 4] = [
+    OF_JOURNAL,
+    AT,
+    START,
+    Argument {
+        name: "LINE",
+        kind: Kind::UnlessAt,
+        help: "A line as a script has it, quoted; without it, entry N of --at is explained",
+    },
+];
+
+/// The arguments of `who`.
+const WHO_ARGUMENTS: [Argument; 5] = [
+    OF_JOURNAL,
+    AT,
+    START,
+    Argument {
+        name: "OBJ",
+        kind: Kind::Operand,
+        help: "An object: its name, or # and its number (quoted)",
+    },
+    Argument {
+        name: "MODE",
+        kind: Kind::Mode,
+        help: "This mode alone",
+    },
+];
+
+/// The arguments of `lint`.
+const LINT_ARGUMENTS: [Argument; 1] = [START];
+
+/// The arguments of `lattice`.
+const LATTICE_ARGUMENTS: [Argument; 1] = [START];
+
+/// The arguments of `journal`.
+const JOURNAL_ARGUMENTS: [Argument; 11] = [
+    Argument {
+        name: "subject",
+        kind: Kind::Text("SUBJ"),
+        help: "Entries about it: what it asked, and the permissions given to it or rescinded",
+    },
+    Argument {
+        name: "by",
+        kind: Kind::Text("SUBJ"),
+        help: "Entries that it asked",
+    },
+    Argument {
+        name: "object",
+        kind: Kind::Text("OBJ"),
+        help: "Entries that name it or made it",
+    },
+    Argument {
+        name: "session",
+        kind: Kind::Session,
+        help: "Entries of session K",
+    },
+    Argument {
+        name: "reply",
+        kind: Kind::Text("WORDS"),
+        help: "Entries whose reply begins with these words: yes, created, 'created 4', no, 'no star', undefined",
+    },
+    Argument {
+        name: "from",
+        kind: Kind::Entry,
+        help: "Entries from number N on, which is at most that of --to",
+    },
+    Argument {
+        name: "to",
+        kind: Kind::Entry,
+        help: "Entries to number N",
+    },
+    Argument {
+        name: "summary",
+        kind: Kind::Flag,
+        help: "Prints how many there are, by the subject that asked and the reply, and by reason",
+    },
+    Argument {
+        name: "json",
+        kind: Kind::FlagWithout("summary"),
+        help: "Prints a JSON object for each, in a line",
+    },
+    START,
+    JOURNAL,
+];
+
+/// The arguments of `state`.
+const STATE_ARGUMENTS: [Argument; 4] = [
+    Argument {
+        name: "at",
+        kind: Kind::Entry,
+        help: "The state before entry N, counted from 0; without it, after the last entry",
+    },
+    Argument {
+        name: "start",
+        kind: Kind::Flag,
+        help: "Prints a start file that opens with the state, its objects numbered anew: for a new journal",
+    },
+    START,
+    JOURNAL,
+];
+
+/// The arguments of `compare`.
+const COMPARE_ARGUMENTS: [Argument; 3] = [
+    Argument {
+        name: "START1",
+        kind: Kind::Operand,
+        help: "The start file to compare with, JSON",
+    },
+    Argument {
+        name: "START2",
+        kind: Kind::Operand,
+        help: "The start file that is compared, JSON",
+    },
+    Argument {
+        name: "JOURNAL",
+        kind: Kind::Optional,
+        help: "A journal of START1, whose requests are asked of both; without it, all gets in their openings are",
+    },
+];
+
+/// The commands, in the order of help.
+pub(crate) const COMMANDS: [CommandRow; 12] = [
+    CommandRow {
+        command: CommandName::Check,
+        name: "check",
+        about: "Reads a start file and prints how many subjects, objects, cells and accesses it has, and that it \
+            opens secure",
+        example: "Example: mls check examples/office.json",
+        arguments: &CHECK_ARGUMENTS,
+    },
+    CommandRow {
+        command: CommandName::Run,
+        name: "run",
+        about: "Runs scripts over a start file and prints their answers, how many entries the journal has, and \
+            that the state is secure",
+        example: "Example: mls run --journal office.journal examples/office.json examples/office.script",
+        arguments: &RUN_ARGUMENTS,
+    },
+    CommandRow {
+        command: CommandName::Replay,
+        name: "replay",
+        about: "Recomputes every reply of a journal over a start file, or tells the first entry that is wrong",
+        example: "Example: mls replay examples/office.json office.journal",
+        arguments: &REPLAY_ARGUMENTS,
+    },
+    CommandRow {
+        command: CommandName::Serve,
+        name: "serve",
+        about: "Answers the lines on standard input over a start file, and goes on with the journal in FILE. The \
+            entries of lines are on the disk before their answers are written",
+        example: "Example: mls serve --journal office.journal examples/office.json",
+        arguments: &SERVE_ARGUMENTS,
+    },
+    CommandRow {
+        command: CommandName::Ask,
+        name: "ask",
+        about: "Prints what a script would be answered to LINE, and changes nothing. The status is 0 for yes, \
+            created and held, else 4",
+        example: "Example: mls ask examples/standard.json 'bob get-read memo'. LINE is quoted, and asks as a line \
+            of a script: SUBJECT get-execute, get-read, get-append or get-write OBJECT; release, check MODE \
+            OBJECT; give, rescind MODE SUBJECT OBJECT; create PARENT SECURITY-LABEL INTEGRITY-LABEL; delete \
+            OBJECT; level LABEL; relabel OBJECT LABEL. To try several lines: mls serve over a copy of the journal",
+        arguments: &ASK_ARGUMENTS,
+    },
+    CommandRow {
+        command: CommandName::Explain,
+        name: "explain",
+        about: "Prints the answer to LINE, or without LINE to entry N of a journal; each condition of its rule, \
+            with the labels that it compares; and for a get that is denied the lowest current label that the \
+            subject can take, with all that it holds, with which it is granted. The status is 0 for yes, \
+            created and held, else 4",
+        example: "Examples: mls explain examples/standard.json 'bob get-read memo'; mls explain --journal \
+            office.journal --at 1 examples/office.json, of the entry that mls journal --from 1 --to 1 \
+            examples/office.json office.journal prints",
+        arguments: &EXPLAIN_ARGUMENTS,
+    },
+    CommandRow {
+        command: CommandName::Who,
+        name: "who",
+        about: "Prints which subjects are permitted OBJ and in which modes, and for each whether a get would be \
+            granted now, or else why not and with which current label it would be; nothing for #N where there \
+            is no object N. The status is 0 where one would be granted, else 4",
+        example: "Example: mls who examples/standard.json memo read. mls state prints who holds what. Who holds \
+            write on the parent may give permissions, and on the root whoever is trusted",
+        arguments: &WHO_ARGUMENTS,
+    },
+    CommandRow {
+        command: CommandName::Lint,
+        name: "lint",
+        about: "Prints what is suspicious in a start file: members that a JSON object has twice, permissions \
+            with which a get is never granted, objects and subjects that have no other, and flows down by trusted \
+            subjects; of a file that is refused each place where its first fault applies, counted from 0, and of \
+            members that are missing or wrong the first. The status is 4 where something is suspicious, 1 where \
+            the file is refused, else 0",
+        example: "Example: mls lint examples/standard.json",
+        arguments: &LINT_ARGUMENTS,
+    },
+    CommandRow {
+        command: CommandName::Lattice,
+        name: "lattice",
+        about: "Prints the security labels of a start file and their order, for dot of graphviz",
+        example: "Example: mls lattice examples/standard.json | dot -Tsvg > lattice.svg",
+        arguments: &LATTICE_ARGUMENTS,
+    },
+    CommandRow {
+        command: CommandName::Journal,
+        name: "journal",
+        about: "Prints the entries of a journal by name, or those that meet all options. The status is 0 where \
+            there is one, else 4",
+        example: "Examples: mls journal --reply no examples/office.json office.journal; mls journal --subject petra \
+            examples/office.json office.journal, of all that petra asked and was permitted",
+        arguments: &JOURNAL_ARGUMENTS,
+    },
+    CommandRow {
+        command: CommandName::State,
+        name: "state",
+        about: "Prints the state that a journal leads to: labels, permissions and accesses by name; or a start file \
+            that opens with it",
+        example: "Examples: mls state examples/office.json office.journal; mls state --start \
+            examples/office.json office.journal > next.json",
+        arguments: &STATE_ARGUMENTS,
+    },
+    CommandRow {
+        command: CommandName::Compare,
+        name: "compare",
+        about: "Prints how START2 differs from START1: names that only one of them has, and gets that they answer \
+            otherwise; with a journal of START1, instead, the entries that START2 would have answered \
+            otherwise. The status is 4 where something is printed, else 0. Nothing means the same answers to \
+            these, not the same files",
+        example: "Example: mls compare examples/office.json new.json office.journal",
+        arguments: &COMPARE_ARGUMENTS,
+    },
+];

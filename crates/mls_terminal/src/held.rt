@@ -1,0 +1,46 @@
+//! Files that were read and stay open.
+use crate::files::FileFault;
+use std::alloc::Global;
+use std::fs::{File, TryLockError};
+
+/// Files that a command has read, which stay open under shared locks where that is asked for: none of them can then be
+/// locked as the file of a journal, by whatever name.
+#[derive(Drop)]
+pub struct Held {
+    files: Vec<File>,
+    is_holding: bool,
+}
+
+impl Held {
+    /// No files yet; `is_holding` says whether those that are read stay open.
+    pub fn new(alloc: Global, is_holding: bool) -> Held {
+        Held {
+            files: Vec::new(alloc),
+            is_holding,
+        }
+    }
+
+    /// Takes the shared lock of a file, where files are held. What is no regular file can't be a journal's that is
+    /// locked.
+    pub(crate) fn lock(&self, file: &File) -> Result<(), FileFault> {
+        if !self.is_holding || file.metadata().is_ok_and(|found| !found.is_file()) {
+            return Ok(());
+        }
+        match file.try_lock_shared() {
+            Ok(()) => Ok(()),
+            Err(TryLockError::WouldBlock) => Err(FileFault::InUse),
+            Err(TryLockError::Error(_)) => Err(FileFault::File),
+        }
+    }
+
+    /// Keeps a file that was read open, where files are held.
+    pub(crate) fn keep(&mut self, file: File) -> Result<(), FileFault> {
+        if !self.is_holding {
+            return Ok(());
+        }
+        match self.files.push(file) {
+            Ok(()) => Ok(()),
+            Err(_) => Err(FileFault::Memory),
+        }
+    }
+}

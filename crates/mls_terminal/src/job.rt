@@ -1,0 +1,51 @@
+//! What a command line asks for.
+
+use crate::question::Question;
+
+/// What a run of scripts is asked for.
+#[derive(Debug, Drop)]
+pub struct RunWords<'a> {
+    pub start: &'a str,
+    pub scripts: Vec<&'a str>,
+    /// The file that the journal is written to, where one is.
+    pub journal: Option<&'a str>,
+    /// Whether the scripts run one after the other, and not each in a thread of its own.
+    pub is_serial: bool,
+}
+
+/// What a service is asked for.
+#[derive(Clone, Copy, Debug)]
+pub struct ServeWords<'a> {
+    pub start: &'a str,
+    /// The journal's file.
+    pub journal: &'a str,
+    /// The number of the session that asks, unless each line says it.
+    pub session: u32,
+    /// Whether each line begins with the number of its session.
+    pub has_sessions: bool,
+    /// Whether an answer tells the number of its entry.
+    pub has_numbers: bool,
+    /// Whether the names of the start and the accesses that are held are told first.
+    pub has_names: bool,
+    /// Whether a torn end of the journal is cut off.
+    pub is_recovering: bool,
+    /// Whether damage that no crash leaves is cut off then, too.
+    pub is_cutting_damage: bool,
+}
+
+/// What a command line asks for.
+#[derive(Debug, Drop)]
+pub enum Job<'a> {
+    /// To answer the script on standard input.
+    Answer,
+    /// To check a start file.
+    Check { start: &'a str },
+    /// To run scripts over a start file.
+    Run(RunWords<'a>),
+    /// To replay a journal over a start file.
+    Replay { start: &'a str, journal: &'a str },
+    /// To serve standard input over a start file and the file of a journal.
+    Serve(ServeWords<'a>),
+    /// To answer a question about start files or journals.
+    Question(Question<'a>),
+}

@@ -1,0 +1,23 @@
+//! What the program has of its terminal: the words of its command line, files that are read and written whole, what a
+//! person is told meanwhile, and what is written of the end.
+#![tactic(auto)]
+
+mod argument;
+mod command_rows;
+mod files;
+mod held;
+mod job;
+mod output;
+mod progress;
+mod question;
+mod question_words;
+mod words;
+mod words_fault;
+
+pub use files::{FileFault, Input, write_file};
+pub use held::Held;
+pub use job::{Job, RunWords, ServeWords};
+pub use output::{NO_MEMORY, NOT_WRITTEN, file_refused, is_taken, print, refused, write_bytes};
+pub use progress::Progress;
+pub use question::{JournalWords, Question, Source};
+pub use words::read_words;

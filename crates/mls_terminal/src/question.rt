@@ -1,0 +1,65 @@
+//! What the commands are asked for that answer questions about start files and journals.
+use mls_reports::{Form, Words};
+
+/// The files of a question about a state: that of a start, or the one that a journal leads to.
+#[derive(Clone, Copy, Debug)]
+pub struct Source<'a> {
+    pub start: &'a str,
+    /// The file of a journal of the start, where one is replayed.
+    pub journal: Option<&'a str>,
+    /// The number of the entry before which the state is looked at; without it, after the last.
+    pub at: Option<u64>,
+}
+
+/// What `journal` is asked for.
+#[derive(Clone, Copy, Debug)]
+pub struct JournalWords<'a> {
+    pub start: &'a str,
+    pub journal: &'a str,
+    pub filter: Words<'a>,
+    pub form: Form,
+}
+
+/// A question about start files or journals.
+#[derive(Clone, Copy, Debug)]
+pub enum Question<'a> {
+    /// What a line would be answered.
+    Ask {
+        source: Source<'a>,
+        line: &'a str,
+    },
+    /// Why a line, or an entry of the journal, is answered as it is.
+    Explain {
+        source: Source<'a>,
+        line: Option<&'a str>,
+    },
+    /// Who may get an object, in all modes or in this one.
+    Who {
+        source: Source<'a>,
+        object: &'a str,
+        mode: Option<&'a str>,
+    },
+    /// What is wrong with a start file, or suspicious in it.
+    Lint {
+        start: &'a str,
+    },
+    /// The labels of a start and their order.
+    Lattice {
+        start: &'a str,
+    },
+    /// Entries of a journal.
+    Journal(JournalWords<'a>),
+    /// The state that a journal leads to.
+    State {
+        source: Source<'a>,
+        /// Whether it is written as a start file.
+        is_start: bool,
+    },
+    /// How a second start differs from a first one, or from its journal's replies.
+    Compare {
+        first: &'a str,
+        second: &'a str,
+        /// The file of a journal of the first start, where its requests are asked of both.
+        journal: Option<&'a str>,
+    },
+}

@@ -1,0 +1,177 @@
+//! The words of a command line.
+use crate::command_rows::{COMMANDS, CommandName, CommandRow};
+use crate::job::{Job, RunWords, ServeWords};
+use crate::output::{NOT_WRITTEN, refused};
+use crate::question::Question;
+use crate::question_words::{
+    ask_words, compare_words, explain_words, journal_words, operand, state_words, who_words,
+};
+use crate::words_fault::{WordsFault, words_refused};
+use clap::{ArgMatches, Command, Error};
+use std::alloc::{AllocError, Global};
+use std::process::ExitCode;
+
+/// The version, and the toolchain's line.
+const VERSION: &str = "0.2.0, proved with rattle-kit-13f logic dac8208d650f15bf";
+
+const ABOUT: &str =
+    "A reference monitor for multilevel security. Without a command it answers the script on \
+     standard input over the standard start.";
+
+const EXAMPLE: &str = "Example: printf 'ann get-read plans\\n' | mls";
+
+/// The command of a row.
+fn command_of<'a>(alloc: Global, row: &CommandRow) -> Result<Command<'a>, AllocError> {
+    let mut command = Command::new(alloc, row.name)
+        .about(row.about)
+        .after_help(row.example);
+    for argument in row.arguments {
+        command = command.arg(argument.built(alloc)?)?;
+    }
+    Ok(command)
+}
+
+/// The program's command line.
+fn command<'a>(alloc: Global) -> Result<Command<'a>, AllocError> {
+    let mut line = Command::new(alloc, "mls")
+        .version(VERSION)
+        .about(ABOUT)
+        .after_help(EXAMPLE);
+    for row in COMMANDS {
+        line = line.subcommand(command_of(alloc, &row)?)?;
+    }
+    Ok(line)
+}
+
+/// What a run was asked for.
+fn run_words<'a>(alloc: Global, matches: &ArgMatches<'a>) -> Result<RunWords<'a>, AllocError> {
+    let mut scripts = Vec::new(alloc);
+    if let Some(named) = matches.get_strs("SCRIPT") {
+        for script in named {
+            scripts.push(*script)?;
+        }
+    }
+    Ok(RunWords {
+        start: operand(matches, "START"),
+        scripts,
+        journal: matches.get_str("journal"),
+        is_serial: matches.get_flag("serial"),
+    })
+}
+
+/// What a service was asked for.
+fn serve_words<'a>(matches: &ArgMatches<'a>) -> ServeWords<'a> {
+    ServeWords {
+        start: operand(matches, "START"),
+        journal: operand(matches, "journal"),
+        session: matches.get_one("session").unwrap_or(0),
+        has_sessions: matches.get_flag("sessions"),
+        has_numbers: matches.get_flag("numbers"),
+        has_names: matches.get_flag("names"),
+        is_recovering: matches.get_flag("recover"),
+        is_cutting_damage: matches.get_flag("cut-damage"),
+    }
+}
+
+/// The command of a name.
+///
+/// # Errors
+/// `Command` where there is none.
+fn command_named<'a>(name: &'a str) -> Result<CommandName, WordsFault<'a>> {
+    for row in COMMANDS {
+        if row.name == name {
+            return Ok(row.command);
+        }
+    }
+    Err(WordsFault::Command(name))
+}
+
+/// What `run` was asked for, as a job.
+fn run_job<'a>(alloc: Global, words: &ArgMatches<'a>) -> Result<Job<'a>, WordsFault<'a>> {
+    match run_words(alloc, words) {
+        Ok(asked) => Ok(Job::Run(asked)),
+        Err(AllocError) => Err(WordsFault::Memory),
+    }
+}
+
+/// What `journal` was asked for, as a job.
+fn journal_job<'a>(words: &ArgMatches<'a>) -> Result<Job<'a>, WordsFault<'a>> {
+    match journal_words(words) {
+        Ok(asked) => Ok(Job::Question(Question::Journal(asked))),
+        Err(fault) => Err(fault),
+    }
+}
+
+/// What a command was asked for.
+fn command_job<'a>(
+    alloc: Global,
+    command: CommandName,
+    words: &ArgMatches<'a>,
+) -> Result<Job<'a>, WordsFault<'a>> {
+    match command {
+        CommandName::Check => Ok(Job::Check {
+            start: operand(words, "START"),
+        }),
+        CommandName::Run => run_job(alloc, words),
+        CommandName::Replay => Ok(Job::Replay {
+            start: operand(words, "START"),
+            journal: operand(words, "JOURNAL"),
+        }),
+        CommandName::Serve => Ok(Job::Serve(serve_words(words))),
+        CommandName::Ask => Ok(Job::Question(ask_words(words))),
+        CommandName::Explain => Ok(Job::Question(explain_words(words))),
+        CommandName::Who => Ok(Job::Question(who_words(words))),
+        CommandName::Lint => Ok(Job::Question(Question::Lint {
+            start: operand(words, "START"),
+        })),
+        CommandName::Lattice => Ok(Job::Question(Question::Lattice {
+            start: operand(words, "START"),
+        })),
+        CommandName::Journal => journal_job(words),
+        CommandName::State => Ok(Job::Question(state_words(words))),
+        CommandName::Compare => Ok(Job::Question(compare_words(words))),
+    }
+}
+
+/// What was asked for: without a command, to answer standard input.
+fn job_of<'a>(alloc: Global, matches: &ArgMatches<'a>) -> Result<Job<'a>, WordsFault<'a>> {
+    match matches.subcommand() {
+        Some((name, words)) => command_job(alloc, command_named(name)?, words),
+        None => Ok(Job::Answer),
+    }
+}
+
+/// The words of a command line by the arguments that they are.
+fn parse<'a>(alloc: Global, words: &'a [String]) -> Result<ArgMatches<'a>, Error> {
+    command(alloc)?.try_get_matches_from(words)
+}
+
+/// Prints help, the version, or why the words aren't understood.
+fn explained(rt: &HostRuntime, error: Error) -> ExitCode {
+    let status = error.exit_code() as u8;
+    let printed = error.print(rt).is_ok();
+    drop(error);
+    if printed {
+        ExitCode::from(status)
+    } else {
+        refused(rt, NOT_WRITTEN, 1)
+    }
+}
+
+/// Reads the words of a command line, the program's name first.
+///
+/// # Errors
+/// The status to end with where there is nothing to do: help or the version was asked for and is printed, or the words
+/// aren't understood and it is said why.
+pub fn read_words<'a>(rt: &HostRuntime, words: &'a [String]) -> Result<Job<'a>, ExitCode> {
+    let matches = match parse(rt.alloc(), words) {
+        Ok(matches) => matches,
+        Err(error) => return Err(explained(rt, error)),
+    };
+    let job = job_of(rt.alloc(), &matches);
+    drop(matches);
+    match job {
+        Ok(job) => Ok(job),
+        Err(fault) => Err(words_refused(rt, fault)),
+    }
+}

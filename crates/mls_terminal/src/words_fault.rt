@@ -1,0 +1,29 @@
+//! Why the words of a command ask for nothing, though the command has such words.
+use crate::output::{NO_MEMORY, refused};
+use std::process::ExitCode;
+
+/// Why the words of a command ask for nothing.
+#[derive(Clone, Copy, Debug)]
+pub(crate) enum WordsFault<'a> {
+    /// No reply begins with these words.
+    Reply(&'a str),
+    /// The number of the first entry that is asked for is above that of the last.
+    Above { first: u64, last: u64 },
+    /// There is no command of this name.
+    Command(&'a str),
+    /// An allocation failed.
+    Memory,
+}
+
+/// Tells why words ask for nothing.
+pub(crate) fn words_refused(rt: &HostRuntime, fault: WordsFault<'_>) -> ExitCode {
+    let _ = match fault {
+        WordsFault::Reply(words) => eprintln!(rt; "mls: --reply {words}: begins no reply"),
+        WordsFault::Above { first, last } => eprintln!(rt;
+            "mls: --from {first}: above --to {last}"
+        ),
+        WordsFault::Command(name) => eprintln!(rt; "mls: {name}: no command"),
+        WordsFault::Memory => return refused(rt, NO_MEMORY, 1),
+    };
+    ExitCode::from(2)
+}
