@@ -5,6 +5,7 @@
  *   DISK_FAIL=N    the Nth of them fails, with the errno of DISK_ERRNO; where it is a write, the first DISK_FRONT bytes are
  *                  in the file all the same
  *   DISK_KILL=N    before the Nth of them the program is killed
+ *   DISK_REFUSE=CALL    each `flock`, or each `read` of DISK_JOURNAL, fails with the errno of DISK_ERRNO
  *   DISK_PIECE=K   no write to a file takes more than K bytes
  *   DISK_SLOW=U    each sync begins with so many microseconds of waiting
  *   DISK_JOURNAL=FILE, DISK_COPY=COPY    after each sync of FILE that ended well, COPY has all that FILE has
@@ -20,10 +21,13 @@
 #include <stdio.h>
 #include <stdlib.h>
 #include <string.h>
+#include <sys/file.h>
 #include <sys/stat.h>
 #include <unistd.h>
 
 static ssize_t (*true_write)(int, const void *, size_t);
+static ssize_t (*true_read)(int, void *, size_t);
+static int (*true_flock)(int, int);
 static int (*true_fsync)(int);
 static int (*true_fdatasync)(int);
 static int (*true_ftruncate)(int, off_t);
@@ -31,6 +35,8 @@ static long counted;
 
 __attribute__((constructor)) static void find(void) {
     *(void **)&true_write = dlsym(RTLD_NEXT, "write");
+    *(void **)&true_read = dlsym(RTLD_NEXT, "read");
+    *(void **)&true_flock = dlsym(RTLD_NEXT, "flock");
     *(void **)&true_fsync = dlsym(RTLD_NEXT, "fsync");
     *(void **)&true_fdatasync = dlsym(RTLD_NEXT, "fdatasync");
     *(void **)&true_ftruncate = dlsym(RTLD_NEXT, "ftruncate");
@@ -80,23 +86,44 @@ static int is_failing(void) {
     return 1;
 }
 
+/* Whether this is the journal's file. */
+static int is_journal(int fd) {
+    char name[4096];
+    const char *journal = getenv("DISK_JOURNAL");
+    name_of(fd, name, sizeof name);
+    return journal && !strcmp(name, journal);
+}
+
 /* Copies the journal, where this is the journal's file. */
 static void copy(int fd) {
-    char name[4096], piece[65536];
+    char piece[65536];
     const char *journal = getenv("DISK_JOURNAL"), *copy = getenv("DISK_COPY");
     int from, to, error = errno;
     ssize_t count;
-    name_of(fd, name, sizeof name);
-    if (!journal || !copy || strcmp(name, journal)) return;
+    if (!copy || !is_journal(fd)) return;
     from = open(journal, O_RDONLY);
     to = open(copy, O_WRONLY | O_CREAT | O_TRUNC, 0600);
     if (from < 0 || to < 0) abort();
-    while ((count = read(from, piece, sizeof piece)) > 0)
+    while ((count = true_read(from, piece, sizeof piece)) > 0)
         if (true_write(to, piece, count) != count) abort();
     close(from);
     close(to);
     errno = error;
 }
+
+/* Whether this call is one of those that are refused. */
+static int is_refused(const char *call) {
+    const char *refused = getenv("DISK_REFUSE");
+    if (!refused || strcmp(refused, call)) return 0;
+    errno = (int)number("DISK_ERRNO");
+    return 1;
+}
+
+ssize_t read(int fd, void *bytes, size_t count) {
+    return is_journal(fd) && is_refused("read") ? -1 : true_read(fd, bytes, count);
+}
+
+int flock(int fd, int how) { return is_refused("flock") ? -1 : true_flock(fd, how); }
 
 ssize_t write(int fd, const void *bytes, size_t count) {
     long piece = number("DISK_PIECE"), front = number("DISK_FRONT");

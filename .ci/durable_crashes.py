@@ -1,23 +1,22 @@
 """What mls serve leaves where it is killed, where the disk fails, and where a crash takes what wasn't synced; and how it goes on."""
 import concurrent.futures
+import glob
 import itertools
 import os
 import random
 import re
 import signal
-import subprocess
 import threading
-import time
+from errno import EIO, ENOLCK, ENOSPC
 
-from outside import SECONDS, put, same, shown
-from serving import LINES, REQUESTS, Due, Serving, content, is_kept, is_refused, ready, served, shim
+from outside import SECONDS, needs_proof, put, same, shown
+from serving import LINES, REQUESTS, Due, Serving, content, failed, is_kept, ready, served, shim, status_of
 
 KILLS = 300
 # After so many of them the journal begins anew.
 KILLS_OF_A_JOURNAL = 25
 # A kill comes at most so many seconds after the start of the service, or after it was ready.
 LATEST_KILL = 0.03
-ENOSPC, EIO = 28, 5
 # The most bytes of entries that are appended between two syncs, and of a read.
 BATCH = 65_536
 # Batches that a client asks one after the other, each once the one before is answered; the third has no entry.
@@ -65,6 +64,7 @@ def is_killed_once(rnd, journal, before):
     return recovered(journal, before, due, written), len(written)
 
 
+@needs_proof
 def kills_under_a_client_that_writes():
     """300 times: every answer that the client had got is in the journal, and after --recover too."""
     rnd, before, answered = random.Random(39), b"", []
@@ -109,7 +109,7 @@ ALL = [line for batch in BATCHES for line in batch]
 
 def run_over_a_disk(**words):
     """Recovers a torn journal over the shim and asks the batches. Returns the status, what was answered, and the error text."""
-    for name in ("f.notes", "f.copy", "f.torn"):
+    for name in ("f.notes", "f.copy", *glob.glob("f.torn*")):
         if os.path.exists(name):
             os.remove(name)
     put("f", FRONT.journal + TORN)
@@ -139,12 +139,16 @@ def calls_of_a_run():
     return calls
 
 
-def is_left_well(calls, said, written, error):
-    """What is left where the last of these calls failed: no answer of its batch, and of the batch itself a front at most behind what was
-    there."""
-    due, folder = Due(ALL, 3), os.path.basename(os.getcwd())
+# What is told of the calls that are counted.
+CALLS = {"write": "append", "sync": "sync", "cut": "cut"}
+
+
+def is_left_well(calls, errno, said, written, error):
+    """What is told and left where the last of these calls failed: no answer of its batch, and of the batch itself a front at most behind
+    what was there; and nothing in the file for torn ends, where that wasn't written whole."""
+    due, folder, call = Due(ALL, 3), os.path.basename(os.getcwd()), CALLS[calls[-1][0]]
     is_of_torn = calls[-1][1] == "f.torn" or [it[1] for it in calls[-2:]] == ["f.torn", folder]
-    told = b"mls: f.torn: file\n" if is_of_torn else b"mls: f: file\n"
+    told = failed("f.torn" if is_of_torn else "f", call, errno)
     assert error in (told, b"mls: f: cut after entry 2\n" + told), shown(error)
     assert len(written) in ends_of_batches(), f"a part of a batch was answered: {shown(written)}"
     journal = content("f")
@@ -156,24 +160,36 @@ def is_left_well(calls, said, written, error):
     else:
         assert journal in (FRONT.journal + TORN, FRONT.journal), shown(journal)
     if is_of_torn:
-        same(journal, FRONT.journal + TORN)
+        same((journal, glob.glob("f.torn*")), (FRONT.journal + TORN, []))
+    elif journal == FRONT.journal + TORN:
+        same([content(name) for name in glob.glob("f.torn*")], [TORN] if ("write", "f.torn") in [it[:2] for it in calls] else [])
+    else:
+        same(content("f.torn"), TORN)
     recovered("f", FRONT.journal, due, written)
 
 
 def disk_that_fails():
-    """Each write, sync and cut of a run fails in turn, for want of room or by a fault, also with a front of the bytes written: nothing is
-    answered that isn't in the journal, and nothing was asked again."""
+    """Each write, sync and cut of a run fails in turn, for want of room or by a fault, also with a front of the bytes written: it is told
+    which call failed and why, nothing is answered that isn't in the journal, and nothing was asked again."""
     calls = calls_of_a_run()
     for place, call in enumerate(calls, 1):
         for errno in (ENOSPC, EIO):
             for front in (0, 1, 7, 30) if call[0] == "write" else (0,):
                 status, said, written, error = run_over_a_disk(fail=place, errno=errno, front=front)
-                same((call, status), (call, 1))
+                same((call, status), (call, status_of(CALLS[call[0]])))
                 noted = [it for it in notes_of("f.notes") if it[1] != "out"]
                 same((call, len(noted), noted[-1][:2], noted[-1][3]), (call, place, call[:2], False))
-                is_left_well(calls[:place], said, written, error)
+                is_left_well(calls[:place], errno, said, written, error)
     status, _, written, _ = run_over_a_disk(fail=len(calls) + 1, errno=EIO)
     same((status, written), (0, Due(ALL, 3).answers))
+
+
+def lock_and_read_that_fail():
+    """It is told, and nothing is changed."""
+    for call, of_system, errno in (("lock", "flock", ENOLCK), ("read", "read", EIO)):
+        status, said, _, error = run_over_a_disk(refuse=of_system, errno=errno)
+        same((status, said, error), (1, b"", failed("f", call, errno)))
+        same((content("f"), glob.glob("f.torn*")), (FRONT.journal + TORN, []))
 
 
 def writes_that_take_little():
@@ -331,11 +347,12 @@ def batch_that_is_anything():
             assert after.startswith(synced) and (file.startswith(after)), shown(after)
             same(output, ready(count_of(after)))
         else:
-            same((status, output, after), (3, b"", file))
-            assert error.startswith(b"mls: t: replay "), shown(error)
+            told = {1: b"mls: t: line ", 3: b"mls: t: replay "}[status]
+            same((output, after), (b"", file))
+            assert error.startswith(told), shown(error)
 
     many_recovered(changed, judge)
-    same(seen, {0, 3})
+    same(seen, {0, 1, 3})
 
 
 def crash_during_a_recovery():
@@ -350,43 +367,14 @@ def crash_during_a_recovery():
         if left == FRONT.journal:
             same(content("f.torn"), TORN)
         recovered("f", FRONT.journal, Due([]), b"")
-        same((content("f"), content("f.torn")), (FRONT.journal, TORN))
+        same(content("f"), FRONT.journal)
+        assert TORN in [content(name) for name in glob.glob("f.torn*")], "the torn end is lost"
 
 
-def failover():
-    """A second folder gets the journal by tail; when the first is dead, a service there goes on, and so it does where the last line came in
-    part. An altered copy shows."""
-    for folder in ("one", "two"):
-        os.mkdir(folder)
-    put("one/j", b"")
-    due = Due(500 * LINES)
-    with open("two/j", "wb") as copy:
-        tail = subprocess.Popen(["tail", "-c", "+1", "-s", "0.05", "-f", "one/j"], stdout=copy)
-        try:
-            with Serving("one/j") as run:
-                run.says(ready(0))
-                run.ask(due.asked)
-                run.says(due.answers)
-                run.run.kill()
-                run.run.wait()
-            ends = time.monotonic() + SECONDS
-            while os.path.getsize("two/j") < os.path.getsize("one/j") and time.monotonic() < ends:
-                time.sleep(0.05)
-        finally:
-            tail.kill()
-            tail.wait()
-    same(content("two/j"), due.journal)
-    put("part", due.journal + b"%d 0 0 get-r" % due.next)
-    put("altered", due.journal.replace(b"1 get-read 2 no star", b"1 get-read 2 yes", 1))
-    same(served(b"ann get-read plans\n", "two/j", "--recover"), (0, ready(due.next) + b"yes\n", b""))
-    same(content("two/j"), due.journal + b"%d 0 0 get-read 1 yes\n" % due.next)
-    same(served(b"", "part", "--recover"), (0, ready(due.next), cut_line("part", due.next)))
-    is_refused(b"altered: replay 2 Differs at 2 expected no star", "altered", "--recover", status=3)
-
-
-CHECKS = [kills_under_a_client_that_writes, failover]
+CHECKS = [kills_under_a_client_that_writes]
 OVER_THE_SHIM = [
     disk_that_fails,
+    lock_and_read_that_fail,
     writes_that_take_little,
     answers_wait_for_the_sync,
     batches_of_long_reads,

@@ -1,11 +1,15 @@
 """What mls serve does with its words and files, and what it tells: a row for each line of the table in FORMATS.md, each status and
 each flag."""
+import errno
 import os
+import random
 import resource
 
 import outside
-from outside import SECONDS, put, ran, same
-from serving import LINES, REQUESTS, STANDARD, Due, Serving, content, is_kept, is_refused, ready, served
+from outside import SECONDS, needs_proof, put, ran, same
+from serving import (
+    LINES, REQUESTS, STANDARD, Due, Serving, content, failed, is_kept, is_refused, mode_of, ready, served, status_of,
+)
 
 FOUR = b"ann get-read plans\nbob get-read memo\nann release read plans\nann check read plans\n"
 FOUR_ANSWERS = b"yes\nno star\nyes\nnot held\n"
@@ -15,6 +19,7 @@ JOURNAL_LIMIT = 268_435_456
 BATCH = 65_536
 # No entry's line has more bytes: a line is asked where there is room for so many.
 ROOM = 2_265
+UNFINISHED = b"mls: input: unfinished line\n"
 
 
 def service_from_its_beginning():
@@ -22,7 +27,7 @@ def service_from_its_beginning():
     same(served(FOUR, "j"), (0, ready(0) + FOUR_ANSWERS, b""))
     same(content("j"), FOUR_JOURNAL)
     same(served(b"", "j"), (0, ready(3), b""))
-    same(served(b"ann get-read plans", "j"), (0, ready(3) + b"yes\n", b""))
+    same(served(b"ann get-read plans\n", "j"), (0, ready(3) + b"yes\n", b""))
     same(content("j"), FOUR_JOURNAL + b"3 0 0 get-read 1 yes\n")
     same(ran(words=["replay", STANDARD, "j"]), (0, b"entries 4\nsecure yes\n", b""))
     same(ran(FOUR, ["serve", "--journal=k", STANDARD]), (0, ready(0) + FOUR_ANSWERS, b""))
@@ -105,8 +110,11 @@ def start_that_is_refused():
 def journal_that_is_no_file():
     os.mkdir("folder")
     os.mkfifo("fifo")
-    for journal in ("folder", "fifo", "no/folder", "/dev/null", f"{STANDARD}/j", ""):
-        is_refused(journal.encode() + b": file", journal)
+    rows = [("folder", "open", errno.EISDIR), ("fifo", "sync", errno.EINVAL), ("no/folder", "open", errno.ENOENT)]
+    rows += [("/dev/null", "sync", errno.EINVAL), (f"{STANDARD}/j", "open", errno.ENOTDIR), ("", "open", errno.ENOENT)]
+    for journal, call, number in rows:
+        wanted = (status_of(call), b"", failed(journal, call, number))
+        same((journal, served(b"ann get-read plans\n", journal)), (journal, wanted))
 
 
 def journal_by_a_link():
@@ -131,6 +139,7 @@ def journal_that_is_in_use():
     same(served(b"", "u"), (0, ready(4), b""))
 
 
+@needs_proof
 def journal_that_is_too_long():
     put("long", FOUR_JOURNAL)
     os.truncate("long", JOURNAL_LIMIT + 1)
@@ -139,11 +148,13 @@ def journal_that_is_too_long():
         same(os.path.getsize("long"), JOURNAL_LIMIT + 1)
 
 
-# What stands behind three entries and is cut off, whatever is in it.
+# What stands behind three entries and is cut off, since a crash may have left it: a first line that begins as that of entry 3,
+# but for zero bytes and a missing end, and has a zero byte or no newline, and then anything.
 TORN = [
-    b"3", b"3 0 0 get-read 1 ye", b"3 0 0 get-read 1 yes", b"3 0 0 get-read 1 \0es\n", 100 * b"\0", b"\n", b"x\n", b"4 0 0 get-read 1 yes",
-    b"x\n3 0 0 get-read 1 yes\n", b"\0" + b"\n3 0 0 get-read 1 yes\n", b"3 0 0 get-read 1 yes\r\n", b"03 0 0 get-read 1 yes\n", b"\xff\n",
-    b"3 0 0 get-read 1 yes 4 0 0 get-read 1 yes\n", BATCH * b"x", (BATCH - 1) * b"x" + b"\n", BATCH * b"\n",
+    b"3", b"3 ", b"3 0 0 get-read 1 ye", b"3 0 0 get-read 1 yes", b"3 0 0 get-read 1 \0es\n", b"\0", b"\0 0 0 get-read 1 yes\n",
+    100 * b"\0", b"3\0", b"3\0x\n", b"\0\0x", b"3 0 0 get-read 1 ye\0\n4 0 0 get-read 1 yes\n", b"\0\0\0\0\n\n\n", b"3 x", b"3 anything",
+    b"3 \0\n", b"3 \0\n" + b"x\n", b"3 " + (BATCH - 2) * b"x", BATCH * b"\0",
+    b"3 0 0 get-read 1 \0" + (BATCH - 19) * b"\n" + b"\n", b"3 \xff",
 ]
 
 
@@ -154,13 +165,48 @@ def end_that_is_torn():
         for tail in TORN:
             tail = tail if front else tail.replace(b"3", b"0").replace(b"4", b"1")
             put("t", front + tail)
-            put("t.torn", b"older and longer\n" if tail == b"3" else b"")
+            if os.path.exists("t.torn"):
+                os.remove("t.torn")
             is_refused(b"t: torn " + after, "t")
             same(content("t"), front + tail)
+            assert not os.path.exists("t.torn"), "something was kept"
             wanted = (0, ready(count) + b"yes\n", b"mls: t: cut " + after + b"\n")
             same((tail, served(b"ann get-read plans\n", "t", "--recover")), (tail, wanted))
             same((tail, content("t.torn")), (tail, tail))
             same(content("t"), front + b"%d 0 0 get-read 1 yes\n" % count)
+
+
+def ends_that_are_torn_one_after_the_other():
+    """Each is kept in a file of its own. What is there stays, whatever it is, and no link is followed."""
+    for number in range(3):
+        put("again", FOUR_JOURNAL + b"3 0 torn %d" % number)
+        same(served(b"", "again", "--recover"), (0, ready(3), b"mls: again: cut after entry 2\n"))
+        same(content("again"), FOUR_JOURNAL)
+        kept = ["again.torn", "again.torn.1", "again.torn.2"][: number + 1]
+        same([content(name) for name in kept], [b"3 0 torn %d" % at for at in range(number + 1)])
+    put("elsewhere", b"another's\n")
+    os.symlink("elsewhere", "again.torn.3")
+    os.symlink("nowhere", "again.torn.4")
+    os.mkdir("again.torn.5")
+    put("again", FOUR_JOURNAL + b"3 0 torn last")
+    same(served(b"", "again", "--recover"), (0, ready(3), b"mls: again: cut after entry 2\n"))
+    same((content("again"), content("again.torn.6")), (FOUR_JOURNAL, b"3 0 torn last"))
+    same((content("elsewhere"), os.path.lexists("nowhere"), os.readlink("again.torn.4")), (b"another's\n", False, "nowhere"))
+    same([content(name) for name in ("again.torn", "again.torn.2")], [b"3 0 torn 0", b"3 0 torn 2"])
+
+
+def modes_of_files_that_are_made():
+    """What is made its owner alone reads and writes, or less; what was there keeps its mode."""
+    for umask, mode in ((0, 0o600), (0o077, 0o600), (0o277, 0o400)):
+        for name in ("mode", "mode.torn"):
+            if os.path.exists(name):
+                os.remove(name)
+        same(served(FOUR, "mode", preexec_fn=lambda: os.umask(umask)), (0, ready(0) + FOUR_ANSWERS, b""))
+        same((umask, mode_of("mode")), (umask, mode))
+        os.chmod("mode", 0o644)
+        put("mode", FOUR_JOURNAL + b"3")
+        same(served(b"", "mode", "--recover", preexec_fn=lambda: os.umask(umask))[:2], (0, ready(3)))
+        same((umask, mode_of("mode"), mode_of("mode.torn")), (umask, 0o644, mode))
 
 
 # What stands behind three entries, and why a crash can't have left it, with the status.
@@ -177,14 +223,124 @@ DAMAGE = [
 ]
 
 
+# The same of at most 65,536 bytes, and how mls replay says what it is; --cut-damage cuts it off all the same.
+SMALL_DAMAGE = [
+    (b"\n", b"line 4: entry 1 BadForm"),
+    (b"x\n", b"line 4: entry 1 BadForm"),
+    (b"x", b"line 4: entry 1 BadForm"),
+    (b"4 0 0 get-read 1 yes", b"line 4: entry 1 BadForm"),
+    (b"30 0 0 get-read 1 yes", b"line 4: entry 1 BadForm"),
+    (b"3x", b"line 4: entry 1 BadForm"),
+    (b"\0x", b"line 4: entry 1 BadForm"),
+    (b"03 0 0 get-read 1 yes\n", b"line 4: entry 2 BadNumber"),
+    (b"x 0 0 get-read 1 yes\n", b"line 4: entry 2 BadNumber"),
+    (b"3 0 0 get-read 1 yes\r\n", None),
+    (b"3 0 0 get-reap 1 yes\n", None),
+    (b"3 0 0 get-read 1 yes 4 0 0 get-read 1 yes\n", None),
+    (b"\xff\n", b"line 4: entry 1 BadForm"),
+    (b"\0\n3 0 0 get-read 1 yes\n", None),
+    (b"3\n\0", None),
+    (b"\0\n", b"line 4: entry 1 BadForm"),
+    (b"\0" + (BATCH - 1) * b"\n", b"line 4: entry 1 BadForm"),
+    (b"x\n3 0 0 get-read 1 yes\n", b"line 4: entry 1 BadForm"),
+    (BATCH * b"x", b"line 4: entry 1 BadForm"),
+    ((BATCH - 1) * b"x" + b"\n", b"line 4: entry 1 BadForm"),
+    (BATCH * b"\n", b"line 4: entry 1 BadForm"),
+]
+
+
+def damage_that_is_cut_only_where_that_is_asked():
+    """It is refused as mls replay refuses it; with --cut-damage it is kept and cut off, and the service goes on."""
+    for tail, told in SMALL_DAMAGE:
+        put("sd", FOUR_JOURNAL + tail)
+        status, output, error = ran(words=["replay", STANDARD, "sd"])
+        assert (status, output) == (1, b"") and told in (None, error[len(b"mls: sd: "):-1]), (tail, status, error)
+        for flags in ((), ("--recover",)):
+            same((tail, flags, served(b"ann get-read plans\n", "sd", *flags)), (tail, flags, (1, b"", error)))
+            same(content("sd"), FOUR_JOURNAL + tail)
+        assert not os.path.exists("sd.torn"), "something was kept"
+        wanted = (0, ready(3) + b"yes\n", b"mls: sd: cut after entry 2\n")
+        same((tail, served(b"ann get-read plans\n", "sd", "--recover", "--cut-damage")), (tail, wanted))
+        same((content("sd"), content("sd.torn")), (FOUR_JOURNAL + b"3 0 0 get-read 1 yes\n", tail))
+        os.remove("sd.torn")
+
+
+def one_byte_that_was_changed():
+    """A journal in whose middle a byte was changed loses nothing by --recover, nor does a file that is no journal."""
+    due = Due(40 * REQUESTS)
+    place = due.journal.index(b"\n5 ") + 1
+    for at in (place, place + 2, place + 4):
+        damaged = due.journal[:at] + b"x" + due.journal[at + 1 :]
+        for journal in (damaged, damaged.replace(b"\n", b"\r\n"), content(STANDARD), b"not a journal\n", b"not a journal"):
+            put("byte", journal)
+            status, output, error = ran(words=["replay", STANDARD, "byte"])
+            for flags in ((), ("--recover",)):
+                same((flags, served(b"", "byte", *flags)), (flags, (status, b"", error)))
+                same(content("byte"), journal)
+    assert not os.path.exists("byte.torn"), "something was kept"
+
+
+def words_of_damage():
+    """--cut-damage stands beside --recover alone."""
+    status, output, error = ran(FOUR, ["serve", "--cut-damage", "--journal", "wd", STANDARD])
+    same((status, output), (2, b""))
+    assert error.endswith(b"\n") and not os.path.exists("wd")
+
+
 def journal_that_no_crash_leaves():
     """It is told as mls replay tells it, whatever the flags, and nothing is changed."""
     for tail, told, status in DAMAGE:
         put("d", FOUR_JOURNAL + tail)
-        for flags in ((), ("--recover",)):
+        for flags in ((), ("--recover",), ("--recover", "--cut-damage")):
             is_refused(b"d: " + told, "d", *flags, status=status)
             same(content("d"), FOUR_JOURNAL + tail)
     assert not os.path.exists("d.torn"), "something was kept"
+
+
+# What no crash leaves behind three entries either, and is no entry; what replay says of it.
+DAMAGED_END = [
+    (b"\n", b"1 BadForm"), (b"x", b"1 BadForm"), (b"x\n", b"1 BadForm"), (b"x\n3 0 0 get-read 1 yes\n", b"1 BadForm"), (b"4", b"1 BadForm"),
+    (b"4 0 0 get-read 1 yes", b"1 BadForm"), (b"30 0 0 get-read 1 yes", b"1 BadForm"), (b"03 0 0 get-read 1 yes", b"1 BadForm"),
+    (b"3 0 0 get-read 1 yes\r\n", b"4 BadReply"), (b"03 0 0 get-read 1 yes\n", b"2 BadNumber"), (b"3 0 0 gxt-read 1 yes\n", b"1 BadForm"),
+    (b"3 0 0 get-read 1 yes 4 0 0 get-read 1 yes\n", b"4 BadReply"), (b"\xff\n", b"1 BadForm"), (b"4\0", b"1 BadForm"), (b"\0x 0\n", b"1 BadForm"),
+    (BATCH * b"x", b"1 BadForm"), (BATCH * b"\n", b"1 BadForm"), (b"\n" + (BATCH - 1) * b"\0", b"1 BadForm"),
+]
+
+
+def end_that_is_damaged():
+    """--recover alone leaves it as it is, as replay refuses it; with --cut-damage it is kept and cut off."""
+    for tail, fault in DAMAGED_END:
+        put("dam", FOUR_JOURNAL + tail)
+        if os.path.exists("dam.torn"):
+            os.remove("dam.torn")
+        for flags in ((), ("--recover",)):
+            is_refused(b"dam: line 4: entry " + fault, "dam", *flags)
+            same((tail, content("dam")), (tail, FOUR_JOURNAL + tail))
+        same(ran(words=["replay", STANDARD, "dam"]), (1, b"", b"mls: dam: line 4: entry " + fault + b"\n"))
+        assert not os.path.exists("dam.torn"), "something was kept"
+        wanted = (0, ready(3) + b"yes\n", b"mls: dam: cut after entry 2\n")
+        same((tail, served(b"ann get-read plans\n", "dam", "--recover", "--cut-damage")), (tail, wanted))
+        same((tail, content("dam.torn"), content("dam")), (tail, tail, FOUR_JOURNAL + b"3 0 0 get-read 1 yes\n"))
+    assert ran(b"", ["serve", "--cut-damage", "--journal", "dam", STANDARD])[0] == 2, "it stands alone"
+
+
+def files_that_are_no_journals():
+    """--recover empties neither a start file, its own among them, nor a journal with other line ends, nor cuts good entries behind a byte
+    that was changed."""
+    due = Due(6 * REQUESTS)
+    lines = due.journal.splitlines(keepends=True)
+    changed = b"".join([*lines[:5], lines[5].replace(b"get-", b"gxt-"), *lines[6:34]])
+    assert len(lines) >= 34 and changed != b"".join(lines[:34])
+    rows = [(content(STANDARD), b"line 1: entry 1 BadForm"), (due.journal.replace(b"\n", b"\r\n"), b"line 1: entry 4 BadReply")]
+    rows += [(changed, b"line 6: entry 1 BadForm")]
+    for file, told in rows:
+        put("other", file)
+        for flags in ((), ("--recover",)):
+            is_refused(b"other: " + told, "other", *flags)
+            same(content("other"), file)
+    put("self.json", content(STANDARD))
+    is_refused(b"self.json: line 1: entry 1 BadForm", "self.json", "--recover", start="self.json")
+    same((content("self.json"), os.path.exists("other.torn"), os.path.exists("self.json.torn")), (content(STANDARD), False, False))
 
 
 def journal_of_another_start():
@@ -197,11 +353,12 @@ def journal_of_another_start():
 
 
 def end_that_cannot_be_kept():
-    """Where FILE.torn can't be written, FILE stays."""
-    put("t2", FOUR_JOURNAL + b"3 0")
-    os.mkdir("t2.torn")
-    is_refused(b"t2.torn: file", "t2", "--recover")
-    same(content("t2"), FOUR_JOURNAL + b"3 0")
+    """Where no file for it can be made, FILE stays. (The name of a file has at most 255 bytes.)"""
+    name = 251 * "t"
+    put(name, FOUR_JOURNAL + b"3 0")
+    wanted = (1, b"", failed(f"{name}.torn", "open", errno.ENAMETOOLONG))
+    same(served(b"ann get-read plans\n", name, "--recover"), wanted)
+    same(content(name), FOUR_JOURNAL + b"3 0")
 
 
 def end_that_is_whole():
@@ -223,11 +380,12 @@ def objects_of_an_earlier_process():
 def lines_at_their_bounds():
     rows = [(20_000 * b" ", b""), (20_001 * b" ", b"bad form\n"), (200_000 * b"x", b"bad form\n"), (b"ann get-read plans\r", b"bad form\n")]
     rows += [(b"ann get-read plans" + 19_982 * b" ", b"yes\n"), (b"ann get-read plans" + 19_983 * b" ", b"bad form\n"), (b"\xff", b"bad form\n")]
-    asked, answers = b"\n".join(line for line, _ in rows), b"".join(answer for _, answer in rows)
+    asked, answers = b"".join(line + b"\n" for line, _ in rows), b"".join(answer for _, answer in rows)
     same(served(asked, "l"), (0, ready(0) + answers, b""))
     same(content("l"), b"0 0 0 get-read 1 yes\n")
 
 
+@needs_proof
 def input_without_an_end():
     """It has no limit as a whole: more than two megabytes."""
     due = Due(12_000 * LINES)
@@ -244,7 +402,7 @@ def input_without_an_end():
 
 
 def client_that_sends_half_a_line_and_waits():
-    """Each line is answered once it is complete, and not before; the last needs no newline."""
+    """Each line is answered once it is complete, and not before; the last is not asked where it has no newline."""
     with Serving("half") as run:
         run.says(ready(0))
         for asked, answer in ((b"ann get-read plans\nbob get-", b"yes\n"), (b"read ", b""), (b"memo\n; a note\n\nann ", b"no star\n")):
@@ -253,8 +411,191 @@ def client_that_sends_half_a_line_and_waits():
             assert run.is_silent(0.1), "half a line was answered"
         same(content("half"), FOUR_JOURNAL[: FOUR_JOURNAL.index(b"2 0")])
         run.ask(b"release read plans")
-        same(run.end(), (0, b"yes\n", b""))
-    same(content("half"), FOUR_JOURNAL)
+        same(run.end(), (1, b"", UNFINISHED))
+    same(content("half"), FOUR_JOURNAL[: FOUR_JOURNAL.index(b"2 0")])
+
+
+def line_that_is_not_finished():
+    """A client that dies within a line has not asked it, whatever its front says; the lines before are answered."""
+    for tail in (b"a", b" ", b"; a note", b"sec delete memo", 20_001 * b"x", 70_000 * b"x"):
+        for flags, front, answers in (((), FOUR, FOUR_ANSWERS), (("--sessions",), b"4 " + FOUR.replace(b"\n", b"\n4 ")[:-2], b"4 " + FOUR_ANSWERS.replace(b"\n", b"\n4 ")[:-2])):
+            put("un", b"")
+            same((tail, served(front + tail, "un", *flags)), (tail, (1, ready(0) + answers, UNFINISHED)))
+            same(content("un"), in_session(FOUR_JOURNAL, 4) if flags else FOUR_JOURNAL)
+        put("un", b"")
+        same(served(tail, "un"), (1, ready(0), UNFINISHED))
+        same(content("un"), b"")
+
+
+def in_session(journal, session):
+    """Entries with the number of another session."""
+    words = [line.split(b" ") for line in journal.splitlines(keepends=True)]
+    return b"".join(b" ".join([line[0], b"%d" % session, *line[2:]]) for line in words)
+
+
+# Lines of sessions, what each is answered, and what its entry has after its number, over the standard start and after
+# those before it.
+SESSION_LINES = [
+    (b"7 ann get-read plans", b"7 yes", b"7 0 get-read 1 yes"),
+    (b"0 ann check read plans", b"0 held", None),
+    (b"8 ? bob get-read memo", b"8 ? no star", None),
+    (b"8 bob get-read memo", b"8 no star", b"8 1 get-read 2 no star"),
+    (b"9 ? sec create root S hi", b"9 ? no authority", None),
+    (b"9 sec get-write root", b"9 yes", b"9 2 get-write 0 yes"),
+    (b"9 ? sec create root S hi", b"9 ? created 4", None),
+    (b"4294967294 ? sec create root S hi", b"4294967294 ? created 4", None),
+    (b"4294967294 #300 get-read #3", b"4294967294 undefined", b"4294967294 300 get-read 3 undefined"),
+    (b"7 ? ann check read plans", b"7 ? held", None),
+    (b"7 ? ann release read plans", b"7 ? yes", None),
+    (b"7 ? ann release read plans", b"7 ? yes", None),
+    (b"7 ? ann frob plans", b"7 ? bad form", None),
+    (b"7 ? zoe get-read plans", b"7 ? bad name", None),
+    (b"7 ? sec create root Q hi", b"7 ? bad label", None),
+    (b"7 ann frob plans", b"7 bad form", None),
+    (b"7 zoe get-read plans", b"7 bad name", None),
+    (b"7 $x = sec create root S hi", b"7 bad form", None),
+    (b"7 ? $x = sec create root S hi", b"7 ? bad form", None),
+    (b"7 ann get-read $x", b"7 bad form", None),
+    (b"7 zoe get-read $x", b"7 bad form", None),
+    (b"7 sec create root $S hi", b"7 bad form", None),
+    (b"7 ann get-read x$x", b"7 bad form", None),
+    (b"7 ; $x = a note", b"", None),
+    (b"7 ? ; a note", b"", None),
+    (b"7 ", b"", None),
+    (b"7 ? ", b"", None),
+    (b"7    ann   release read plans ", b"7 yes", b"7 0 release read 1 yes"),
+    (b"7  ? ann get-read plans", b"7 bad form", None),
+    (b"7 ?ann get-read plans", b"7 bad form", None),
+    (b"7 ?", b"7 bad form", None),
+    (b"7 ? ? ann get-read plans", b"7 ? bad form", None),
+    (b"7", b"- bad form", None),
+    (b"", b"- bad form", None),
+    (b" ", b"- bad form", None),
+    (b" 7 ann get-read plans", b"- bad form", None),
+    (b"; a note", b"- bad form", None),
+    (b"ann get-read plans", b"- bad form", None),
+    (b"07 ann get-read plans", b"- bad form", None),
+    (b"-7 ann get-read plans", b"- bad form", None),
+    (b"+7 ann get-read plans", b"- bad form", None),
+    (b"7\tann get-read plans", b"- bad form", None),
+    (b"4294967295 ann get-read plans", b"- bad form", None),
+    (b"4294967296 ann get-read plans", b"- bad form", None),
+    (b"18446744073709551623 ann get-read plans", b"- bad form", None),
+    (30_000 * b"7" + b" ann get-read plans", b"- bad form", None),
+    (30_000 * b"7", b"- bad form", None),
+    (b"4294967294 ann get-read plans" + 19_982 * b" ", b"4294967294 yes", b"4294967294 0 get-read 1 yes"),
+    (b"4294967294 ann get-read plans" + 19_983 * b" ", b"4294967294 bad form", None),
+    (b"4294967294 ? ann get-read plans" + 19_982 * b" ", b"4294967294 ? yes", None),
+    (b"4294967294 ? ann get-read plans" + 19_983 * b" ", b"4294967294 ? bad form", None),
+    (b"1 " + 20_000 * b" ", b"", None),
+    (b"1 ? " + 20_000 * b" ", b"", None),
+    (b"1 " + 20_001 * b" ", b"1 bad form", None),
+    (b"1 ? " + 200_000 * b"x", b"1 ? bad form", None),
+    (b"12 ann release read plans", b"12 yes", b"12 0 release read 1 yes"),
+]
+
+
+def lines_of_sessions():
+    """Each line is answered as its session's, in pieces of any size; the entries have its number, and a trial has none."""
+    asked = b"".join(line + b"\n" for line, _, _ in SESSION_LINES)
+    answers = b"".join(answer + b"\n" for _, answer, _ in SESSION_LINES if answer)
+    entries = [entry for _, _, entry in SESSION_LINES if entry]
+    journal = b"".join(b"%d %s\n" % row for row in enumerate(entries))
+    same(served(asked, "s1", "--sessions"), (0, ready(0) + answers, b""))
+    same(content("s1"), journal)
+    for piece in (1_000, 7_919, 65_536):
+        put("s2", b"")
+        with Serving("s2", "--sessions") as run:
+            run.says(ready(0))
+            run.feed(asked, piece)
+            run.says(answers)
+            same(run.end(), (0, b"", b""))
+        same(content("s2"), journal)
+    same(ran(words=["replay", STANDARD, "s1"])[0], 0)
+
+
+def numbers_behind_answers():
+    """With --numbers the number of its entry stands behind each answer that has one, with sessions and without."""
+    numbered, number = [], 3
+    for _, answer, entry in SESSION_LINES:
+        numbered.append(b"%s %d\n" % (answer, number) if entry else answer + b"\n" if answer else b"")
+        number += entry is not None
+    put("n", FOUR_JOURNAL)
+    asked = b"".join(line + b"\n" for line, _, _ in SESSION_LINES)
+    same(served(asked, "n", "--sessions", "--numbers"), (0, ready(3) + b"".join(numbered), b""))
+    same(served(FOUR, "n2", "--numbers"), (0, ready(0) + b"yes 0\nno star 1\nyes 2\nnot held\n", b""))
+    asked, answers = b"$x = sec create root S hi\nsec get-write root\n$x = sec create root S hi\n", b"no authority 0\nyes 1\ncreated 4 2\n"
+    same(served(asked, "n3", "--numbers", "--session", "5"), (0, ready(0) + answers, b""))
+
+
+def line_by_chance(rnd):
+    """A line of a script, often with a fault, and now and then with a variable."""
+    subject = rnd.choice(["ann", "bob", "sec", "aud", "#0", "#7", "zoe", "#65536"])
+    thing = rnd.choice(["root", "plans", "memo", "tool", "#4", "#5", "#9", "nix", "$x", "x$"])
+    mode, label = rnd.choice(["read", "write", "append", "execute", "frob"]), rnd.choice(["U", "C", "S:A", "T:A,B", "Q", "$S", "hi"])
+    forms = [f"{subject} get-{mode} {thing}", f"{subject} release {mode} {thing}", f"{subject} check {mode} {thing}"]
+    forms += [f"{subject} give {mode} bob {thing}", f"{subject} rescind {mode} ann {thing}", f"sec create root {label} hi", f"sec delete {thing}"]
+    forms += [f"{subject} level {label}", f"sec relabel {thing} {label}", "; $x", "", "junk", "$x = sec create root S hi", "sec get-write root"]
+    return rnd.choice(forms).encode()
+
+
+def lines_of_sessions_by_chance():
+    """Each is answered as a service of one session answers it, but for variables, and as its trial right before it told."""
+    rnd = random.Random(3)
+    lines = [(b"%d" % rnd.randrange(5), line_by_chance(rnd)) for _ in range(1_000)]
+    put("chance", b"")
+    asked = b"".join(number + b" ? " + line + b"\n" + number + b" " + line + b"\n" for number, line in lines)
+    status, output, error = served(asked, "chance", "--sessions")
+    same((status, error), (0, b""))
+    # (in the other service a line with a variable is one that has no form)
+    plain = [(number, b"bad" if b"$" in line and line[:1] != b";" else line) for number, line in lines]
+    put("alone", b"")
+    due = served(b"".join(line + b"\n" for _, line in plain), "alone")
+    same((due[0], due[2]), (0, b""))
+    answers, wanted = iter(due[1].splitlines()[1:]), [b"ready 0"]
+    for number, line in plain:
+        if line and line[:1] != b";":
+            answer = next(answers)
+            wanted += [number + b" ? " + answer, number + b" " + answer]
+    same(output.splitlines(), wanted)
+    same(in_session(content("chance"), 0), content("alone"))
+
+
+def trial_that_syncs_nothing():
+    """A trial adds nothing to the file, and is answered where the file can't grow."""
+    put("trial", FOUR_JOURNAL)
+    many = 5_000 * b"3 ? ann get-read plans\n"
+    same(served(many, "trial", "--sessions"), (0, ready(3) + 5_000 * b"3 ? yes\n", b""))
+    same(content("trial"), FOUR_JOURNAL)
+
+
+def names_before_the_first_line():
+    """The names of START and the accesses that are held come before the number, and tell which of them START opens with."""
+    names = b"subject 0 ann\nsubject 1 bob\nsubject 2 sec\nsubject 3 aud\nobject 0 root\nobject 1 plans\nobject 2 memo\nobject 3 tool\n"
+    same(served(b"", "nm", "--names"), (0, names + ready(0), b""))
+    asked = b"sec get-write root\n$x = sec create root S:B hi\nbob get-execute tool\nann get-read plans\nann get-write plans\nbob release execute tool\n"
+    put("nm", b"")
+    assert served(asked, "nm")[0] == 0
+    held = b"access 0 read 1\naccess 0 write 1\naccess 2 write 0\n"
+    same(served(b"", "nm", "--names"), (0, names + held + ready(6), b""))
+    opens = content(STANDARD).rstrip().removesuffix(b"}").rstrip() + b',"accesses": [{"subject": "ann", "object": "plans", "modes": ["read"]}]}'
+    put("opens.json", opens)
+    begins = names + b"access 0 read 1 start\n"
+    same(served(b"ann release read plans\n", "no", "--names", start="opens.json"), (0, begins + ready(0) + b"yes\n", b""))
+    same(served(b"ann get-read plans\nann get-write plans\n", "no", "--names", start="opens.json"), (0, names + ready(1) + b"yes\nyes\n", b""))
+    same(served(b"", "no", "--names", start="opens.json"), (0, begins + b"access 0 write 1\n" + ready(3), b""))
+    same(served(b"7 ann check read plans\n", "nm", "--names", "--sessions", "--numbers"), (0, names + held + ready(6) + b"7 held\n", b""))
+    with Serving("nm", "--names") as first:
+        first.says(names + held + ready(6))
+        is_refused(b"nm: in use", "nm", "--names", status=75)
+        is_refused(b"nm: in use", "nm", "--recover")
+
+
+def session_beside_sessions():
+    for words in (["--session", "1", "--sessions"], ["--sessions", "--session=1"]):
+        status, output, error = ran(FOUR, ["serve", *words, "--journal", "both", STANDARD])
+        same((words, status, output), (words, 2, b""))
+        assert error.endswith(b"\n") and not os.path.exists("both")
 
 
 def client_that_closes_its_end():
@@ -301,6 +642,7 @@ def client_that_stops_reading():
     same(content("slower"), due.journal)
 
 
+@needs_proof
 def journal_that_grows_to_its_limit():
     """A line is asked as long as there is room for the longest entry: the lines before are answered, then and by a later service."""
     label = b"15:" + b",".join(b"%d" % number for number in range(256))
@@ -336,6 +678,7 @@ def input_that_is_a_folder():
     same(content("i"), b"")
 
 
+@needs_proof
 def memory_that_runs_out():
     """With just the room that it takes to start, and a megabyte, the lines before are answered and in the journal, and no others."""
 
@@ -367,7 +710,14 @@ CHECKS = [
     journal_that_is_in_use,
     journal_that_is_too_long,
     end_that_is_torn,
+    ends_that_are_torn_one_after_the_other,
+    modes_of_files_that_are_made,
     journal_that_no_crash_leaves,
+    damage_that_is_cut_only_where_that_is_asked,
+    one_byte_that_was_changed,
+    words_of_damage,
+    end_that_is_damaged,
+    files_that_are_no_journals,
     journal_of_another_start,
     end_that_cannot_be_kept,
     end_that_is_whole,
@@ -375,6 +725,13 @@ CHECKS = [
     lines_at_their_bounds,
     input_without_an_end,
     client_that_sends_half_a_line_and_waits,
+    line_that_is_not_finished,
+    lines_of_sessions,
+    lines_of_sessions_by_chance,
+    numbers_behind_answers,
+    trial_that_syncs_nothing,
+    names_before_the_first_line,
+    session_beside_sessions,
     client_that_closes_its_end,
     output_that_takes_nothing,
     client_that_stops_reading,

@@ -5,10 +5,25 @@ import tempfile
 
 TOP = os.path.dirname(os.path.dirname(os.path.realpath(__file__)))
 MLS = f"{TOP}/bin/mls"
-PROVE = f"{TOP}/bin/prove"
-PROGRAM = f"{TOP}/crates/mls/out/mls"
 EXAMPLES = f"{TOP}/examples"
-SECONDS = 60
+
+
+def built():
+    """The program that bin/mls runs: the proved one, or else the trial, which it makes where there is none."""
+    kinds = ["proved"] if os.environ.get("MLS_PROVED", "0") != "0" else ["proved", "trial"]
+    words = [f"{TOP}/bin/built", "file", *kinds]
+    found = subprocess.run(words, stdout=subprocess.PIPE, text=True).stdout
+    if not found:
+        subprocess.run([MLS, "--version"], stdin=subprocess.DEVNULL, stdout=subprocess.DEVNULL)
+        found = subprocess.run(words, stdout=subprocess.PIPE, text=True).stdout
+    return found.strip()
+
+
+# (empty where none could be built)
+PROGRAM = built()
+IS_PROVED = "/proved/" in PROGRAM
+# The seconds that a run of it may take.
+SECONDS = 60 if IS_PROVED else 180
 
 
 def ran(script=b"", words=(), **streams):
@@ -54,24 +69,52 @@ def example(name):
         return file.read()
 
 
-def run_checks(what, checks):
-    """Runs checks in a folder that is removed after, prints a line for each, and last 'N passed, M failed'; returns the status."""
-    # (here, since it takes longer than a check may; from then on nothing else is run)
-    if subprocess.run([PROVE], stdin=subprocess.DEVNULL).returncode:
+def rounds(count):
+    """How often a check does again what chance decides: over a trial, which takes ten times as long, a tenth as
+    often."""
+    return count if IS_PROVED else max(1, count // 10)
+
+
+def needs_proof(check):
+    """Marks a check that only the proved program can pass: a trial takes minutes for it, or more memory than it
+    leaves."""
+    check.needs_proof = True
+    return check
+
+
+def why_skipped(check, unfit):
+    if check in unfit:
+        return unfit[check]
+    return "only the proved program is asked this" if hasattr(check, "needs_proof") and not IS_PROVED else ""
+
+
+def outcome_of(check):
+    """Runs a check, and returns why it failed; nothing where it passed."""
+    try:
+        check()
+    except (AssertionError, OSError, StopIteration, subprocess.SubprocessError) as error:
+        return f"FAILED: {error}"
+    return ""
+
+
+def run_checks(what, checks, unfit={}):
+    """Runs checks in a folder that is removed after, but for those that are unfit here, each with the reason. Prints a
+    line for each, and last 'N passed, M failed', or 'N passed, M failed, K skipped'; returns the status."""
+    if not PROGRAM:
         print(f"{what}: NOT BUILT\n0 passed, 1 failed")
         return 1
-    os.environ["MLS_PROVED"] = "1"
-    failed = 0
+    # (so nothing else is run from now on, and a trial doesn't say that it is one)
+    os.environ.update({"MLS_PROVED": "1"} if IS_PROVED else {"MLS_TRIAL": "quiet"})
+    failed = skipped = 0
     with tempfile.TemporaryDirectory() as elsewhere:
         os.chdir(elsewhere)
         for check in checks:
-            name = check.__name__.replace("_", " ")
-            try:
-                check()
-                print(f"{what}: {name}: ok", flush=True)
-            except (AssertionError, OSError, StopIteration, subprocess.SubprocessError) as error:
-                failed += 1
-                print(f"{what}: {name}: FAILED: {error}", flush=True)
+            why = why_skipped(check, unfit)
+            fault = "" if why else outcome_of(check)
+            skipped, failed = skipped + bool(why), failed + bool(fault)
+            told = f"skipped: {why}" if why else fault or "ok"
+            print(f"{what}: {check.__name__.replace('_', ' ')}: {told}", flush=True)
         os.chdir("/")
-    print(f"{len(checks) - failed} passed, {failed} failed")
+    ending = f", {skipped} skipped" if skipped else ""
+    print(f"{len(checks) - failed - skipped} passed, {failed} failed{ending}")
     return 1 if failed else 0

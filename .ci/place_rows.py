@@ -6,7 +6,7 @@ import re
 
 import question_worlds as worlds
 import start_rows as rows
-from outside import example, put, ran_program, same
+from outside import example, needs_proof, put, ran_program, same
 
 SEED, DAMAGES = 1977, 240
 NAME = "s.json"
@@ -195,6 +195,10 @@ def unknown_members():
     for key, written in KEYS:
         text = rows.SMALL.replace('{"name":"o"', '{' + f'{json.dumps(key, ensure_ascii=False)}:0,"name":"o"', 1)
         same((key, places(text.encode())), (key, [f"/objects/1/{written}: unknown member"]))
+
+
+@needs_proof
+def many_unknown_members():
     many = "".join(f'"x{number}":null,' for number in range(100_000))
     same(places(rows.SMALL.replace("{", "{" + many, 1).encode()), ["/x0: unknown member"])
 
@@ -315,11 +319,13 @@ def chain(subjects, objects, last):
             f'"matrix":[]}}').encode()
 
 
+@needs_proof
 def files_of_many_subjects_and_objects():
     for (subjects, objects, last, _), place in zip([it for it in rows.COUNTS if it[3]], COUNTS, strict=True):
         same((subjects, objects, last, places(chain(subjects, objects, last))), (subjects, objects, last, [place]))
 
 
+@needs_proof
 def files_of_one_name_or_of_many_cells():
     """Places are told in time that grows with the file: of 60,000 objects of one name, and of 60,000 cells of which two are refused."""
     objects = ",".join([rows.CHILD] * 60_000)
@@ -483,7 +489,8 @@ def random_damages():
 
 
 CHECKS = [
-    members_left_out, unknown_members, values_of_other_types, texts_that_are_no_json, files_that_are_cut, numbers_and_surrogates, schemes,
+    members_left_out, unknown_members, many_unknown_members, values_of_other_types, texts_that_are_no_json, files_that_are_cut,
+    numbers_and_surrogates, schemes,
     labels_in_each_place, names_of_subjects_and_objects, names_that_stand_for_nothing, starts_that_are_refused, accesses, profiles, two_faults_at_once,
     several_places, changes_of_the_standard_file, files_of_many_subjects_and_objects, files_of_one_name_or_of_many_cells, random_damages,
 ]

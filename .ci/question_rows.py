@@ -10,6 +10,12 @@ STRANGE = (
     b"4 1 0 give read 8 9 undefined\n5 0 0 create 4 9 5 undefined\n6 0 2 delete 4 yes\n7 0 2 get-read 4 undefined\n"
 )
 
+# A journal in which permissions are given to bob and rescinded, by a subject that may and by one that may not.
+GIVEN = (
+    b"0 0 2 get-write 0 yes\n1 0 2 give read 1 1 yes\n2 0 2 rescind read 1 1 yes\n3 0 1 get-read 1 no discretionary\n"
+    b"4 0 0 give read 1 1 no authority\n"
+)
+
 ASKED = [
     ("bob get-read memo", "no star\n", 4),
     ("ann get-read plans", "yes\n", 0),
@@ -128,14 +134,21 @@ LISTED = [
     (["--reply", "created"], "1 session 0 sec create root S:B hi: created 4\n", 0),
     (["--object", "#4", "--to", "5"], "1 session 0 sec create root S:B hi: created 4\n2 session 1 sec relabel #4 9:7: undefined\n"
      "5 session 0 ann create #4 9 5: undefined\n", 0),
+    (["--reply", "created 4"], "1 session 0 sec create root S:B hi: created 4\n", 0),
+    (["--reply", "created 5"], "", 4),
+    (["--reply", "created 65535"], "", 4),
     (["--subject", "#9"], "3 session 1 #9 give read #9 #9: undefined\n", 0),
+    (["--by", "#9"], "3 session 1 #9 give read #9 #9: undefined\n", 0),
+    (["--subject", "#8"], "4 session 1 ann give read #8 #9: undefined\n", 0),
+    (["--by", "#8"], "", 4),
+    (["--subject", "#8", "--by", "ann"], "4 session 1 ann give read #8 #9: undefined\n", 0),
+    (["--subject", "#8", "--by", "sec"], "", 4),
     (["--subject", "ann", "--session", "0"], "5 session 0 ann create #4 9 5: undefined\n", 0),
     (["--from", "6", "--to", "6"], "6 session 0 sec delete #4: yes\n", 0),
-    (["--from", "7", "--to", "6"], "", 4),
     (["--reply", "no star"], "", 4),
-    (["--reply", "creat"], "", 4),
     (["--summary"], "entries 8\nann undefined 2\nsec yes 2\nsec created 1\nsec undefined 2\n#9 undefined 1\n", 0),
     (["--summary", "--reply", "no"], "entries 0\n", 4),
+    (["--summary", "--subject", "#8"], "entries 1\nann undefined 1\n", 0),
     (["--json", "--to", "1"],
      '{"number":0,"session":0,"subject":2,"subject_name":"sec","action":"get-write","object":0,"object_name":"root","reply":"yes"}\n'
      '{"number":1,"session":0,"subject":2,"subject_name":"sec","action":"create","parent":0,"parent_name":"root","security":"S:B",'
@@ -144,6 +157,42 @@ LISTED = [
      '{"number":2,"session":1,"subject":2,"subject_name":"sec","action":"relabel","object":4,"security":"9:7","reply":"undefined"}\n'
      '{"number":3,"session":1,"subject":9,"action":"give","mode":"read","whose":9,"object":9,"reply":"undefined"}\n'
      '{"number":4,"session":1,"subject":0,"subject_name":"ann","action":"give","mode":"read","whose":8,"object":9,"reply":"undefined"}\n', 0),
+]
+
+# What is asked of the journal GIVEN, and the entries that are listed.
+TO_BOB = [
+    "1 session 0 sec give read bob plans: yes\n", "2 session 0 sec rescind read bob plans: yes\n",
+    "3 session 0 bob get-read plans: no discretionary\n", "4 session 0 ann give read bob plans: no authority\n",
+]
+ABOUT = [
+    (["--subject", "bob"], "".join(TO_BOB), 0),
+    (["--by", "bob"], TO_BOB[2], 0),
+    (["--subject", "bob", "--by", "sec"], TO_BOB[0] + TO_BOB[1], 0),
+    (["--subject", "sec"], "0 session 0 sec get-write root: yes\n" + TO_BOB[0] + TO_BOB[1], 0),
+    (["--subject", "bob", "--reply", "yes"], TO_BOB[0] + TO_BOB[1], 0),
+    (["--subject", "bob", "--reply", "no authority"], TO_BOB[3], 0),
+    (["--subject", "aud"], "", 4),
+    (["--summary", "--subject", "bob"], "entries 4\nann no 1\nbob no 1\nsec yes 2\nno discretionary 1\nno authority 1\n", 0),
+    (["--summary", "--by", "bob"], "entries 1\nbob no 1\nno discretionary 1\n", 0),
+]
+
+# Words with which no reply begins.
+NO_REPLIES = [
+    "", " ", "denied", "creat", "No", "no ", " no", "no sta", "no star ", "no  star", "no stars", "no yes", "nostar", "yes no", "yes ", "created ",
+    "created 04", "created 65536", "created -1", "created x", "created  4", "created 4 ", "created4", "undefined 4", "no star\n",
+]
+
+# A start file with members that are written twice, the names of which are told; what stands within a value that doesn't count isn't.
+TWICE = [
+    ([('"trusted": true', '"trusted": false, "trusted": true')], ["/subjects/2/trusted"]),
+    ([('"matrix"', '"accesses": {"a": 1, "a": 2}, "accesses": [], "profile": 2, "profile": 1, "matrix"')], ["/accesses", "/profile"]),
+    ([('"levels": ["lo"', '"levels": 7, "levels": [], "levels": ["lo"')], ["/integrity/levels"]),
+    ([('"security": {', '"integrity": {"levels": [], "levels": []}, "security": {"categories": [],')], ["/security/categories", "/integrity"]),
+    ([('"name": "root", "parent": null', '"name": "a", "name": "root", "parent": 1, "parent": null, "security": "T"')],
+     ["/objects/0/name", "/objects/0/parent", "/objects/0/security"]),
+    ([('"subject": "bob"', '"modes": [], "object": "x", "subject": "ann", "subject": "bob"')],
+     ["/matrix/3/subject", "/matrix/3/object", "/matrix/3/modes"]),
+    ([('"name": "aud"', '"na\\u006de": "ann", "maximum": "U", "name": "aud"')], ["/subjects/3/name", "/subjects/3/maximum"]),
 ]
 
 STATES = [
@@ -239,6 +288,23 @@ def listed_entries():
         answered(["journal", *words, STANDARD, "strange.journal"], text, status)
     refused(["journal", "--subject", "zoe", STANDARD, "strange.journal"], "mls: zoe: bad name\n")
     refused(["journal", "--object", "file", STANDARD, "strange.journal"], "mls: file: bad name\n")
+    refused(["journal", "--by", "zoe", STANDARD, "strange.journal"], "mls: zoe: bad name\n")
+    refused(["journal", "--object", "file", "--by", "yan", "--subject", "zoe", STANDARD, "strange.journal"], "mls: zoe: bad name\n")
+    refused(["journal", "--object", "file", "--by", "yan", "--subject", "ann", STANDARD, "strange.journal"], "mls: yan: bad name\n")
+
+
+def entries_about_a_subject():
+    put("given.journal", GIVEN)
+    for words, text, status in ABOUT:
+        answered(["journal", *words, STANDARD, "given.journal"], text, status)
+
+
+def words_that_begin_no_reply():
+    for words in NO_REPLIES:
+        refused(["journal", f"--reply={words}", "no.json", "no.journal"], f"mls: --reply {words}: begins no reply\n", 2)
+    refused(["journal", "--from", "7", "--to", "6", "no.json", "no.journal"], "mls: --from 7: above --to 6\n", 2)
+    refused(["journal", "--to", "0", "--from", str(2 ** 64 - 1), "no.json", "no.journal"], f"mls: --from {2 ** 64 - 1}: above --to 0\n", 2)
+    refused(["journal", "--from", "7", "--to", "6", "--reply", "denied", "no.json", "no.journal"], "mls: --reply denied: begins no reply\n", 2)
 
 
 def states_of_a_journal():
@@ -259,7 +325,21 @@ def suspicious_examples():
         answered(["lint", start], text, status)
 
 
+def members_that_are_repeated():
+    with open(STANDARD, encoding="ascii") as file:
+        standard = file.read()
+    for changes, places in TWICE:
+        text = standard
+        for old, new in changes:
+            assert old in text, f"{old} isn't in {STANDARD}"
+            text = text.replace(old, new, 1)
+        put("twice.json", text.encode())
+        same(ran_program(["check", "twice.json"])[0], 0)
+        answered(["lint", "twice.json"], "".join(f"{it}: repeated member\n" for it in places) + LINTED[0][1], 4)
+
+
 CHECKS = [
     lines_that_are_asked, lines_that_are_explained, lines_that_ask_nothing, subjects_who_may, entries_that_are_explained, states_before_entries,
     faults_in_their_order, words_that_no_question_has, listed_entries, states_of_a_journal, suspicious_examples, drawing_of_the_standard_start,
+    entries_about_a_subject, words_that_begin_no_reply, members_that_are_repeated,
 ]

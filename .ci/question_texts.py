@@ -17,13 +17,18 @@ class Entry:
         named = [it for kind, it in zip(KINDS[self.action[0]], self.action[1:]) if kind == "object"]
         return named + ([int(self.reply.split()[1])] if self.reply.startswith("created") else [])
 
+    def subjects(self):
+        """The subjects that an entry is about: the one that asked, and one that a permission is given to or rescinded."""
+        return [self.subject] + [it for kind, it in zip(KINDS[self.action[0]], self.action[1:]) if kind == "subject"]
 
-def listed(state, entries, subject=None, object=None, session=None, reply=None, first=0, last=None):
+
+def listed(state, entries, subject=None, by=None, object=None, session=None, reply=None, first=0, last=None):
     """The entries that meet all that is asked for."""
     words = reply.split() if reply else []
     return [
         it for it in entries
-        if (subject is None or it.subject == subject) and (object is None or object in it.objects())
+        if (subject is None or subject in it.subjects()) and (by is None or it.subject == by)
+        and (object is None or object in it.objects())
         and (session is None or it.session == session) and it.reply.split()[: len(words)] == words
         and it.number >= first and (last is None or it.number <= last)
     ]

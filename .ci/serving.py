@@ -4,8 +4,10 @@ import fcntl
 import os
 import select
 import shutil
+import stat
 import subprocess
 import sys
+import tempfile
 import termios
 import threading
 import time
@@ -75,6 +77,20 @@ def content(name):
 
 def ready(number):
     return b"ready %d\n" % number
+
+
+def failed(name, call, errno):
+    """What is told of a call on a file that failed."""
+    return b"mls: %s: %s: %s (os error %d)\n" % (name.encode(), call.encode(), os.strerror(errno).encode(), errno)
+
+
+def status_of(call):
+    """The status after a call on a file that failed."""
+    return 5 if call in ("append", "sync") else 1
+
+
+def mode_of(name):
+    return stat.S_IMODE(os.stat(name).st_mode)
 
 
 def words_of(journal, *flags, start=STANDARD):
@@ -175,6 +191,44 @@ class Serving:
 
 def has_compiler():
     return shutil.which("cc") is not None
+
+
+class SmallDisk:
+    """A folder with a file system of its own, of so many bytes."""
+
+    def __init__(self, folder, size):
+        self.folder, self.size = folder, size
+
+    def __enter__(self):
+        os.mkdir(self.folder)
+        subprocess.run(["mount", "-t", "tmpfs", "-o", f"size={self.size}", "none", self.folder], check=True, capture_output=True)
+        return self
+
+    def grow(self, size):
+        subprocess.run(["mount", "-o", f"remount,size={size}", self.folder], check=True)
+
+    def __exit__(self, *_):
+        subprocess.run(["umount", self.folder], check=True)
+
+
+def can_mount():
+    """Whether a file system can be mounted here: root can, unless it is in a container that can't."""
+    with tempfile.TemporaryDirectory() as elsewhere:
+        try:
+            with SmallDisk(f"{elsewhere}/disk", 65_536):
+                return True
+        except (OSError, subprocess.SubprocessError):
+            return False
+
+
+def unfit_for_shim(checks):
+    """Those of these checks that can't be made here, with the reason: all where there is no C compiler."""
+    return {} if has_compiler() else dict.fromkeys(checks, "there is no C compiler")
+
+
+def unfit_for_disks(checks):
+    """Those of these checks that can't be made here, with the reason: all where no small disk can be mounted."""
+    return {} if can_mount() else dict.fromkeys(checks, "no file system can be mounted here")
 
 
 def shim(**words):

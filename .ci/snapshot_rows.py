@@ -4,7 +4,7 @@ import json
 import os
 
 import question_worlds as worlds
-from outside import EXAMPLES, example, examples, put, ran_program, same
+from outside import EXAMPLES, example, examples, needs_proof, put, ran_program, same
 from policy import KINDS, MODES, State, words_of
 
 # A number that no object has.
@@ -304,6 +304,7 @@ def many_cells(objects):
     return json.dumps(data, separators=(",", ":")).encode()
 
 
+@needs_proof
 def texts_at_their_limit():
     none = put("none.journal", b"")
     text = snapshot(put("fits.json", many_cells(500)), none)

@@ -1,98 +1,249 @@
-"""Checks of bin/mls where nothing is proved, and of bin/prove where all is. check-program runs them."""
-import concurrent.futures
+"""Checks of bin/mls where nothing is proved, and of bin/prove where all is. check-program runs them, in copies of the
+checkout. One trial at the most is made in earnest. Where it is tried what else may happen as one is made, a script plays
+the toolchain's rt."""
 import os
 import pty
+import select
 import shutil
+import signal
 import subprocess
+import termios
 import time
 
-from outside import EXAMPLES, PROVE, TOP, put, ran, same, shown
+from outside import EXAMPLES, IS_PROVED, PROGRAM, SECONDS, TOP, needs_proof, put, ran, same, shown
 
-# What the toolchain may take for a trial, in bytes, and what checks beside it may.
-MEMORY_OF_A_TRIAL = 7_000_000_000
 SECONDS_OF_A_TRIAL = 900
 SECONDS_OF_NOTHING = 30
 FOUR = b"ann get-read plans\nbob get-read memo\nann release read plans\nann check read plans\n"
-# The words and the input of each trial: a script on standard input, files by relative names, one of which is written,
-# and a start that is refused.
-TRIALS = [
-    ([], FOUR),
-    (["run", "--journal", "sub/journal", "sub/start.json", "script"], b""),
-    (["check", "./refused.json"], b""),
-    (["explain", "sub/start.json", "bob get-read memo"], b""),
-    (["journal", "--reply", "no", "--subject", "bob", "sub/start.json", "sub/asked"], b""),
-]
+ANSWERS = b"yes\nno star\nyes\nnot held\n"
+TOLD = b"mls: a checked trial of the program runs, not a proved one: bin/prove proves it\n"
+MAKING = b"mls: making a checked trial of the program, once: a minute or two\n"
+# What plays rt: it notes each try, and compiles the program that is named into a folder below TMPDIR, where it runs it.
+PLAYED = """#!/bin/sh
+echo "$*" >>tries
+%s
+mkdir -p "$TMPDIR/rt-try/native"
+cp %s "$TMPDIR/rt-try/native/program"
+while [ "$1" != -- ]; do shift; done
+shift
+exec "$TMPDIR/rt-try/native/program" "$@"
+"""
 
 
-def bare():
-    """The name of bin/mls in a copy of the checkout in which nothing is built."""
-    if not os.path.isdir("bare"):
-        shutil.copytree(TOP, "bare", symlinks=True, ignore=shutil.ignore_patterns("out", ".git"))
-    return os.path.abspath("bare/bin/mls")
+class Copy:
+    """A copy of the checkout, in which nothing is built."""
+
+    def __init__(self, name):
+        self.top = os.path.abspath(name)
+        shutil.copytree(TOP, self.top, symlinks=True, ignore=shutil.ignore_patterns("out", ".git"))
+        self.mls, self.out = f"{self.top}/bin/mls", f"{self.top}/crates/mls/out"
+        self.env = {**os.environ, "MLS_PROVED": "", "MLS_TRIAL": ""}
+
+    def plays(self, does="", program=PROGRAM):
+        """Has rt played from now on: it does something before it compiles that program."""
+        os.makedirs(f"{self.top}/played", exist_ok=True)
+        put(f"{self.top}/played/rt", (PLAYED % (does, program)).encode())
+        os.chmod(f"{self.top}/played/rt", 0o755)
+        self.env["PATH"] = f"{self.top}/played:{os.environ['PATH']}"
+
+    def tries(self):
+        """How often rt was asked for a trial."""
+        name = f"{self.top}/crates/mls/tries"
+        return open(name, encoding="utf-8").read().count("\n") if os.path.exists(name) else 0
+
+    def start(self, *words, **how):
+        """Starts bin/mls, which an interrupt ends also where whoever runs the checks ignores interrupts."""
+        pipes = dict.fromkeys(("stdin", "stdout", "stderr"), subprocess.PIPE)
+        heed = {"preexec_fn": lambda: signal.signal(signal.SIGINT, signal.SIG_DFL)}
+        return subprocess.Popen([self.mls, *words], **{**pipes, **heed, "env": self.env, **how})
+
+    def ran(self, *words, script=FOUR, seconds=SECONDS):
+        """What bin/mls gives: its status, its output and its error text."""
+        with self.start(*words) as run:
+            output, error = run.communicate(script, timeout=seconds)
+        return run.returncode, output, error
+
+    def built(self, *words):
+        """What bin/built prints."""
+        done = subprocess.run([f"{self.top}/bin/built", *words], check=True, stdout=subprocess.PIPE, text=True)
+        return done.stdout.strip()
+
+    def change(self):
+        """Changes a source."""
+        with open(f"{self.top}/crates/mls/src/main.rt", "ab") as file:
+            file.write(b"// changed\n")
 
 
-def unbuilt(words, script=b"", proved="", **streams):
-    """Runs mls where nothing is built, and returns its status, its output and its error text."""
-    given = {} if "stdin" in streams else {"input": script}
-    given.update(streams, env={**os.environ, "MLS_PROVED": proved})
-    done = subprocess.run([bare(), *words], capture_output=True, timeout=SECONDS_OF_A_TRIAL, **given)
-    return done.returncode, done.stdout, done.stderr
+def with_a_trial(name):
+    """A copy with a trial: the one that this checkout keeps, or else one that is made here."""
+    copy = Copy(name)
+    if IS_PROVED and not os.path.isdir("made"):
+        same(copy.ran(seconds=SECONDS_OF_A_TRIAL), (0, ANSWERS, MAKING + TOLD))
+        shutil.copytree(f"{copy.out}/trial", "made")
+    else:
+        shutil.copytree("made" if IS_PROVED else f"{TOP}/crates/mls/out/trial", f"{copy.out}/trial")
+    return copy
 
 
-def side_by_side():
-    """How many trials may run at once."""
-    with open("/proc/meminfo", encoding="ascii") as file:
-        free = next(int(line.split()[1]) * 1024 for line in file if line.startswith("MemAvailable:"))
-    return max(1, min(len(TRIALS), len(os.sched_getaffinity(0)), free // MEMORY_OF_A_TRIAL))
+def trial_that_is_kept():
+    """It answers as a proved program does, with the words and the streams as they are, by the same names."""
+    copy = with_a_trial("kept")
+    same(copy.ran(), (0, ANSWERS, b""))
+    words = ["run", "--serial", "--journal", "kept.journal", f"{EXAMPLES}/standard.json", put("kept.script", FOUR)]
+    same(copy.ran(*words)[::2], (0, b""))
+    same(copy.ran("replay", f"{EXAMPLES}/standard.json", "kept.journal"), (0, b"entries 3\nsecure yes\n", b""))
+    same(copy.ran("check", "/dev/stdin", script=b"{}"), (1, b"", b"mls: /dev/stdin: start 2 Members\n"))
+    same(copy.ran(b"\xff", "check"), ran(words=[b"\xff", "check"]))
+    assert b"\nUsage: mls [" in copy.ran("--help")[1], "help names another program"
 
 
-def answers_by_trial():
-    """After one line that says so, a trial answers as the proved program does, byte for byte, by the same names."""
-    os.mkdir("sub")
-    shutil.copy(f"{EXAMPLES}/standard.json", "sub/start.json")
-    put("script", FOUR)
-    put("sub/asked", b"0 0 1 get-read 2 no star\n")
-    with open(f"{EXAMPLES}/standard.json", "rb") as start:
-        put("refused.json", start.read().replace(b'"T:A,B"', b'"T:A,A"'))
-    bare()
-    with concurrent.futures.ThreadPoolExecutor(side_by_side()) as pool:
-        found = [*pool.map(lambda it: unbuilt(*it), TRIALS)]
-    with open("sub/journal", "rb") as journal:
-        written = journal.read()
-    for (words, script), (status, output, error) in zip(TRIALS, found):
-        told, _, rest = error.partition(b"\n")
-        assert b"bin/prove" in told, f"{words}: {shown(error)}"
-        same((words, (status, output, rest)), (words, ran(script, words)))
-    same(found[2][::2], (1, found[2][2].partition(b"\n")[0] + b"\nmls: ./refused.json: start 5 Label\n"))
-    with open("sub/journal", "rb") as journal:
-        same(written, journal.read())
+def read_until(terminal, wanted):
+    """What a terminal shows up to the text that is wanted."""
+    found = b""
+    while not found.endswith(wanted):
+        assert select.select([terminal], [], [], SECONDS)[0], f"nothing comes after {shown(found)}"
+        found += os.read(terminal, 1)
+    return found
 
 
-def refusals_where_nothing_is_proved():
-    """What asks for the proved program alone, or types at a terminal, is told at once to prove first."""
-    terminal, other = pty.openpty()
-    asked = [unbuilt(["--proved"], FOUR), unbuilt([], FOUR, proved="1"), unbuilt([], stdin=other)]
-    asked.append(unbuilt(["serve", "--journal", "none", f"{EXAMPLES}/standard.json"], FOUR))
-    for found in (*asked, unbuilt(["check", "/dev/stdin"], FOUR)):
-        same(found[:2], (126, b""))
-        assert found[2].count(b"\n") == 1 and b"run bin/prove first" in found[2], shown(found)
-    assert not os.path.exists("none"), "a journal was made"
-    os.close(terminal)
-    os.close(other)
+def lines_that_are_typed():
+    """At a terminal it is told each time that a trial answers, unless that is to be quiet, and each line is answered
+    before the next is typed."""
+    copy = with_a_trial("typed")
+    for quiet, told in (("", TOLD), ("quiet", b"")):
+        copy.env["MLS_TRIAL"] = quiet
+        terminal, other = pty.openpty()
+        attributes = termios.tcgetattr(other)
+        attributes[3] &= ~termios.ECHO
+        termios.tcsetattr(other, termios.TCSANOW, attributes)
+        with copy.start(stdin=other, stdout=other, stderr=other) as run:
+            os.close(other)
+            said = told.replace(b"\n", b"\r\n")
+            for line, answer in zip(FOUR.splitlines(), ANSWERS.splitlines()):
+                os.write(terminal, line + b"\n")
+                same((line, read_until(terminal, answer + b"\r\n")), (line, said + answer + b"\r\n"))
+                said = b""
+            os.write(terminal, b"\x04")
+            same(run.wait(SECONDS), 0)
+        os.close(terminal)
 
 
-def words_that_no_trial_is_given():
-    same(unbuilt([b"\xff", "check"]), ran(words=[b"\xff", "check"]))
+def service_that_is_killed():
+    """A service over a trial is killed once it has answered, and the next goes on with its journal."""
+    copy = with_a_trial("served")
+    words = ["--journal", "served.journal", f"{EXAMPLES}/standard.json"]
+    with copy.start("serve", *words) as run:
+        os.write(run.stdin.fileno(), b"ann get-read plans\n")
+        same(read_until(run.stdout.fileno(), b"yes\n"), b"ready 0\nyes\n")
+        run.kill()
+    same(copy.ran("serve", "--recover", *words), (0, b"ready 1\n" + ANSWERS, b""))
 
 
+def two_first_runs_at_once():
+    """They make the trial once; each says that it is one, and answers."""
+    copy = Copy("race")
+    copy.plays("sleep 2")
+    first, second = copy.start(), copy.start()
+    for run in (first, second):
+        output, error = run.communicate(FOUR, timeout=SECONDS)
+        same((run.returncode, output, error), (0, ANSWERS, MAKING + TOLD))
+    same(copy.tries(), 1)
+    same((copy.ran(), copy.tries()), ((0, ANSWERS, b""), 1))
+
+
+def source_that_changes():
+    """It ends the use of a trial, and of a proved program; and a trial isn't kept of sources that changed while it was
+    made."""
+    copy = Copy("changed")
+    copy.plays()
+    copy.env["MLS_TRIAL"] = "quiet"
+    same((copy.ran(), copy.ran(), copy.tries()), ((0, ANSWERS, b""), (0, ANSWERS, b""), 1))
+    copy.change()
+    same((copy.ran(), copy.tries()), ((0, ANSWERS, b""), 2))
+    copy.built("keep", "proved", PROGRAM, copy.built("sum"))
+    same((copy.ran("--proved"), copy.ran(), copy.tries()), ((0, ANSWERS, b""), (0, ANSWERS, b""), 2))
+    copy.change()
+    same(copy.ran("--proved")[:2], (126, b""))
+    same((copy.ran(), copy.tries()), ((0, ANSWERS, b""), 3))
+    copy.change()
+    copy.plays("echo >>src/main.rt")
+    status, output, error = copy.ran()
+    same((status, output), (126, b""))
+    assert b"a source changed while the program was built" in error, shown(error)
+    copy.plays()
+    same((copy.ran(), copy.tries()), ((0, ANSWERS, b""), 5))
+
+
+def proved_program_alone():
+    """What asks for it is told at once to prove first, though there is a trial; so is the first run."""
+    copy = with_a_trial("alone")
+    for _ in range(2):
+        copy.env["MLS_PROVED"] = ""
+        asked = [copy.ran("--proved"), copy.ran("--proved", "--version")]
+        copy.env["MLS_PROVED"] = "1"
+        for found in (*asked, copy.ran()):
+            same(found[:2], (126, b""))
+            assert found[2].count(b"\n") == 1 and b"run bin/prove first" in found[2], shown(found)
+        shutil.rmtree(copy.out, ignore_errors=True)
+
+
+def toolchain_that_fails():
+    """What it says is shown, and nothing runs; a later run makes the trial."""
+    copy = Copy("failing")
+    rows = [("echo 'error: this is no program' >&2; exit 1", b"error: this is no program\n"),
+            ("echo it was killed; kill -9 $$", b"it was killed\n"), ("exit 0", b"")]
+    for does, told in rows:
+        copy.plays(does)
+        status, output, error = copy.ran()
+        same((does, status, output), (does, 126, b""))
+        assert told in error and error.endswith(b"mls: no trial of the program was made\n"), shown(error)
+    copy.plays(program="/no/such/program")
+    same(copy.ran()[:2], (126, b""))
+    copy.plays()
+    same(copy.ran(), (0, ANSWERS, MAKING + TOLD))
+
+
+def trial_that_is_interrupted():
+    """Where its making is interrupted, nothing of it goes on and nothing is left; a later run makes it."""
+    copy = Copy("interrupted")
+    os.mkdir("temporary")
+    copy.env["TMPDIR"] = os.path.abspath("temporary")
+    for number in (signal.SIGINT, signal.SIGTERM):
+        copy.plays('exec sleep 1000')
+        before = copy.tries()
+        with copy.start() as run:
+            ends = time.monotonic() + SECONDS
+            while copy.tries() == before and time.monotonic() < ends:
+                time.sleep(0.1)
+            run.send_signal(number)
+            try:
+                same((number, run.wait(SECONDS), run.stdout.read()), (number, 130, b""))
+            finally:
+                run.kill()
+        same((number, os.listdir("temporary")), (number, []))
+    copy.plays()
+    same(copy.ran(), (0, ANSWERS, MAKING + TOLD))
+
+
+@needs_proof
 def proof_of_what_is_proved():
     """Where all is proved, bin/prove has nothing to do, and the proved program alone answers."""
-    begun = time.monotonic()
-    done = subprocess.run([PROVE], stdin=subprocess.DEVNULL, capture_output=True, timeout=SECONDS_OF_NOTHING)
+    begun, prove = time.monotonic(), f"{TOP}/bin/prove"
+    done = subprocess.run([prove], stdin=subprocess.DEVNULL, capture_output=True, timeout=SECONDS_OF_NOTHING)
     same((done.returncode, done.stdout, done.stderr), (0, b"", b""))
     assert time.monotonic() - begun < SECONDS_OF_NOTHING
-    same(ran(FOUR, ["--proved"]), (0, b"yes\nno star\nyes\nnot held\n", b""))
-    assert subprocess.run([PROVE, "--jobs", "none"], capture_output=True).returncode == 2
+    same(ran(FOUR, ["--proved"]), (0, ANSWERS, b""))
+    assert subprocess.run([prove, "--jobs", "none"], capture_output=True).returncode == 2
 
 
-CHECKS = [answers_by_trial, refusals_where_nothing_is_proved, words_that_no_trial_is_given, proof_of_what_is_proved]
+CHECKS = [
+    trial_that_is_kept,
+    lines_that_are_typed,
+    service_that_is_killed,
+    two_first_runs_at_once,
+    source_that_changes,
+    proved_program_alone,
+    toolchain_that_fails,
+    trial_that_is_interrupted,
+    proof_of_what_is_proved,
+]

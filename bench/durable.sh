@@ -12,4 +12,4 @@ bin/prove || exit 1
 folder=$(mktemp -d -- "$below/durable.XXXXXX") || exit 1
 trap 'rm -r "$folder"' EXIT
 echo "disk: $(df --output=fstype,source -- "$folder" | tail -n 1)"
-python3 bench/durable.py crates/mls/out/mls examples/standard.json "$folder"
+python3 bench/durable.py crates/mls/out/proved/mls examples/standard.json "$folder"

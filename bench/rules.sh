@@ -7,7 +7,7 @@ export LC_ALL=C
 cd "$(dirname -- "$0")/.." || exit 1
 bin/prove || exit 1
 command -v valgrind >/dev/null || { echo "bench/rules.sh: valgrind isn't there" >&2; exit 1; }
-program=$PWD/crates/mls/out/mls
+program=$PWD/crates/mls/out/proved/mls
 folder=$(mktemp -d) || exit 1
 trap 'rm -r "$folder"' EXIT
 

@@ -6,7 +6,7 @@ set -u
 export LC_ALL=C
 cd "$(dirname -- "$0")/.." || exit 1
 bin/prove || exit 1
-program=$PWD/crates/mls/out/mls
+program=$PWD/crates/mls/out/proved/mls
 folder=$(mktemp -d) || exit 1
 trap 'rm -r "$folder"' EXIT
 bench/large-start 2097152 >"$folder/start.json"

@@ -4,8 +4,8 @@ import sys
 
 from outside import TOP
 
-sys.path.insert(1, f"{TOP}/c")
-from ask import Answer, Fault, Handle, Label, Request
+sys.path.insert(1, f"{TOP}/python")
+from mls.library import Answer, Fault, Handle, Label, Request
 
 OK, CLOSED, INVALID, START, JOURNAL, REPLAY, NOT_FOUND, TOO_SHORT = 0, -1, -4, -5, -6, -7, -9, -8
 GET, DENIED, DISCRETIONARY = 0, 16, 1

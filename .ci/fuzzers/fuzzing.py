@@ -9,8 +9,8 @@ import signal
 import struct
 import time
 
-# The seconds that an input may take, with all that is run for it.
-SECONDS = 60
+from outside import IS_PROVED, SECONDS
+
 # The least share of the inputs that must be accepted.
 SHARE = 0.1
 # How many failures end a reader's inputs.
@@ -18,6 +18,8 @@ MOST_FAILURES = 3
 # What the parent process knows of the input that is being judged: its number, its length and its bytes.
 RECORD = 1 << 25
 HEAD = struct.Struct("<QQ")
+# The memory of a program that is run. A trial reserves far more than it uses, for its checks.
+ROOM = 1 << 30 if IS_PROVED else resource.RLIM_INFINITY
 
 
 class Fuzzer:
@@ -25,7 +27,7 @@ class Fuzzer:
     how many bytes of memory its process may take beside what it has before its first input, which is also the limit of
     each program that it runs."""
 
-    name, count, wanted, room = "", 0, frozenset(), 1 << 30
+    name, count, wanted, room = "", 0, frozenset(), ROOM
 
     def prepare(self):
         """Makes what all inputs need, in the process and in the folder in which they are judged."""
@@ -77,7 +79,8 @@ def keep(fuzzer, record):
 def judge_all(fuzzer, seed, count, record, report):
     """Makes and judges so many inputs, each within its time."""
     fuzzer.prepare()
-    resource.setrlimit(resource.RLIMIT_AS, 2 * [taken() + fuzzer.room])
+    if fuzzer.room != resource.RLIM_INFINITY:
+        resource.setrlimit(resource.RLIMIT_AS, 2 * [taken() + fuzzer.room])
     resource.setrlimit(resource.RLIMIT_CORE, (0, 0))
     for number in range(count):
         signal.alarm(SECONDS)

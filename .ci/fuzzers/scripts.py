@@ -4,17 +4,17 @@ import script_rows
 from answers import ALL_ANSWERS, FAULTS, are_numbered, compared, lines_in
 from formats import SCRIPT_LIMIT
 from fuzzing import Fuzzer
-from outside import example, ran_program, shown
+from outside import IS_PROVED, example, ran_program, shown
 from start_format import start_of
 
-# The shares of scripts of the most bytes, and of those that use up the numbers of objects.
-LONG, USED_UP = 0.004, 0.002
+# The shares of scripts of the most bytes, of which a trial gets none, and of those that use up the numbers of objects.
+LONG, USED_UP = 0.004 if IS_PROVED else 0, 0.002
 
 
 class Scripts(Fuzzer):
     """A script is accepted where a line of it is answered and none has a fault."""
 
-    name, count, wanted = "scripts", 5_000, {*ALL_ANSWERS, "too long"}
+    name, count, wanted = "scripts", 5_000, {*ALL_ANSWERS, "too long"} if IS_PROVED else {*ALL_ANSWERS}
 
     def prepare(self):
         self.start = start_of(example("standard.json"))

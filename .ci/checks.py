@@ -1,0 +1,146 @@
+"""The checks of this repository, in one list. bin/test and .ci/run run them: each is a command that ends with a line
+'N passed, M failed', or 'N passed, M failed, K skipped' where a line says of each that was skipped why."""
+import collections
+import concurrent.futures
+import os
+import re
+import signal
+import subprocess
+import sys
+import time
+
+sys.dont_write_bytecode = True
+sys.path.insert(1, f"{os.path.dirname(os.path.dirname(os.path.realpath(__file__)))}/bin")
+from rooms import TOP, draw, minutes, processors
+
+# What a check needs: the files of the repository; a program of the sources; the proved one; or many minutes.
+FILES, PROGRAM, PROOF, MINUTES = range(4)
+# About how many seconds of a processor it takes, over a trial where that is enough: those that take longest begin.
+Check = collections.namedtuple("Check", "name words needs seconds")
+CHECKS = [
+    Check("library", (".ci/check-c",), PROOF, 900),
+    Check("refusals", (".ci/check-refusals",), MINUTES, 400),
+    Check("fuzzers", (".ci/fuzz", "--short"), PROGRAM, 200),
+    Check("installation", (".ci/check-install",), PROGRAM, 30),
+    Check("questions", (".ci/check-questions",), PROGRAM, 130),
+    Check("rows", (".ci/check-rows",), PROGRAM, 90),
+    Check("runs", (".ci/check-runs",), PROGRAM, 80),
+    Check("starts", (".ci/check-starts",), PROGRAM, 60),
+    Check("program", (".ci/check-program",), PROGRAM, 50),
+    Check("scripts", (".ci/check-scripts",), PROGRAM, 40),
+    Check("service", (".ci/check-durable",), PROGRAM, 40),
+    Check("front", (".ci/check-mlsd", "--short"), PROOF, 60),
+    Check("database", ("integrations/postgresql/check",), PROGRAM, 60),
+    Check("tutorial", (".ci/check-tutorial",), PROGRAM, 20),
+    Check("mutants", ("bin/mutants", "--read"), FILES, 1),
+    Check("links", (".ci/check-links",), FILES, 1),
+    Check("quotations", (".ci/check-quotes",), FILES, 1),
+]
+COUNTS = re.compile(r"(\d+) passed, (\d+) failed(?:, (\d+) skipped)?")
+SKIPPED = re.compile(r"^.*: skipped: .*\n", re.M)
+
+
+class Counts:
+    """What checks came to."""
+
+    def __init__(self, passed=0, failed=0, skipped=0):
+        self.passed, self.failed, self.skipped = passed, failed, skipped
+
+    def add(self, other):
+        self.passed, self.failed = self.passed + other.passed, self.failed + other.failed
+        self.skipped += other.skipped
+
+    def __str__(self):
+        return f"{self.passed} passed, {self.failed} failed" + (f", {self.skipped} skipped" if self.skipped else "")
+
+
+def counts_of(said, status):
+    """What a command came to. One that ends without its counts, or badly with no failure counted, has one failure."""
+    last = said.rstrip("\n").rpartition("\n")[2]
+    found = COUNTS.fullmatch(last)
+    counts = Counts(*(int(it or 0) for it in found.groups())) if found else Counts(failed=1)
+    if status and not counts.failed:
+        counts.failed = 1
+    return counts
+
+
+# The commands that run.
+RUNNING = set()
+
+
+def said_by(words, folder):
+    """Runs a command in a folder, and returns what it said and its status."""
+    streams = {"stdin": subprocess.DEVNULL, "stdout": subprocess.PIPE, "stderr": subprocess.STDOUT}
+    run = subprocess.Popen(words, cwd=folder, text=True, errors="replace", **streams)
+    RUNNING.add(run)
+    said = run.communicate()[0]
+    RUNNING.discard(run)
+    return said, run.returncode
+
+
+def ran(check):
+    """Runs a check, and returns what it said and came to."""
+    said, status = said_by(check.words, TOP)
+    return said, counts_of(said, status)
+
+
+def tell(name, said, counts, is_whole):
+    """Prints what a check came to, and before that what it said where that is wanted or something failed, or else what
+    it skipped."""
+    front, newline, last = said.rstrip("\n").rpartition("\n")
+    front = front + newline if COUNTS.fullmatch(last) else said
+    print(front if is_whole or counts.failed else "".join(SKIPPED.findall(front)), end="")
+    print(f"{name}: {counts}", flush=True)
+
+
+class Bar:
+    """On a terminal, how far the checks are."""
+
+    def __init__(self, checks):
+        self.checks, self.begun, self.is_shown = checks, time.monotonic(), sys.stderr.isatty()
+
+    def show(self, waiting):
+        """Shows it, with the checks that haven't ended."""
+        if self.is_shown:
+            seconds = sum(it.seconds for it in self.checks)
+            part = 1 - sum(it.seconds for it in waiting) / seconds
+            ended, took = len(self.checks) - len(waiting), minutes(time.monotonic() - self.begun)
+            draw(part, f"{ended} of {len(self.checks)} checks, {took}: {' '.join(it.name for it in waiting)}")
+
+    def hide(self):
+        if self.is_shown:
+            sys.stderr.write("\r\033[K")
+            sys.stderr.flush()
+
+
+def run_all(checks, is_whole=False, run=ran):
+    """Runs checks side by side, tells of each once it has ended, and returns what all came to."""
+    counts, bar = Counts(), Bar(checks)
+    with concurrent.futures.ThreadPoolExecutor(processors()) as pool:
+        waiting = {pool.submit(run, it): it for it in sorted(checks, key=lambda it: -it.seconds)}
+        try:
+            while waiting:
+                bar.show(waiting.values())
+                for it in concurrent.futures.wait(waiting, 1, concurrent.futures.FIRST_COMPLETED).done:
+                    bar.hide()
+                    said, found = it.result()
+                    tell(waiting.pop(it).name, said, found, is_whole)
+                    counts.add(found)
+        except KeyboardInterrupt:
+            pool.shutdown(wait=False, cancel_futures=True)
+            for it in [*RUNNING]:
+                it.send_signal(signal.SIGINT)
+            raise
+        finally:
+            bar.hide()
+    return counts
+
+
+def ended(main):
+    """Runs a main function, which an interrupt or a signal to end ends, and returns the status."""
+    for it in (signal.SIGTERM, signal.SIGHUP):
+        signal.signal(it, signal.default_int_handler)
+    try:
+        return main()
+    except KeyboardInterrupt:
+        return 130
