@@ -9,7 +9,10 @@ EXAMPLES = f"{TOP}/examples"
 
 
 def built():
-    """The program that bin/mls runs: the proved one, or else the trial, which it makes where there is none."""
+    """The program that MLS_PROGRAM names; or else that which bin/mls runs: the proved one, or the trial, which it makes
+    where there is none."""
+    if given := os.environ.get("MLS_PROGRAM"):
+        return os.path.realpath(given)
     kinds = ["proved"] if os.environ.get("MLS_PROVED", "0") != "0" else ["proved", "trial"]
     words = [f"{TOP}/bin/built", "file", *kinds]
     found = subprocess.run(words, stdout=subprocess.PIPE, text=True).stdout
