@@ -338,8 +338,19 @@ def members_that_are_repeated():
         answered(["lint", "twice.json"], "".join(f"{it}: repeated member\n" for it in places) + LINTED[0][1], 4)
 
 
+def one_repeat_and_nothing_else():
+    """A start of which lint has nothing to tell; with a member twice it has that, and ends with 4."""
+    root = '{"name":"r","parent":null,"security":"U","integrity":"lo"}'
+    for trusted, text, status in ("", "", 0), ('"trusted":true,', "/subjects/0/trusted: repeated member\n", 4):
+        subject = f'{{"name":"s","maximum":"U","current":"U","integrity":"lo",{trusted}"trusted":false}}'
+        put("once.json", f"""{{"security":{{"levels":["U"],"categories":[]}},"integrity":{{"levels":["lo"],"categories":[]}},
+            "subjects":[{subject}],"objects":[{root}],
+            "matrix":[{{"subject":"s","object":"r","modes":["read"]}}]}}""".encode())
+        answered(["lint", "once.json"], text, status)
+
+
 CHECKS = [
     lines_that_are_asked, lines_that_are_explained, lines_that_ask_nothing, subjects_who_may, entries_that_are_explained, states_before_entries,
     faults_in_their_order, words_that_no_question_has, listed_entries, states_of_a_journal, suspicious_examples, drawing_of_the_standard_start,
-    entries_about_a_subject, words_that_begin_no_reply, members_that_are_repeated,
+    entries_about_a_subject, words_that_begin_no_reply, members_that_are_repeated, one_repeat_and_nothing_else,
 ]
