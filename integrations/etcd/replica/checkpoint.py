@@ -1,0 +1,42 @@
+"""The checkpoint: up to which place of the log the journal was made, and what is to be known to go on from there."""
+import dataclasses
+import hashlib
+import json
+
+from . import files
+from .ending import REFUSED, stop
+from .sessions import Sessions
+
+EMPTY = hashlib.sha256(b"").hexdigest()
+
+
+@dataclasses.dataclass
+class Checkpoint:
+    """A batch's number, its revision in etcd and its digest; the entries up to it and their digest; the sessions."""
+
+    log: str = ""
+    number: int = 0
+    revision: int = 0
+    batch: str = EMPTY
+    entries: int = 0
+    digest: str = EMPTY
+    sessions: Sessions = dataclasses.field(default_factory=Sessions)
+
+    def write(self, name):
+        fields = {it.name: getattr(self, it.name) for it in dataclasses.fields(self)}
+        files.put(name, json.dumps({**fields, "sessions": self.sessions.as_json()}).encode())
+
+    @classmethod
+    def read(cls, name, log):
+        """The checkpoint of this log; where there is none, that of its beginning."""
+        text = files.content(name)
+        if not text:
+            return cls(log)
+        try:
+            found = cls(**json.loads(text))
+            found.sessions = Sessions.of_json(found.sessions)
+        except (ValueError, TypeError, KeyError, AttributeError) as fault:
+            stop(REFUSED, f"{name}: is no checkpoint: {fault!r}")
+        if found.log != log:
+            stop(REFUSED, f"{name}: is of another log: it has {found.log}, and the log is {log}")
+        return found

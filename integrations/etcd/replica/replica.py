@@ -1,0 +1,91 @@
+"""One machine of a replicated monitor: its parts, and how they begin."""
+import asyncio
+import hashlib
+import signal
+
+from . import core as cores
+from . import files
+from .appender import Appender
+from .core import Core
+from .door import Door
+from .ending import CORE_DIED, FILES, REFUSED, stop, tell
+from .etcd import Etcd
+from .journal import Journal
+from .log import Log
+from .member import Unavailable
+from .order import Order
+from .peers import Peers
+from .reads import Reads
+from .words import tls_of
+
+
+def log_of(words):
+    """The log in etcd, that machines with this start file and program share."""
+    start = files.content(words.start)
+    if not start:
+        stop(FILES, f"{words.start}: isn't there")
+    members = [Etcd(words.etcd, tls_of(words)) for _ in ("asked", "watched")]
+    return Log(*members, words.name, hashlib.sha256(start).hexdigest(), cores.version(words.program))
+
+
+class Replica:
+    """The parts of one machine."""
+
+    def __init__(self, words):
+        self.words, self.journal = words, Journal(words.journal)
+        self.log, self.core = log_of(words), Core(words.program, words.journal, words.start)
+        self.appender = Appender(self.log)
+        self.door = Door(self.appender, self.stats)
+        self.peers = Peers(self.log, self.journal, words.name, self.door.close)
+        self.order = Order(self.log, self.journal, self.core, self.door, self.peers, words)
+        self.reads = Reads(self.log, self.order, self.core)
+
+    def stats(self):
+        """What an operator may ask."""
+        order = self.order
+        return {"name": self.words.name, "log": self.log.config.decode(), "batch": order.number,
+                "entries": order.entries, "checkpoint": order.saved, "sessions": len(order.sessions.known),
+                "batches of this machine": self.appender.batches, "waiting": len(self.appender.waiting),
+                "bytes under way": self.appender.under_way, "owed": self.core.owed}
+
+    async def run(self):
+        for number in (signal.SIGTERM, signal.SIGINT):
+            asyncio.get_running_loop().add_signal_handler(number, lambda: stop(0, "told to end"))
+        self.journal.lock()
+        await self.log.join()
+        self.order.begin()
+        await self.core.begin(self.order.entries)
+        order = self.order
+        await self.ended(self.core.answers(order.answered), self.log.follow(order.place, order.take), self.serve())
+
+    async def serve(self):
+        """Serves clients once this machine has all that the log has."""
+        await self.make_again()
+        await self.door.begin(self.words.socket, self.reads, self.order)
+        tell(f"serving at entry {self.order.entries}")
+        await self.ended(self.appender.serve(), self.reads.serve(), self.reads.look(), self.peers.publish())
+
+    async def make_again(self):
+        """Feeds what the log has now, and sees that all came out which the journal had."""
+        while True:
+            try:
+                for key, value in await self.log.digests():
+                    self.peers.heard(key, value)
+                await self.reads.catch_up()
+                break
+            except Unavailable as fault:
+                await self.log.wait(fault)
+        await self.core.is_even.wait()
+        self.journal.read_to(self.order.entries)
+        if self.journal.cut:
+            stop(REFUSED, f"the journal had more than the log gives, from entry {self.order.entries} on: what it had "
+                          f"is in {self.journal.redo}")
+
+    @staticmethod
+    async def ended(*parts):
+        """Runs parts, which have no end, and ends with the first that has one."""
+        tasks = [asyncio.create_task(it) for it in parts]
+        done, _ = await asyncio.wait(tasks, return_when=asyncio.FIRST_COMPLETED)
+        for task in done:
+            task.print_stack()
+            stop(CORE_DIED, f"a part has ended: {task.exception()!r}")
