@@ -7,7 +7,7 @@ import time
 
 import fronts
 from fronts import ALL, JOURNAL, SOCKET, Front, comes, connected, entries, fresh, received, rest_of, told
-from mls_client import Client, Refused
+from mls import Refused
 from outside import SECONDS, same, shown
 
 SHORT = False

@@ -9,7 +9,7 @@ import time
 import fronts
 import outside
 from fronts import JOURNAL, Front, content, core, fresh, held, told
-from mls_client import Client, Ended, Refused
+from mls import Ended
 from outside import SECONDS, same, shown
 from serving import STANDARD
 

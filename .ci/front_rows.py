@@ -6,9 +6,10 @@ import socket
 import time
 
 import fronts
+import mls
 from fronts import ANN, BOB, IS_ROOT, JOURNAL, OF_AUD, OTHER, SOCKET, Front, comes, connected, core, entries, fresh
-from fronts import received, refused, rest_of, told
-from mls_client import Client, Ended, Refused
+from fronts import received, refused, rest_of, sessions_of_entries, told
+from mls import Ended
 from outside import SECONDS, put, same, shown
 from serving import STANDARD, content, has_compiler, shim
 
@@ -372,7 +373,43 @@ def entry_numbers():
         same(client.ask("ann release read plans"), "yes 2")
 
 
+def calls_of_a_client():
+    """The calls of the package's client: each action is asked, and journalled as its session's, with the answer that it
+    tells; what isn't asked is an exception."""
+    fresh()
+    with Front(words=core("--numbers")) as front:
+        client = front.client()
+        answers = [
+            client.get("sec", "write", "root"), client.create("sec", "root", "S:A", "lo"),
+            client.give("sec", "append", "bob", 4), client.get("bob", "append", 4), client.relabel("sec", 4, "S:A"),
+            client.rescind("sec", "append", "bob", 4), client.delete("sec", 4), client.release("sec", "write", "root"),
+            client.level("bob", "C"), client.get("bob", "read", 4), client.get("bob", "read", "plans"),
+        ]  # fmt: skip
+        texts = ["yes", "created 4", *["yes"] * 7, "undefined", "no discretionary"]
+        same([(it.number, str(it)) for it in answers], [*enumerate(texts)])
+        same([client.check("bob", "read", "memo"), bool(client.get("bob", "read", "memo"))], [False, True])
+        same([client.check("bob", "read", "memo"), client.check(1, "read", 1)], [True, False])
+        requests = mls.Get("ann", "read", "plans"), mls.Delete("ann", 0)
+        same([str(client.decide(it)) for it in requests], ["yes", "no root"])
+        for call, kind in (
+            (lambda: client.delete("zoe", "plans"), mls.NotYours),
+            (lambda: client.delete("ann", "none"), mls.UnknownName),
+            (lambda: client.decide(mls.Level("ann", "Q")), mls.BadRequest),
+        ):
+            try:
+                assert False, f"{call()} is answered"
+            except kind:
+                pass
+    same(sessions_of_entries(), [client.session] * 12)
+    same(entries(), [
+        "2 get-write 0 yes", "2 create 0 2:0 0 created 4", "2 give append 1 4 yes", "1 get-append 4 yes",
+        "2 relabel 4 2:0 yes", "2 rescind append 1 4 yes", "2 delete 4 yes", "2 release write 0 yes", "1 level 1 yes",
+        "1 get-read 4 undefined", "1 get-read 1 no discretionary", "1 get-read 2 yes",
+    ])  # fmt: skip
+
+
 CHECKS = [
+    calls_of_a_client,
     users_files_that_are_refused,
     words_that_are_refused,
     lines_and_their_ends,

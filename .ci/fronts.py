@@ -15,7 +15,7 @@ from outside import SECONDS, TOP, put, same, shown
 from serving import STANDARD, content
 
 sys.path.insert(0, f"{TOP}/python")
-import mls_client
+import mls
 
 SOCKET, USERS, JOURNAL = "s", "users", "j"
 # Root may ask as everybody, as fast as it likes.
@@ -117,15 +117,12 @@ class Front:
     def client(self, uid=None, gid=None, groups=()):
         """A client of the project's own, as this user or as another."""
         if uid is None:
-            found = mls_client.Client(SOCKET, SECONDS)
+            found = mls.Client(SOCKET, SECONDS)
         else:
-            found = mls_client.Client.__new__(mls_client.Client)
-            found._socket = connected_as(uid, uid if gid is None else gid, groups)
-            found._socket.settimeout(SECONDS)
-            found._input = found._socket.makefile("rb")
-            greeting = found._line()
-            assert greeting.startswith("session "), greeting
-            found.session = int(greeting.split()[1])
+            try:
+                found = mls.Client.over(connected_as(uid, uid if gid is None else gid, groups))
+            except mls.Refused as why:
+                raise AssertionError(f"refused: {why}") from why
         self.clients.append(found)
         return found
 

@@ -1,22 +1,35 @@
-"""The reference monitor for multilevel security, mls, in the process that uses it, over the shared library libmls.
+"""The reference monitor for multilevel security, mls: in the process that uses it, over the shared library libmls, and
+as a service, by its socket.
 
     with mls.Monitor.open(start) as monitor:
         if monitor.get("ann", "read", "plans"):
             ...
 
+    with mls.Client() as client:
+        if client.get("ann", "read", "plans"):
+            ...
+
 README.md of this package has the first steps, and what is proved below it and what isn't.
 """
+from .client import Client
+from .explanations import Basis, Compared, Condition, Explanation, Term
 from .faults import (
     BadRequest,
+    Busy,
     Closed,
+    Ended,
     Error,
     JournalRefused,
     NoSuchEntry,
+    NotYours,
     OutOfMemory,
+    Refused,
     ReplayDiffers,
     StartRefused,
+    Undefined,
     UnknownName,
 )
+from .infos import Counts, ObjectInfo, PairInfo, SubjectInfo
 from .monitor import Monitor
 from .requests import Create, Delete, Get, Give, Level, Relabel, Release, Request, Rescind
 from .values import Answer, Entry, Kind, Label, Mode, Reason, Reply
@@ -24,11 +37,19 @@ from .values import Answer, Entry, Kind, Label, Mode, Reason, Reply
 __all__ = [
     "Answer",
     "BadRequest",
+    "Basis",
+    "Busy",
+    "Client",
     "Closed",
+    "Compared",
+    "Condition",
+    "Counts",
     "Create",
     "Delete",
+    "Ended",
     "Entry",
     "Error",
+    "Explanation",
     "Get",
     "Give",
     "JournalRefused",
@@ -38,8 +59,12 @@ __all__ = [
     "Mode",
     "Monitor",
     "NoSuchEntry",
+    "NotYours",
+    "ObjectInfo",
     "OutOfMemory",
+    "PairInfo",
     "Reason",
+    "Refused",
     "Relabel",
     "Release",
     "ReplayDiffers",
@@ -47,6 +72,9 @@ __all__ = [
     "Request",
     "Rescind",
     "StartRefused",
+    "SubjectInfo",
+    "Term",
+    "Undefined",
     "UnknownName",
 ]
 __version__ = "0.2.0"

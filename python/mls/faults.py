@@ -1,13 +1,14 @@
-"""The exceptions, one for each status below 0 that a call from here can have. A denial is none: it is an answer."""
+"""The exceptions: one for each status below 0 that a call from here can have, and what a client of the service meets. A
+denial is none: it is an answer."""
 from __future__ import annotations
 
 
 class Error(Exception):
-    """What the library refuses."""
+    """What the library or the service refuses."""
 
 
 class Closed(Error, ValueError):
-    """The monitor is closed."""
+    """The monitor, or the client's session, is closed."""
 
 
 class OutOfMemory(Error, MemoryError):
@@ -19,7 +20,12 @@ class BadRequest(Error, ValueError):
 
 
 class UnknownName(Error, KeyError):
-    """The start has no subject, or no object, of this name."""
+    """The start has no subject, or no object, of this name; or there is none of this number, and it was asked about."""
+
+
+class Undefined(Error, LookupError):
+    """The request is answered `undefined`, so it has no explanation: what it names isn't there, or a label is outside
+    the bounds."""
 
 
 class NoSuchEntry(Error, IndexError):
@@ -42,6 +48,22 @@ class JournalRefused(Error, ValueError):
     def __init__(self, line: int, fault: int) -> None:
         super().__init__(f"line {line}: entry {fault}")
         self.line, self.fault = line, fault
+
+
+class Refused(Error):
+    """The service has no session for this process: `busy`, or `not known`."""
+
+
+class Ended(Error, ConnectionError):
+    """The service has ended the session, or wasn't in time: what was asked last may have been taken or not."""
+
+
+class NotYours(Error, PermissionError):
+    """This process may not ask as that subject."""
+
+
+class Busy(Error):
+    """The service has a limit, which this line would pass. It wasn't asked."""
 
 
 class ReplayDiffers(Error, ValueError):

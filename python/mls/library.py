@@ -12,6 +12,8 @@ VERSION = (0, 2)
 CLOSED, NO_MEMORY, INVALID = -1, -3, -4
 START_REFUSED, JOURNAL_REFUSED, REPLAY_DIFFERS = -5, -6, -7
 TOO_SHORT, NOT_FOUND = -8, -9
+# Object numbers are below the first, and no request has more conditions than the second.
+OBJECTS, CONDITIONS = 4096, 4
 
 
 class Handle(ctypes.Structure):
@@ -43,6 +45,38 @@ class Fault(ctypes.Structure):
     _fields_ = [("kind", c_uint16), ("number", c_uint16), ("place", c_uint64)]
 
 
+class SubjectInfo(ctypes.Structure):
+    _fields_ = [("maximum", Label), ("current", Label), ("integrity", Label), ("trusted", c_uint8)]
+
+
+class ObjectInfo(ctypes.Structure):
+    _fields_ = [("security", Label), ("integrity", Label), ("parent", c_uint16)]
+
+
+class PairInfo(ctypes.Structure):
+    _fields_ = [("permitted", c_uint8), ("held", c_uint8)]
+
+
+class Counts(ctypes.Structure):
+    _fields_ = [("entries", c_uint64), ("subjects", c_uint16), ("objects", c_uint16), ("next", c_uint16)]
+
+
+class Term(ctypes.Structure):
+    _fields_ = [("kind", c_uint16), ("of", c_uint16), ("label", Label)]
+
+
+class Condition(ctypes.Structure):
+    _fields_ = [
+        ("reason", c_uint16), ("holds", c_uint8), ("also", c_uint8), ("basis", c_uint8), ("mode", c_uint8),
+        ("subject", c_uint16), ("object", c_uint16), ("parent", c_uint16),
+        ("first", Term), ("second", Term), ("third", Term),
+    ]  # fmt: skip
+
+
+class Remedy(ctypes.Structure):
+    _fields_ = [("there", c_uint8), ("label", Label)]
+
+
 MONITOR, LENGTH = POINTER(Handle), POINTER(c_size_t)
 # The calls: what each returns, and what it takes.
 CALLS = {
@@ -58,6 +92,16 @@ CALLS = {
     "mls_object": (c_int, [MONITOR, c_char_p, c_size_t, POINTER(c_uint16)]),
     "mls_read_label": (c_int, [MONITOR, c_int, c_char_p, c_size_t, POINTER(Label)]),
     "mls_write_label": (c_int, [MONITOR, c_int, POINTER(Label), c_char_p, c_size_t, LENGTH]),
+    "mls_dominates": (c_int, [POINTER(Label), POINTER(Label)]),
+    "mls_decide_label": (c_int, [MONITOR, c_uint16, c_uint8, POINTER(Label), POINTER(Label), POINTER(c_uint16)]),
+    "mls_read_subject": (c_int, [MONITOR, c_uint16, POINTER(SubjectInfo)]),
+    "mls_read_object": (c_int, [MONITOR, c_uint16, POINTER(ObjectInfo)]),
+    "mls_read_pair": (c_int, [MONITOR, c_uint16, c_uint16, POINTER(PairInfo)]),
+    "mls_count": (c_int, [MONITOR, POINTER(Counts)]),
+    "mls_next_child": (c_int, [MONITOR, c_uint16, c_uint16, POINTER(c_uint16)]),
+    "mls_subject_name": (c_int, [MONITOR, c_uint16, c_char_p, c_size_t, LENGTH]),
+    "mls_object_name": (c_int, [MONITOR, c_uint16, c_char_p, c_size_t, LENGTH]),
+    "mls_explain": (c_int, [MONITOR, POINTER(Request), POINTER(Condition), c_size_t, LENGTH, POINTER(Remedy)]),
     "mls_close": (None, [MONITOR]),
     "mls_version": (c_char_p, []),
     "mls_status_word": (c_char_p, [c_int]),

@@ -2,55 +2,26 @@
 from __future__ import annotations
 
 import ctypes
-import threading
-import weakref
 from ctypes import byref, c_size_t, c_uint16
-from types import TracebackType
-from typing import Any, Callable, Iterator, Optional, Type, Union
+from typing import Callable, Iterator, Optional, TypeVar, Union
 
 from . import library as lib
-from .actions import Actions
-from .faults import (BadRequest, Closed, Error, JournalRefused, NoSuchEntry, OutOfMemory, ReplayDiffers, StartRefused,
-                     UnknownName)  # fmt: skip
-from .numbering import answer_of, entry_of, label_of, label_struct, number
-from .requests import ACTIONS, Create, Delete, Get, Give, Level, Name, Relabel, Release, Request, Rescind
+from .actions import Actions, Session
+from .explanations import Explanation
+from .faults import NoSuchEntry, Undefined, UnknownName
+from .handle import Handle, is_ok
+from .infos import Counts, ObjectInfo, PairInfo, SubjectInfo
+from .numbering import (answer_of, counts_of, entry_of, explanation_of, label_of, label_struct, number, object_of,
+                        pair_of, subject_of)  # fmt: skip
+from .requests import ACTIONS, Create, Get, Give, Level, Name, Relabel, Release, Request, Rescind
 from .values import Answer, Entry, Kind, Label, Mode
 
-# The room for a line or a label's text at first: most have less.
-ROOM = 256
-REFUSALS = {lib.CLOSED: Closed, lib.NO_MEMORY: OutOfMemory, lib.INVALID: BadRequest}
+S = TypeVar("S", bound=ctypes.Structure)
 
 
-def is_ok(status: int, what: str = "") -> None:
-    """Raises what a status below 0 says."""
-    if status:
-        raise REFUSALS.get(status, Error)(what or f"status {status}")
-
-
-def opened(status: int, fault: lib.Fault) -> None:
-    """Raises what the status of an opening says."""
-    if status == lib.START_REFUSED:
-        raise StartRefused(fault.kind, fault.number)
-    if status == lib.JOURNAL_REFUSED:
-        raise JournalRefused(fault.place, fault.kind)
-    if status == lib.REPLAY_DIFFERS:
-        raise ReplayDiffers(fault.place, None if fault.kind == 1 else fault.number)
-    is_ok(status, "an allocation failed")
-
-
-class Monitor(Actions):
+class Monitor(Handle, Actions):
     """An open monitor. Its calls may come from all threads: they take turns. It is neither copied nor pickled, nor used
     after a fork in the child of a process with threads."""
-
-    def __init__(self, start: bytes, journal: bytes = b"", *, library: Optional[str] = None) -> None:
-        self._library, self._handle, fault = lib.load(library), lib.Handle(), lib.Fault()
-        # (a lock that a signal handler's calls may take again: they come between the library's calls, never in one)
-        self._lock = threading.RLock()
-        texts = (bytes(start), len(start), bytes(journal), len(journal))
-        opened(self._library.mls_resume(byref(self._handle), *texts, byref(fault)), fault)
-        self._close = weakref.finalize(self, self._library.mls_close, byref(self._handle))
-        # (threads may still be in a call when the process ends, and its end frees all)
-        self._close.atexit = False
 
     @classmethod
     def open(cls, start: bytes, *, library: Optional[str] = None) -> Monitor:
@@ -61,41 +32,6 @@ class Monitor(Actions):
     def resume(cls, start: bytes, journal: bytes, *, library: Optional[str] = None) -> Monitor:
         """Opens a monitor from the bytes of a start file and those of a journal, whose replies are computed anew."""
         return cls(start, journal, library=library)
-
-    def close(self) -> None:
-        """Closes the monitor and frees what it holds, its journal too. All calls but this one then raise Closed."""
-        with self._lock:
-            self._close()
-
-    @property
-    def is_closed(self) -> bool:
-        return not self._close.alive
-
-    def __enter__(self) -> Monitor:
-        return self
-
-    def __exit__(self, kind: Optional[Type[BaseException]], error: Optional[BaseException],
-                 trace: Optional[TracebackType]) -> None:  # fmt: skip
-        self.close()
-
-    def __reduce_ex__(self, protocol: Any) -> Any:
-        raise TypeError("a monitor is neither copied nor pickled")
-
-    def _call(self, call: Callable[..., int], *arguments: Any) -> int:
-        with self._lock:
-            if self.is_closed:
-                raise Closed("the monitor is closed")
-            return call(byref(self._handle), *arguments)
-
-    def _text(self, call: Callable[..., int], *arguments: Any) -> tuple[int, bytes]:
-        """The status and the text of a call that copies one out."""
-        length, room = c_size_t(), ROOM
-        while True:
-            buffer = ctypes.create_string_buffer(room)
-            status = self._call(call, *arguments, buffer, room, byref(length))
-            if status != lib.TOO_SHORT:
-                return status, buffer.raw[: length.value]
-            room = length.value
 
     def _number(self, call: Callable[..., int], name: Name) -> int:
         if isinstance(name, int):
@@ -143,10 +79,12 @@ class Monitor(Actions):
             struct.object = self.object(request.object)
         return struct
 
-    def submit(self, request: Request, session: int = 0) -> Answer:
-        """Answers a request by the rules, changes the state as they say, and adds its entry to the journal."""
+    def submit(self, request: Request, session: Session = None) -> Answer:
+        """Answers a request by the rules, changes the state as they say, and adds its entry to the journal, with the
+        session, 0 where none is named."""
         struct, answer = self._struct(request), lib.Answer()
-        is_ok(self._call(self._library.mls_submit, number(session, 32), byref(struct), byref(answer)))
+        asker = 0 if session is None else number(session, 32)
+        is_ok(self._call(self._library.mls_submit, asker, byref(struct), byref(answer)))
         return answer_of(answer.number, answer.reply, answer.object)
 
     def decide(self, request: Request) -> Answer:
@@ -155,10 +93,80 @@ class Monitor(Actions):
         is_ok(self._call(self._library.mls_decide, byref(struct), byref(answer)))
         return answer_of(answer.number, answer.reply, answer.object)
 
+    def decide_label(self, subject: Name, mode: Union[Mode, str], security: Union[Label, str],
+                     integrity: Union[Label, str]) -> Answer:  # fmt: skip
+        """What simple security, star and integrity say now of an access to what has these labels and isn't an object,
+        say a row. The matrix isn't asked, nothing is held afterwards, and no entry is made: docs/EMBEDDING.md says how
+        star is kept over rows."""
+        labels = self.label(security), self.label(integrity, Kind.INTEGRITY)
+        structs, reply = [byref(label_struct(it)) for it in labels], c_uint16()
+        numbers = self.subject(subject), Mode.of(mode)
+        is_ok(self._call(self._library.mls_decide_label, *numbers, *structs, byref(reply)))
+        return answer_of(None, reply.value, 0)
+
+    def explain(self, request: Request) -> Explanation:
+        """The conditions of a request, each with whether it holds now and what it rests on, and the remedy of a get. No
+        entry is made."""
+        struct, count, remedy, room = self._struct(request), c_size_t(), lib.Remedy(), lib.CONDITIONS
+        while True:
+            rows = (lib.Condition * room)()
+            status = self._call(self._library.mls_explain, byref(struct), rows, room, byref(count), byref(remedy))
+            if status != lib.TOO_SHORT:
+                break
+            room = count.value
+        if status == lib.NOT_FOUND:
+            raise Undefined(f"undefined: {request}")
+        is_ok(status)
+        return explanation_of(rows[: count.value], remedy)
+
     def check(self, subject: Name, mode: Union[Mode, str], object: Name) -> bool:
         """Whether a subject holds an access now. No entry is made."""
         numbers = self.subject(subject), self.object(object), Mode.of(mode)
         return self._call(self._library.mls_check, *numbers) == 1
+
+    def _told(self, call: Callable[..., int], struct: S, *numbers: int) -> S:
+        """The struct that a call writes of what has these numbers."""
+        if self._call(call, *numbers, byref(struct)) == lib.NOT_FOUND:
+            raise UnknownName(*numbers)
+        return struct
+
+    def subject_info(self, subject: Name) -> SubjectInfo:
+        """A subject's labels, and whether it is trusted."""
+        return subject_of(self._told(self._library.mls_read_subject, lib.SubjectInfo(), self.subject(subject)))
+
+    def object_info(self, object: Name) -> ObjectInfo:
+        """An object's labels and parent. UnknownName says that it isn't active."""
+        where = self.object(object)
+        return object_of(self._told(self._library.mls_read_object, lib.ObjectInfo(), where), where)
+
+    def pair(self, subject: Name, object: Name) -> PairInfo:
+        """In which modes the matrix permits a subject an object, and in which it is held."""
+        numbers = self.subject(subject), self.object(object)
+        return pair_of(self._told(self._library.mls_read_pair, lib.PairInfo(), *numbers))
+
+    def counts(self) -> Counts:
+        """How much there is."""
+        return counts_of(self._told(self._library.mls_count, lib.Counts()))
+
+    def children(self, object: Name) -> Iterator[int]:
+        """The children of an object, by their numbers, as they are when each is asked for. One that isn't active has
+        none."""
+        where, child = self.object(object), c_uint16()
+        while self._call(self._library.mls_next_child, where, child.value, byref(child)) != lib.NOT_FOUND:
+            yield child.value
+
+    def _name(self, call: Callable[..., int], of: int) -> Optional[str]:
+        status, text = self._text(call, number(of))
+        return None if status == lib.NOT_FOUND else text.decode()
+
+    def subject_name(self, subject: int) -> Optional[str]:
+        """The name that the start has for a subject's number, None where it has none."""
+        return self._name(self._library.mls_subject_name, subject)
+
+    def object_name(self, object: int) -> Optional[str]:
+        """The name that the start has for an object's number. An object that was made later has none, or that of a
+        deleted one whose number it has."""
+        return self._name(self._library.mls_object_name, object)
 
     @property
     def entry_count(self) -> int:

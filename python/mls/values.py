@@ -69,12 +69,21 @@ class Label:
         if not 0 <= self.level < 16 or any(not 0 <= it < 256 for it in self.categories):
             raise ValueError(f"no label: {self}")
 
+    def dominates(self, other: Label, *, library: Optional[str] = None) -> bool:
+        """Whether this label dominates another: its level is no lower, and it has all categories of the other. The
+        library is asked, which is found as for a monitor."""
+        # (numbering makes labels, and so needs this module first)
+        from .numbering import dominates
+
+        return dominates(self, other, library)
+
 
 @dataclass(frozen=True)
 class Answer:
-    """The answer to a request. It is true where the request is granted, and its text is as scripts have it."""
+    """The answer to a request. It is true where the request is granted, and its text is as scripts have it. `number` is
+    that of its entry: from a client None where the service doesn't tell it, or nothing was asked."""
 
-    number: int
+    number: Optional[int]
     reply: Reply
     reason: Optional[Reason] = None
     object: Optional[int] = None

@@ -1,8 +1,11 @@
 """The package over the library: each call, each exception, what is resumed, and threads. MLS_LIBRARY names the library,
 where the loader doesn't find it; without one these tests are skipped."""
+import contextlib
 import copy
+import dataclasses
 import doctest
 import gc
+import itertools
 import json
 import pathlib
 import pickle
@@ -11,6 +14,7 @@ import unittest
 
 import mls
 from mls import library
+from pretend import service
 
 PYTHON = pathlib.Path(__file__).resolve().parent.parent
 STANDARD = (PYTHON.parent / "examples" / "standard.json").read_bytes()
@@ -96,6 +100,10 @@ class Monitors(unittest.TestCase):
             lambda: self.monitor.get("ann", "read", "plans", session=2**32),
             lambda: self.monitor.give("sec", "read", -1, "plans"),
             lambda: self.monitor.entry(2**64),
+            lambda: self.monitor.object_info(65536),
+            lambda: self.monitor.subject_name(65536),
+            lambda: self.monitor.decide_label(65536, "read", "S", "lo"),
+            lambda: list(self.monitor.children(65536)),
         ]
         for call in calls:
             with self.assertRaises(mls.BadRequest):
@@ -138,6 +146,9 @@ class Monitors(unittest.TestCase):
         with self.assertRaises(mls.JournalRefused) as caught:
             mls.Monitor.resume(STANDARD, KEPT + b"x\n")
         self.assertEqual((caught.exception.line, caught.exception.fault), (2, 1))
+        with self.assertRaises(mls.JournalRefused) as caught:
+            mls.Monitor.resume(STANDARD, STANDARD)
+        self.assertEqual((caught.exception.line, caught.exception.fault), (0, 1))
         for journal, entry, wanted in ((KEPT + KEPT, 2, None), (KEPT.replace(b"no star", b"yes"), 1, 19)):
             with self.assertRaises(mls.ReplayDiffers) as caught:
                 mls.Monitor.resume(STANDARD, journal)
@@ -151,7 +162,10 @@ class Monitors(unittest.TestCase):
         calls = [
             lambda: m.get(0, "read", 1), lambda: m.decide(mls.Delete(0, 1)), lambda: m.check(0, "read", 1), m.journal,
             lambda: m.entry(0), lambda: m.line(0), lambda: m.entry_count, lambda: m.subject("ann"),
-            lambda: m.label("S"), lambda: m.label_text(mls.Label(0)),
+            lambda: m.label("S"), lambda: m.label_text(mls.Label(0)), lambda: m.decide_label(0, "read", "S", "lo"),
+            lambda: m.decide_label(0, "read", mls.Label(0), mls.Label(0)), lambda: m.explain(mls.Delete(0, 1)),
+            lambda: m.subject_info(0), lambda: m.object_info(0), lambda: m.pair(0, 0), m.counts,
+            lambda: list(m.children(0)), lambda: m.subject_name(0), lambda: m.object_name(0),
         ]  # fmt: skip
         for call in calls:
             with self.assertRaises(mls.Closed):
@@ -202,11 +216,68 @@ class Monitors(unittest.TestCase):
             self.assertEqual([call(it).decode() for it in numbers], wanted)
 
 
+@unittest.skipIf(MISSING, MISSING)
+class Clients(unittest.TestCase):
+    """A client is answered what a monitor answers."""
+
+    def setUp(self):
+        self.monitor, self.behind = mls.Monitor.open(STANDARD), mls.Monitor.open(STANDARD)
+        self.addCleanup(self.monitor.close)
+        self.addCleanup(self.behind.close)
+
+    def requests(self):
+        """Gets and releases of all, and each other action, which lead to each kind of answer."""
+        names, objects = ("ann", "bob", "sec", "aud", 7), ("root", "plans", "memo", "tool", 4)
+        yield from (mls.Get(*it) for it in itertools.product(names, mls.Mode, objects))
+        yield from (mls.Release(*it) for it in itertools.product(names[::2], mls.Mode, objects[1:]))
+        yield from (mls.Create(it, "root", "S:B,A", "lo") for it in names)
+        for who in names:
+            yield mls.Give(who, "read", "bob", 4)
+            yield from (mls.Level(who, it) for it in ("C", "T"))
+            yield mls.Relabel(who, "memo", "T")
+            yield mls.Rescind(who, "append", "bob", "plans")
+            yield from (mls.Delete(who, it) for it in objects)
+
+    def test_the_same_answers(self):
+        seen = set()
+        for has_numbers in (False, True):
+            with service(self.behind, has_numbers) as path, mls.Client(path, timeout=60) as client:
+                for request in self.requests():
+                    would, answer = self.monitor.decide(request), self.monitor.submit(request, session=1)
+                    wanted = answer if has_numbers else dataclasses.replace(answer, number=None)
+                    found = client.decide(request), client.submit(request)
+                    self.assertEqual(found, (dataclasses.replace(would, number=None), wanted))
+                    seen.add(str(answer).rstrip(" 0123456789"))
+                    if isinstance(request, mls.Get):
+                        row = request.subject, request.mode, request.object
+                        self.assertIs(client.check(*row), self.monitor.check(*row))
+        denials = {f"no {it}" for it in ("discretionary", "star", "integrity", "authority", "ceiling", "root")}
+        self.assertLessEqual({"yes", "created", "undefined"} | denials, seen)
+        self.assertEqual(self.behind.journal(), self.monitor.journal())
+
+    def test_names_and_labels_that_there_are_none_of(self):
+        with service(self.behind) as path, mls.Client(path, timeout=10) as client:
+            for call in (lambda m: m.get("zoe", "read", "plans"), lambda m: m.check("ann", "read", "none")):
+                for answers in (client, self.monitor):
+                    with self.assertRaises(mls.UnknownName):
+                        call(answers)
+            for answers in (client, self.monitor):
+                with self.assertRaises(mls.BadRequest):
+                    answers.level("ann", "Q")
+
+
 def load_tests(loader, tests, pattern):
-    """With these, what README shows."""
+    """With these, what README shows, over a service that is a stand-in."""
     if not MISSING:
+        running = contextlib.ExitStack()
+        behind = running.enter_context
+
+        def begin(test):
+            test.globs.update(standard=STANDARD, path=behind(service(behind(mls.Monitor.open(STANDARD)))))
+
         readme = str(PYTHON / "README.md")
-        tests.addTests(doctest.DocFileSuite(readme, module_relative=False, globs={"standard": STANDARD}))
+        how = {"module_relative": False, "setUp": begin, "tearDown": lambda test: running.close()}
+        tests.addTests(doctest.DocFileSuite(readme, **how))
     return tests
 
 

@@ -1,11 +1,81 @@
-"""What needs no library: values, and the numbers that they are passed on as."""
+"""What needs no library: values, the numbers that they are passed on as, and that calls, structs and numbers are those
+of the header."""
+import ctypes
+import enum
+import pathlib
+import re
 import unittest
 
 import mls
-from mls import numbering
+from mls import library, numbering
+
+HEADER = pathlib.Path(__file__).resolve().parent.parent.parent / "include" / "mls.h"
+CODE = re.sub(r"/\*.*?\*/", "", HEADER.read_text(), flags=re.S)
+# The types of the header. A pointer to bytes is one to char, which takes bytes.
+STRUCTS = {
+    "mls_monitor": library.Handle, "mls_label": library.Label, "mls_request": library.Request,
+    "mls_answer": library.Answer, "mls_journal_entry": library.Entry, "mls_fault": library.Fault,
+    "mls_subject_info": library.SubjectInfo, "mls_object_info": library.ObjectInfo, "mls_pair_info": library.PairInfo,
+    "mls_counts": library.Counts, "mls_term": library.Term, "mls_condition": library.Condition,
+    "mls_remedy": library.Remedy,
+}  # fmt: skip
+TYPES = {**STRUCTS, "int": ctypes.c_int, "size_t": ctypes.c_size_t}
+TYPES.update({f"uint{n}_t": getattr(ctypes, f"c_uint{n}") for n in (8, 16, 32, 64)})
+POINTERS = {"uint8_t": ctypes.c_char_p, "char": ctypes.c_char_p, "void": ctypes.c_void_p}
+
+
+def declared(text):
+    """The types and the names of what a declaration declares."""
+    base, names = re.fullmatch(r"(?:const )?(\w+) ?(.*)", " ".join(text.split())).groups()
+    for name in names.split(", "):
+        pointer, name, count = re.fullmatch(r"(\*?)(\w*)(?:\[(\d+)\])?", name).groups()
+        if pointer:
+            yield name, POINTERS.get(base) or ctypes.POINTER(TYPES[base])
+        elif base != "void":
+            yield name, TYPES[base] * int(count) if count else TYPES[base]
+
+
+class Header(unittest.TestCase):
+    """The calls, structs and numbers are those of the header."""
+
+    def test_calls(self):
+        calls = re.findall(r"^(?!MLS_INLINE)([a-z][\w ]* \*?)(mls_\w+)\(([^)]*)\);", CODE, re.M)
+        found = {}
+        for result, name, parameters in calls:
+            taken = [kind for it in parameters.split(",") for _, kind in declared(it)]
+            found[name] = next((kind for _, kind in declared(result)), None), taken
+        self.assertEqual(found, library.CALLS)
+        self.assertGreater(len(calls), 25)
+
+    def test_structs(self):
+        structs = re.findall(r"^typedef struct \{(.*?)\} (\w+);", CODE, re.M | re.S)
+        self.assertEqual(sorted(name for _, name in structs), sorted(STRUCTS))
+        for body, name in structs:
+            members = [it for line in body.split(";") if line.strip() for it in declared(line)]
+            self.assertEqual(members, STRUCTS[name]._fields_, name)
+
+    def test_numbers(self):
+        numbers = {name: int(value) for name, value in re.findall(r"\bMLS_(\w+) = (-?\d+)(?! <<)", CODE)}
+
+        def of(kind: enum.EnumMeta, *, front="", end=""):
+            self.assertEqual({f"{front}{it.name}{end}": numbers.get(f"{front}{it.name}{end}") for it in kind},
+                             {f"{front}{it.name}{end}": it.value for it in kind})  # fmt: skip
+            return len(kind)
+
+        kinds = [mls.Mode, mls.Reply, mls.Reason, mls.Compared]
+        known = sum(map(of, kinds)) + of(mls.Basis, front="BY_") + of(mls.Kind, end="_LABEL")
+        self.assertEqual((numbers["OBJECTS"], numbers["CONDITIONS"]), (library.OBJECTS, library.CONDITIONS))
+        for name, value in (("ECLOSED", library.CLOSED), ("ENOMEM", library.NO_MEMORY), ("EINVAL", library.INVALID),
+                            ("ESTART", library.START_REFUSED), ("EJOURNAL", library.JOURNAL_REFUSED),
+                            ("EREPLAY", library.REPLAY_DIFFERS), ("ERANGE", library.TOO_SHORT),
+                            ("ENOTFOUND", library.NOT_FOUND)):  # fmt: skip
+            self.assertEqual(numbers[name], value, name)
+        # and beside these: OK, EOPEN, the actions, and NO_TERM
+        self.assertEqual(len(numbers), known + 2 + 8 + 2 + len(mls.requests.ACTIONS) + 1)
 
 
 class Values(unittest.TestCase):
+
     def test_answers_read_as_in_a_script(self):
         rows = [
             (numbering.answer_of(3, 0, 0), True, "yes"),
@@ -33,6 +103,39 @@ class Values(unittest.TestCase):
         for level, categories in ((16, ()), (-1, ()), (0, (256,)), (0, (-1,))):
             with self.assertRaises(ValueError):
                 mls.Label(level, frozenset(categories))
+
+    def test_conditions_of_each_basis(self):
+        term = library.Term(kind=2, of=9, label=numbering.label_struct(mls.Label(1)))
+        fields = {"mode": 1, "also": 1, "subject": 0, "object": 6, "parent": 5, "first": term, "second": term,
+                  "third": term}  # fmt: skip
+        told = mls.Term(mls.Compared.CURRENT_OF_CALLER, None, mls.Label(1))
+        values = {"mode": mls.Mode.READ, "also": True, "subject": 0, "object": 6, "parent": 5, "first": told,
+                  "second": told, "third": told}  # fmt: skip
+        for basis in mls.Basis:
+            found = numbering.condition_of(library.Condition(reason=3, holds=1, basis=basis, **fields))
+            self.assertEqual((found.reason, found.holds, found.basis), (mls.Reason.STAR, True, basis))
+            for name, value in values.items():
+                self.assertEqual(getattr(found, name), value if name in numbering.NAMED[basis] else None)
+        for basis in (0, 18):
+            with self.assertRaises(ValueError):
+                numbering.condition_of(library.Condition(reason=3, basis=basis))
+
+    def test_terms_of_each_kind(self):
+        for kind in mls.Compared:
+            of = 9 if kind.name.endswith(("_OF_OBJECT", "_OF_SUBJECT")) else None
+            self.assertEqual(numbering.term_of(library.Term(kind=kind, of=9)), mls.Term(kind, of, mls.Label(0)))
+        with self.assertRaises(ValueError):
+            numbering.term_of(library.Term(kind=0))
+
+    def test_an_explanation_is_true_where_all_conditions_hold(self):
+        holds, fails = (mls.Condition(mls.Reason.STAR, it, mls.Basis.EXECUTE) for it in (True, False))
+        for conditions, failed in (((), None), ((holds,), None), ((holds, fails, holds), fails)):
+            told = mls.Explanation(conditions, None)
+            self.assertEqual((bool(told), told.failed), (failed is None, failed))
+
+    def test_sets_of_modes(self):
+        self.assertEqual(numbering.modes_of(0), frozenset())
+        self.assertEqual(numbering.modes_of(0xFA), {mls.Mode.READ, mls.Mode.WRITE})
 
     def test_modes_by_their_words(self):
         self.assertEqual([mls.Mode.of(it) for it in ("execute", "read", "append", "write")], list(mls.Mode))

@@ -1,0 +1,86 @@
+"""A handle of the library: how it is opened, called and closed."""
+from __future__ import annotations
+
+import ctypes
+import threading
+import weakref
+from ctypes import byref, c_size_t
+from types import TracebackType
+from typing import Any, Callable, Optional, Type, TypeVar
+
+from . import library as lib
+from .faults import BadRequest, Closed, Error, JournalRefused, OutOfMemory, ReplayDiffers, StartRefused
+
+H = TypeVar("H", bound="Handle")
+# The room for a line or a label's text at first: most have less.
+ROOM = 256
+REFUSALS = {lib.CLOSED: Closed, lib.NO_MEMORY: OutOfMemory, lib.INVALID: BadRequest}
+
+
+def is_ok(status: int, what: str = "") -> None:
+    """Raises what a status below 0 says."""
+    if status:
+        raise REFUSALS.get(status, Error)(what or f"status {status}")
+
+
+def opened(status: int, fault: lib.Fault) -> None:
+    """Raises what the status of an opening says."""
+    if status == lib.START_REFUSED:
+        raise StartRefused(fault.kind, fault.number)
+    if status == lib.JOURNAL_REFUSED:
+        raise JournalRefused(fault.place, fault.kind)
+    if status == lib.REPLAY_DIFFERS:
+        raise ReplayDiffers(fault.place, None if fault.kind == 1 else fault.number)
+    is_ok(status, "an allocation failed")
+
+
+class Handle:
+    """A handle of the library, which is opened as it is made. Its calls take turns."""
+
+    def __init__(self, start: bytes, journal: bytes = b"", *, library: Optional[str] = None) -> None:
+        self._library, self._handle, fault = lib.load(library), lib.Handle(), lib.Fault()
+        # (a lock that a signal handler's calls may take again: they come between the library's calls, never in one)
+        self._lock = threading.RLock()
+        first, then = bytes(start), bytes(journal)
+        # (nothing that a call is lent may overlap, and of one text there may be one object)
+        lent = ctypes.create_string_buffer(then, len(then)) if first is then else then
+        texts = (first, len(first), lent, len(then))
+        opened(self._library.mls_resume(byref(self._handle), *texts, byref(fault)), fault)
+        self._close = weakref.finalize(self, self._library.mls_close, byref(self._handle))
+        # (threads may still be in a call when the process ends, and its end frees all)
+        self._close.atexit = False
+
+    def close(self) -> None:
+        """Closes the monitor and frees what it holds, its journal too. All calls but this one then raise Closed."""
+        with self._lock:
+            self._close()
+
+    @property
+    def is_closed(self) -> bool:
+        return not self._close.alive
+
+    def __enter__(self: H) -> H:
+        return self
+
+    def __exit__(self, kind: Optional[Type[BaseException]], error: Optional[BaseException],
+                 trace: Optional[TracebackType]) -> None:  # fmt: skip
+        self.close()
+
+    def __reduce_ex__(self, protocol: Any) -> Any:
+        raise TypeError("a monitor is neither copied nor pickled")
+
+    def _call(self, call: Callable[..., int], *arguments: Any) -> int:
+        with self._lock:
+            if self.is_closed:
+                raise Closed("the monitor is closed")
+            return call(byref(self._handle), *arguments)
+
+    def _text(self, call: Callable[..., int], *arguments: Any) -> tuple[int, bytes]:
+        """The status and the text of a call that copies one out."""
+        length, room = c_size_t(), ROOM
+        while True:
+            buffer = ctypes.create_string_buffer(room)
+            status = self._call(call, *arguments, buffer, room, byref(length))
+            if status != lib.TOO_SHORT:
+                return status, buffer.raw[: length.value]
+            room = length.value

@@ -1,0 +1,34 @@
+//! The calls that take no handle: dominance, the words of numbers, and the version.
+use mls_sys::*;
+use std::ffi::CStr;
+use std::os::raw::{c_char, c_int};
+
+/// Whether a label dominates another, by `mls_dominates`.
+pub(crate) fn dominates(a: &mls_label, b: &mls_label) -> bool {
+    // SAFETY: the labels are valid, and are only read; the call takes no handle.
+    unsafe { mls_dominates(a, b) == 1 }
+}
+
+/// A word of the library's, which stays where it is.
+fn word(call: unsafe extern "C" fn(c_int) -> *const c_char, number: c_int) -> &'static str {
+    // SAFETY: the calls of words take every number, and return text that ends with 0 and stays.
+    unsafe { CStr::from_ptr(call(number)) }.to_str().unwrap_or("?")
+}
+
+pub(crate) fn mode_word(mode: u8) -> &'static str {
+    word(mls_mode_word, mode.into())
+}
+
+pub(crate) fn reply_word(reply: u16) -> &'static str {
+    word(mls_reply_word, reply.into())
+}
+
+pub(crate) fn reason_word(reason: u16) -> &'static str {
+    word(mls_reason_word, reason.into())
+}
+
+/// The library's version, as MAJOR.MINOR.
+pub(crate) fn version() -> &'static str {
+    // SAFETY: it is text that ends with 0 and stays.
+    unsafe { CStr::from_ptr(mls_version()) }.to_str().unwrap_or("?")
+}

@@ -1,0 +1,28 @@
+#![doc = include_str!("../README.md")]
+#![deny(unsafe_code, missing_docs)]
+
+mod actions;
+mod answer;
+mod basis;
+mod explanation;
+mod faults;
+mod handle;
+mod infos;
+mod journal;
+mod label;
+mod modes;
+mod monitor;
+mod refusals;
+mod request;
+
+pub use answer::{Answer, Reason, Reply};
+pub use basis::{Basis, Compared, Term};
+pub use explanation::{Condition, ExplainError, Explanation};
+pub use faults::{EntryFault, LoadFault, SchemeFault, StartFault};
+pub use infos::{Counts, ObjectInfo, PairInfo, SubjectInfo};
+pub use journal::{Entry, EntryError};
+pub use label::{Kind, Label, LabelError};
+pub use modes::Modes;
+pub use monitor::{Monitor, SubmitError};
+pub use refusals::{OpenError, ReplayFault};
+pub use request::{Mode, Object, Request, Subject};
