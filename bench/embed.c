@@ -1,4 +1,5 @@
-/* Calls the library many times: `embed START WHAT COUNT`, where WHAT is check, decide, denied, granted, delete, or cells, which looks up
+/* Calls the library many times: `embed START WHAT COUNT`, where WHAT is check, decide, dominates, label (decided by
+ * labels), explain, denied, granted, delete, or cells, which looks up
  * packed cells of four modes with no monitor. Prints nanoseconds a call. `delete` is for the start of bench/rules.sh in which subject 0
  * writes object 1, and below this stand objects 2 to 11 with 60 below each, 12 to 611, that subjects 1 to 16 may read: all that is got,
  * and then COUNT of the ten are deleted. */
@@ -52,6 +53,11 @@ int main(int argc, char **argv) {
     mls_fault_t fault;
     mls_answer_t a;
     mls_request_t get, release, denied;
+    mls_label labels[4] = {{0, {0}}, {2, {1, 0, 0, 0}}, {1, {0}}, {3, {3, 0, 0, 0}}}, low = {0, {0}};
+    mls_condition conditions[MLS_CONDITIONS];
+    mls_remedy remedy;
+    size_t rows;
+    uint16_t reply;
     FILE *file = argc == 4 ? fopen(argv[1], "rb") : NULL;
     unsigned long sum = 0;
     long n, count;
@@ -74,6 +80,12 @@ int main(int argc, char **argv) {
         for (n = 0; n < count; n++) sum += (unsigned)looked_up(n & 3, n >> 2 & 3, MLS_READ);
     else if (!strcmp(argv[2], "decide"))
         for (n = 0; n < count; n++) sum += (unsigned)mls_decide(&m, &get, &a);
+    else if (!strcmp(argv[2], "dominates"))
+        for (n = 0; n < count; n++) sum += (unsigned)mls_dominates(&labels[n & 3], &labels[n >> 2 & 3]);
+    else if (!strcmp(argv[2], "label"))
+        for (n = 0; n < count; n++) sum += (unsigned)mls_decide_label(&m, n & 3, MLS_READ, &labels[n >> 2 & 3], &low, &reply) + reply;
+    else if (!strcmp(argv[2], "explain"))
+        for (n = 0; n < count; n++) sum += (unsigned)mls_explain(&m, &get, conditions, MLS_CONDITIONS, &rows, &remedy) + conditions[0].holds;
     else if (!strcmp(argv[2], "denied"))
         for (n = 0; n < count; n++) sum += (unsigned)mls_submit(&m, 0, &denied, &a);
     else if (!strcmp(argv[2], "delete"))

@@ -18,7 +18,7 @@ instructions() {
 }
 
 echo "call: nanoseconds, instructions"
-for row in "cells 100000000" "check 100000000" "decide 20000000" "denied 5000000" "granted 5000000"; do
+for row in "cells 100000000" "check 100000000" "decide 20000000" "dominates 100000000" "label 50000000" "explain 2000000" "denied 5000000" "granted 5000000"; do
   read -r what count <<<"$row"
   each="?"
   if command -v valgrind >/dev/null; then
@@ -26,5 +26,6 @@ for row in "cells 100000000" "check 100000000" "decide 20000000" "denied 5000000
   fi
   echo "$what: $(nanoseconds "$what" "$count"), $each"
 done
+cc -O2 -I"$folder/include" examples/rows.c "$folder/lib/libmls.a" -o "$folder/rows" && "$folder/rows" examples/standard.json ann || exit 1
 export GLIBC_TUNABLES=glibc.malloc.hugetlb=1
 for what in denied granted; do echo "$what, large pages: $(nanoseconds "$what" 5000000)"; done

@@ -1,4 +1,5 @@
-/* Tests what the headers have beside the library: the calls of the eight actions, and a handle that threads share.
+/* Tests what the headers have beside the library: the calls of the eight actions and those that ask other calls, and a
+ * handle that threads share.
  *
  *     headers START
  *
@@ -10,7 +11,7 @@
 
 enum { ANN, BOB, SEC };
 enum { ROOT, PLANS, MEMO, MADE = 4 };
-enum { THREADS = 4, ROUNDS = 2000 };
+enum { THREADS = 8, ROUNDS = 2000 };
 
 static int failed;
 
@@ -73,7 +74,38 @@ static void actions(void) {
     mls_close(&m);
 }
 
+/* The inline functions that ask a call of the library. */
+static void questions(void) {
+    mls_monitor m = MLS_INIT;
+    mls_fault fault;
+    mls_label security, integrity;
+    CHECK(mls_is_active(&m, ROOT) == 0 && mls_child_after(&m, ROOT, 0) == 0);
+    CHECK(mls_open(&m, start, start_len, &fault) == MLS_OK);
+    security = label(&m, MLS_SECURITY_LABEL, "S:A");
+    integrity = label(&m, MLS_INTEGRITY_LABEL, "hi");
+    CHECK(mls_may(&m, ANN, MLS_READ, &security, &integrity) == 1);
+    CHECK(mls_may(&m, BOB, MLS_READ, &security, &integrity) == 0);
+    CHECK(mls_may(&m, ANN, 4, &security, &integrity) == 0 && mls_may(&m, 9, MLS_READ, &security, &integrity) == 0);
+    CHECK(mls_is_active(&m, MEMO) == 1 && mls_is_active(&m, MADE) == 0);
+    CHECK(mls_child_after(&m, ROOT, 0) == PLANS && mls_child_after(&m, ROOT, PLANS) == MEMO);
+    CHECK(mls_child_after(&m, MEMO, 0) == 0);
+    CHECK(mls_reason_of(MLS_DENIED + MLS_FULL) == MLS_FULL && mls_reason_of(MLS_CREATED) == 0);
+    CHECK(mls_reason_of(MLS_DENIED) == 0);
+    mls_close(&m);
+    CHECK(mls_may(&m, ANN, MLS_READ, &security, &integrity) == 0);
+}
+
 static mls_shared shared = MLS_SHARED_INIT;
+
+/* Whether other calls tell what can't be: ann holds plans in no mode but read, entries only become more, and nothing
+ * else changes. */
+static int is_wrong_told(uint64_t next) {
+    mls_pair_info pair;
+    mls_counts counts;
+    if (mls_shared_read_pair(&shared, ANN, PLANS, &pair) != MLS_OK || (pair.held & ~MLS_READS)) return 1;
+    if (mls_shared_count(&shared, &counts) != MLS_OK || counts.entries < next) return 1;
+    return counts.subjects != 4 || counts.objects != 4 || counts.next != MADE;
+}
 
 /* Gets and releases in turn, as a session of its own: each answer has the next number that this session can have. */
 static void *work(void *session) {
@@ -88,6 +120,7 @@ static void *work(void *session) {
         next = a.number + 1;
         wrong += mls_shared_decide(&shared, &q, &a) != MLS_OK || a.number < next;
         wrong += (size_t)(mls_shared_check(&shared, ANN, PLANS, MLS_READ) & ~1);
+        wrong += is_wrong_told(next);
     }
     return wrong ? session : NULL;
 }
@@ -140,14 +173,79 @@ static void made(void) {
     mls_shared_destroy(&s);
 }
 
+/* The calls of a shared handle that tell what it holds: what each tells of an open handle, and of a closed one. */
+static void readers(void) {
+    mls_shared s = MLS_SHARED_INIT;
+    mls_fault fault;
+    mls_subject_info subject;
+    mls_object_info object;
+    mls_pair_info pair;
+    mls_counts counts;
+    char text[8];
+    size_t len;
+    uint16_t child;
+    CHECK(mls_shared_open(&s, start, start_len, &fault) == MLS_OK);
+    CHECK(mls_shared_read_subject(&s, BOB, &subject) == MLS_OK && subject.maximum.level == 1 && subject.trusted == 0);
+    CHECK(mls_shared_read_subject(&s, 4, &subject) == MLS_ENOTFOUND);
+    CHECK(mls_shared_read_object(&s, PLANS, &object) == MLS_OK && object.security.level == 2 && object.parent == ROOT);
+    CHECK(mls_shared_read_object(&s, MADE, &object) == MLS_ENOTFOUND);
+    CHECK(mls_shared_read_pair(&s, ANN, PLANS, &pair) == MLS_OK && pair.permitted == MLS_READS + MLS_WRITES);
+    CHECK(pair.held == 0);
+    CHECK(mls_shared_count(&s, &counts) == MLS_OK && counts.entries == 0 && counts.subjects == 4);
+    CHECK(counts.objects == 4);
+    CHECK(counts.next == MADE && mls_shared_next_child(&s, ROOT, PLANS, &child) == MLS_OK && child == MEMO);
+    CHECK(mls_shared_next_child(&s, MEMO, 0, &child) == MLS_ENOTFOUND);
+    CHECK(mls_shared_subject_name(&s, SEC, text, sizeof text, &len) == MLS_OK && len == 3);
+    CHECK(memcmp(text, "sec", len) == 0);
+    CHECK(mls_shared_object_name(&s, MEMO, text, sizeof text, &len) == MLS_OK && len == 4);
+    CHECK(memcmp(text, "memo", len) == 0);
+    CHECK(mls_shared_object_name(&s, MEMO, text, 3, &len) == MLS_ERANGE && len == 4);
+    mls_shared_close(&s);
+    CHECK(mls_shared_read_subject(&s, BOB, &subject) == MLS_ECLOSED);
+    CHECK(mls_shared_read_object(&s, PLANS, &object) == MLS_ECLOSED);
+    CHECK(mls_shared_read_pair(&s, ANN, PLANS, &pair) == MLS_ECLOSED && mls_shared_count(&s, &counts) == MLS_ECLOSED);
+    CHECK(mls_shared_next_child(&s, ROOT, 0, &child) == MLS_ECLOSED);
+    CHECK(mls_shared_subject_name(&s, SEC, text, sizeof text, &len) == MLS_ECLOSED);
+    CHECK(mls_shared_object_name(&s, MEMO, text, sizeof text, &len) == MLS_ECLOSED);
+    mls_shared_destroy(&s);
+}
+
+/* The calls of a shared handle that say what would be answered, and why. */
+static void reasons(void) {
+    mls_shared s = MLS_SHARED_INIT;
+    mls_request get = mls_request_of(MLS_GET, BOB, MEMO, MLS_READ);
+    mls_fault fault;
+    mls_label security, integrity;
+    mls_condition rows[MLS_CONDITIONS];
+    mls_remedy remedy;
+    size_t count;
+    uint16_t reply;
+    CHECK(mls_shared_open(&s, start, start_len, &fault) == MLS_OK);
+    security = label(&s.monitor, MLS_SECURITY_LABEL, "C");
+    integrity = label(&s.monitor, MLS_INTEGRITY_LABEL, "lo");
+    CHECK(mls_shared_decide_label(&s, BOB, MLS_READ, &security, &integrity, &reply) == MLS_OK);
+    CHECK(mls_reason_of(reply) == MLS_STAR);
+    CHECK(mls_shared_explain(&s, &get, rows, MLS_CONDITIONS, &count, &remedy) == MLS_OK && count == 4);
+    CHECK(rows[2].reason == MLS_STAR && rows[2].holds == 0 && rows[2].basis == MLS_BY_DOMINANCE);
+    CHECK(remedy.there == 1 && mls_dominates(&remedy.label, &security) && mls_dominates(&security, &remedy.label));
+    CHECK(mls_shared_explain(&s, &get, NULL, 0, &count, &remedy) == MLS_ERANGE && count == 4);
+    mls_shared_close(&s);
+    CHECK(mls_shared_decide_label(&s, BOB, MLS_READ, &security, &integrity, &reply) == MLS_ECLOSED);
+    CHECK(mls_shared_explain(&s, &get, rows, MLS_CONDITIONS, &count, &remedy) == MLS_ECLOSED);
+    mls_shared_destroy(&s);
+}
+
 int main(int argc, char **argv) {
     FILE *file = argc == 2 ? fopen(argv[1], "rb") : NULL;
     if (!file) return 2;
     start_len = fread(start, 1, sizeof start, file);
     fclose(file);
     actions();
+    questions();
     threads();
     made();
+    readers();
+    reasons();
     if (!failed) puts("ok");
     return failed;
 }

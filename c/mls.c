@@ -14,6 +14,8 @@ static const uint8_t *bytes(const uint8_t *at, size_t len) { return at || len ? 
 
 static char nowhere;
 
+static mls_condition no_condition;
+
 static char *room(char *at, size_t cap) { return at || cap ? at : &nowhere; }
 
 int mls_open_bytes(mls_monitor *m, const uint8_t *start, size_t len, mls_fault *fault);
@@ -23,6 +25,9 @@ int mls_subject_bytes(mls_monitor *m, const uint8_t *name, size_t len, uint16_t 
 int mls_object_bytes(mls_monitor *m, const uint8_t *name, size_t len, uint16_t *object);
 int mls_read_label_bytes(mls_monitor *m, uint32_t kind, const uint8_t *text, size_t len, mls_label *label);
 int mls_write_label_bytes(mls_monitor *m, uint32_t kind, const mls_label *label, char *buf, size_t cap, size_t *len);
+int mls_subject_name_bytes(mls_monitor *m, uint16_t subject, char *buf, size_t cap, size_t *len);
+int mls_object_name_bytes(mls_monitor *m, uint16_t object, char *buf, size_t cap, size_t *len);
+int mls_explain_rows(mls_monitor *m, const mls_request *request, mls_condition *rows, size_t cap, size_t *count, mls_remedy *remedy);
 
 int mls_open(mls_monitor *m, const uint8_t *start, size_t len, mls_fault *fault) {
     return mls_open_bytes(m, bytes(start, len), len, fault);
@@ -50,6 +55,18 @@ int mls_read_label(mls_monitor *m, int kind, const uint8_t *text, size_t len, ml
 
 int mls_write_label(mls_monitor *m, int kind, const mls_label *label, char *buf, size_t cap, size_t *len) {
     return mls_write_label_bytes(m, (uint32_t)kind, label, room(buf, cap), cap, len);
+}
+
+int mls_subject_name(mls_monitor *m, uint16_t subject, char *buf, size_t cap, size_t *len) {
+    return mls_subject_name_bytes(m, subject, room(buf, cap), cap, len);
+}
+
+int mls_object_name(mls_monitor *m, uint16_t object, char *buf, size_t cap, size_t *len) {
+    return mls_object_name_bytes(m, object, room(buf, cap), cap, len);
+}
+
+int mls_explain(mls_monitor *m, const mls_request *request, mls_condition *conditions, size_t cap, size_t *count, mls_remedy *remedy) {
+    return mls_explain_rows(m, request, conditions || cap ? conditions : &no_condition, cap, count, remedy);
 }
 
 static const char *word(const char *const *words, size_t count, int number) {

@@ -111,9 +111,16 @@ static void is_closed(mls_t *m) {
     mls_answer_t a = no_answer;
     mls_entry_t e;
     mls_label_t l = {0, {0}};
+    mls_subject_info s = {{0, {0}}, {0, {0}}, {0, {0}}, 7};
+    mls_object_info o = {{0, {0}}, {0, {0}}, 7};
+    mls_pair_info p = {7, 7};
+    mls_counts c = {7, 7, 7, 7};
+    mls_condition rows[MLS_CONDITIONS];
+    mls_remedy r = {7, {0, {0}}};
     uint16_t n = 7;
     size_t len = 7;
     char buf[8] = "abcdefg";
+    rows[0].reason = 7;
     CHECK(m->held == 0 && m->monitor == NULL);
     CHECK(mls_check(m, ANN, PLANS, MLS_READ) == 0);
     CHECK(mls_submit(m, 0, &q, &a) == MLS_ECLOSED && mls_submit(m, 0, &bad, &a) == MLS_ECLOSED);
@@ -124,6 +131,14 @@ static void is_closed(mls_t *m) {
     CHECK(mls_subject(m, (const uint8_t *)"ann", 3, &n) == MLS_ECLOSED && mls_object(m, (const uint8_t *)"memo", 4, &n) == MLS_ECLOSED);
     CHECK(mls_read_label(m, MLS_SECURITY_LABEL, (const uint8_t *)"S", 1, &l) == MLS_ECLOSED);
     CHECK(mls_write_label(m, MLS_SECURITY_LABEL, &l, buf, sizeof buf, &len) == MLS_ECLOSED);
+    CHECK(mls_decide_label(m, ANN, MLS_READ, &l, &l, &n) == MLS_ECLOSED && mls_decide_label(m, ANN, 4, &l, &l, &n) == MLS_ECLOSED);
+    CHECK(mls_read_subject(m, ANN, &s) == MLS_ECLOSED && mls_read_object(m, PLANS, &o) == MLS_ECLOSED);
+    CHECK(mls_read_pair(m, ANN, PLANS, &p) == MLS_ECLOSED && mls_count(m, &c) == MLS_ECLOSED);
+    CHECK(s.trusted == 7 && o.parent == 7 && p.permitted == 7 && p.held == 7 && c.entries == 7 && c.objects == 7);
+    CHECK(mls_next_child(m, ROOT, 0, &n) == MLS_ECLOSED);
+    CHECK(mls_subject_name(m, ANN, buf, sizeof buf, &len) == MLS_ECLOSED && mls_object_name(m, PLANS, buf, sizeof buf, &len) == MLS_ECLOSED);
+    CHECK(mls_explain(m, &q, rows, MLS_CONDITIONS, &len, &r) == MLS_ECLOSED && mls_explain(m, &bad, NULL, 0, &len, &r) == MLS_ECLOSED);
+    CHECK(rows[0].reason == 7 && r.there == 7);
     CHECK(n == 7 && len == 7 && strcmp(buf, "abcdefg") == 0);
 }
 
@@ -291,6 +306,218 @@ static void names_and_labels(void) {
     CHECK(mls_write_label(&m, MLS_SECURITY_LABEL, &l, buf, sizeof buf, &len) == MLS_EINVAL);
     l.level = 0;
     CHECK(mls_write_label(&m, 2, &l, buf, sizeof buf, &len) == MLS_EINVAL && len == 9);
+    mls_close(&m);
+}
+
+static mls_label bits(uint8_t level, uint64_t first, uint64_t last) {
+    mls_label l = {0, {0, 0, 0, 0}};
+    l.level = level;
+    l.categories[0] = first;
+    l.categories[3] = last;
+    return l;
+}
+
+static int over(mls_label a, mls_label b) { return mls_dominates(&a, &b); }
+
+/* Dominance by the definition, category by category. */
+static int over_slowly(const mls_label *a, const mls_label *b) {
+    int n;
+    if (a->level > 15 || b->level > 15 || a->level < b->level) return 0;
+    for (n = 0; n < 256; n++)
+        if (b->categories[n / 64] >> n % 64 & 1 && !(a->categories[n / 64] >> n % 64 & 1)) return 0;
+    return 1;
+}
+
+static void dominance(void) {
+    const uint64_t top = (uint64_t)1 << 63;
+    mls_label l = bits(3, 5, top);
+    uint64_t random = 88172645463325252u;
+    long k, n, wrong = 0, yes = 0;
+    CHECK(over(bits(3, 5, top), bits(3, 4, 0)) == 1 && over(bits(3, 4, 0), bits(3, 5, top)) == 0);
+    CHECK(over(bits(3, 0, top), bits(2, 0, top)) == 1 && over(bits(2, 0, top), bits(3, 0, top)) == 0);
+    CHECK(over(bits(3, 1, 0), bits(1, 2, 0)) == 0 && over(bits(1, 2, 0), bits(3, 1, 0)) == 0);
+    CHECK(mls_dominates(&l, &l) == 1 && over(bits(15, 0, 0), bits(15, 0, 0)) == 1);
+    CHECK(over(bits(16, 5, 0), bits(3, 5, 0)) == 0 && over(bits(3, 5, 0), bits(16, 5, 0)) == 0 && over(bits(255, 0, 0), bits(255, 0, 0)) == 0);
+    for (n = 0; n < 200000; n++) {
+        mls_label two[2];
+        for (k = 0; k < 8; k++) {
+            random ^= random << 13, random ^= random >> 7, random ^= random << 17;
+            /* few bits in the second, many in the first, so that both answers come */
+            two[k / 4].categories[k % 4] = k < 4 ? random | random >> 21 | random << 17 : random & random >> 9 & random << 13 & random >> 31;
+            two[k / 4].level = random >> 40 & 15;
+        }
+        wrong += mls_dominates(&two[0], &two[1]) != over_slowly(&two[0], &two[1]);
+        yes += mls_dominates(&two[0], &two[1]);
+    }
+    CHECK(wrong == 0 && yes > 100 && yes < 199900);
+}
+
+/* What is said of an access by labels of the standard start's schemes. */
+static int said(mls_t *m, uint16_t subject, uint8_t mode, const char *security, const char *integrity) {
+    mls_label l = label(m, MLS_SECURITY_LABEL, security), i = label(m, MLS_INTEGRITY_LABEL, integrity);
+    uint16_t reply = 999;
+    CHECK(mls_decide_label(m, subject, mode, &l, &i, &reply) == MLS_OK);
+    CHECK(mls_may(m, subject, mode, &l, &i) == (reply == MLS_YES));
+    return reply;
+}
+
+static void deciding_by_labels(void) {
+    mls_t m = MLS_INIT;
+    mls_label l, i, bad = bits(16, 0, 0), wide = bits(0, 4, 0);
+    uint16_t reply = 999, subject, object;
+    uint8_t mode;
+    long before = live;
+    open_standard(&m);
+    before = live - before;
+    /* ann is at S:A and hi, bob at U below C and lo, sec trusted at U below T:A,B and hi */
+    CHECK(said(&m, ANN, MLS_READ, "S:A", "hi") == MLS_YES && said(&m, ANN, MLS_READ, "S:B", "hi") == MLS_DENIED + MLS_SIMPLE);
+    CHECK(said(&m, ANN, MLS_READ, "U", "lo") == MLS_DENIED + MLS_INTEGRITY && said(&m, ANN, MLS_APPEND, "U", "hi") == MLS_DENIED + MLS_STAR);
+    CHECK(said(&m, ANN, MLS_WRITE, "S:A", "hi") == MLS_YES && said(&m, ANN, MLS_WRITE, "S:A", "lo") == MLS_DENIED + MLS_INTEGRITY);
+    CHECK(said(&m, ANN, MLS_APPEND, "T:A,B", "lo") == MLS_YES && said(&m, BOB, MLS_APPEND, "T", "hi") == MLS_DENIED + MLS_INTEGRITY);
+    CHECK(said(&m, BOB, MLS_READ, "C", "lo") == MLS_DENIED + MLS_STAR && said(&m, BOB, MLS_READ, "T", "lo") == MLS_DENIED + MLS_SIMPLE);
+    CHECK(said(&m, BOB, MLS_EXECUTE, "T", "hi") == MLS_YES && said(&m, BOB, MLS_EXECUTE, "T", "lo") == MLS_YES);
+    CHECK(said(&m, SEC, MLS_READ, "T:A", "hi") == MLS_YES && said(&m, SEC, MLS_READ, "T:A", "lo") == MLS_DENIED + MLS_INTEGRITY);
+    CHECK(said(&m, 4, MLS_READ, "U", "lo") == MLS_UNDEFINED && said(&m, 65535, MLS_READ, "U", "lo") == MLS_UNDEFINED);
+    l = label(&m, MLS_SECURITY_LABEL, "U");
+    i = label(&m, MLS_INTEGRITY_LABEL, "hi");
+    CHECK(mls_decide_label(&m, ANN, MLS_READ, &wide, &i, &reply) == MLS_OK && reply == MLS_UNDEFINED);
+    CHECK(mls_decide_label(&m, ANN, MLS_READ, &l, &wide, &reply) == MLS_OK && reply == MLS_UNDEFINED);
+    reply = 999;
+    CHECK(mls_decide_label(&m, ANN, 4, &l, &i, &reply) == MLS_EINVAL && mls_decide_label(&m, ANN, 255, &l, &i, &reply) == MLS_EINVAL);
+    CHECK(mls_decide_label(&m, ANN, MLS_READ, &bad, &i, &reply) == MLS_EINVAL && mls_decide_label(&m, 9, MLS_READ, &l, &bad, &reply) == MLS_EINVAL);
+    CHECK(reply == 999 && mls_entries(&m) == 0);
+    /* of an object's labels it says what the rule for a get says, where the matrix permits that */
+    for (subject = ANN; subject <= AUD; subject++)
+        for (object = ROOT; object <= TOOL; object++)
+            for (mode = MLS_EXECUTE; mode <= MLS_WRITE; mode++) {
+                mls_request_t q = request(MLS_GET, subject, mode, object);
+                mls_object_info info;
+                mls_answer_t a;
+                CHECK(mls_read_object(&m, object, &info) == MLS_OK && mls_decide(&m, &q, &a) == MLS_OK);
+                CHECK(mls_decide_label(&m, subject, mode, &info.security, &info.integrity, &reply) == MLS_OK);
+                CHECK(a.reply == MLS_DENIED + MLS_DISCRETIONARY || a.reply == reply);
+            }
+    /* the current label counts: bob at C reads what he didn't at U */
+    l = label(&m, MLS_SECURITY_LABEL, "C");
+    i = label(&m, MLS_INTEGRITY_LABEL, "lo");
+    {
+        mls_answer_t a;
+        CHECK(mls_level(&m, 0, BOB, &l, &a) == MLS_OK && a.reply == MLS_YES);
+    }
+    CHECK(said(&m, BOB, MLS_READ, "C", "lo") == MLS_YES);
+    CHECK(mls_reason_of(MLS_DENIED + MLS_STAR) == MLS_STAR && mls_reason_of(MLS_YES) == 0 && mls_reason_of(MLS_UNDEFINED) == 0);
+    left = 0;
+    CHECK(mls_decide_label(&m, BOB, MLS_READ, &l, &i, &reply) == MLS_OK && reply == MLS_YES);
+    left = -1;
+    mls_close(&m);
+}
+
+static void readers(void) {
+    mls_t m = MLS_INIT;
+    mls_subject_info s;
+    mls_object_info o;
+    mls_pair_info p = {77, 77};
+    mls_counts c;
+    mls_label l, i;
+    mls_answer_t a;
+    uint16_t n = 99;
+    size_t len = 9;
+    char buf[8];
+    open_standard(&m);
+    l = label(&m, MLS_SECURITY_LABEL, "S:B");
+    i = label(&m, MLS_INTEGRITY_LABEL, "lo");
+    left = 0;
+    CHECK(mls_read_subject(&m, SEC, &s) == MLS_OK && s.trusted == 1 && s.maximum.level == 3 && s.maximum.categories[0] == 3);
+    CHECK(s.current.level == 0 && s.current.categories[0] == 0 && s.integrity.level == 1);
+    CHECK(mls_read_subject(&m, BOB, &s) == MLS_OK && s.trusted == 0 && s.maximum.level == 1 && s.current.level == 0 && s.integrity.level == 0);
+    CHECK(mls_read_subject(&m, 4, &s) == MLS_ENOTFOUND && mls_read_subject(&m, 65535, &s) == MLS_ENOTFOUND && s.maximum.level == 1);
+    CHECK(mls_read_object(&m, PLANS, &o) == MLS_OK && o.parent == ROOT && o.security.level == 2 && o.security.categories[0] == 1 && o.integrity.level == 1);
+    CHECK(mls_read_object(&m, ROOT, &o) == MLS_OK && o.parent == ROOT && o.security.level == 0);
+    CHECK(mls_read_object(&m, 4, &o) == MLS_ENOTFOUND && mls_read_object(&m, 65535, &o) == MLS_ENOTFOUND && o.security.level == 0);
+    CHECK(mls_is_active(&m, TOOL) == 1 && mls_is_active(&m, 4) == 0);
+    CHECK(mls_read_pair(&m, ANN, PLANS, &p) == MLS_OK && p.permitted == (MLS_READS | MLS_WRITES) && p.held == 0);
+    CHECK(mls_read_pair(&m, SEC, MEMO, &p) == MLS_OK && p.permitted == (MLS_APPENDS | MLS_WRITES));
+    CHECK(mls_read_pair(&m, BOB, TOOL, &p) == MLS_OK && p.permitted == MLS_EXECUTES);
+    CHECK(mls_read_pair(&m, 4, TOOL, &p) == MLS_ENOTFOUND && mls_read_pair(&m, BOB, 4, &p) == MLS_ENOTFOUND && p.permitted == MLS_EXECUTES);
+    CHECK(mls_count(&m, &c) == MLS_OK && c.entries == 0 && c.subjects == 4 && c.objects == 4 && c.next == 4);
+    CHECK(mls_next_child(&m, ROOT, 0, &n) == MLS_OK && n == PLANS && mls_next_child(&m, ROOT, PLANS, &n) == MLS_OK && n == MEMO);
+    CHECK(mls_next_child(&m, ROOT, TOOL, &n) == MLS_ENOTFOUND && mls_next_child(&m, TOOL, 0, &n) == MLS_ENOTFOUND && mls_next_child(&m, 4, 0, &n) == MLS_ENOTFOUND);
+    CHECK(mls_next_child(&m, ROOT, 65535, &n) == MLS_ENOTFOUND && n == MEMO);
+    CHECK(mls_child_after(&m, ROOT, MEMO) == TOOL && mls_child_after(&m, ROOT, TOOL) == 0);
+    memset(buf, '#', sizeof buf);
+    CHECK(mls_object_name(&m, PLANS, buf, sizeof buf, &len) == MLS_OK && len == 5 && memcmp(buf, "plans###", 8) == 0);
+    CHECK(mls_subject_name(&m, AUD, buf, 2, &len) == MLS_ERANGE && len == 3 && memcmp(buf, "plans", 5) == 0);
+    CHECK(mls_subject_name(&m, AUD, NULL, 0, &len) == MLS_ERANGE && mls_subject_name(&m, AUD, buf, 3, &len) == MLS_OK && memcmp(buf, "audns", 5) == 0);
+    CHECK(mls_subject_name(&m, 4, buf, sizeof buf, &len) == MLS_ENOTFOUND && mls_object_name(&m, 4, buf, sizeof buf, &len) == MLS_ENOTFOUND && len == 3);
+    left = -1;
+    /* what is held, and what is made and deleted */
+    CHECK(mls_get(&m, 0, ANN, PLANS, MLS_READ, &a) == MLS_OK && a.reply == MLS_YES && mls_read_pair(&m, ANN, PLANS, &p) == MLS_OK && p.held == MLS_READS);
+    CHECK(mls_get(&m, 0, SEC, ROOT, MLS_WRITE, &a) == MLS_OK && mls_create(&m, 0, SEC, ROOT, &l, &i, &a) == MLS_OK && a.object == 4);
+    CHECK(mls_count(&m, &c) == MLS_OK && c.entries == 3 && c.objects == 5 && c.next == 5);
+    CHECK(mls_read_object(&m, 4, &o) == MLS_OK && o.parent == ROOT && o.security.level == 2 && o.security.categories[0] == 2);
+    CHECK(mls_object_name(&m, 4, buf, sizeof buf, &len) == MLS_ENOTFOUND && mls_child_after(&m, ROOT, TOOL) == 4);
+    CHECK(mls_delete(&m, 0, SEC, MEMO, &a) == MLS_OK && a.reply == MLS_YES && mls_is_active(&m, MEMO) == 0);
+    CHECK(mls_count(&m, &c) == MLS_OK && c.entries == 4 && c.objects == 4 && c.next == 5 && mls_child_after(&m, ROOT, PLANS) == TOOL);
+    mls_close(&m);
+}
+
+static void explaining(void) {
+    mls_t m = MLS_INIT;
+    mls_request_t q = request(MLS_GET, BOB, MLS_READ, MEMO), bad = request(MLS_GET, BOB, 4, MEMO);
+    mls_condition c[MLS_CONDITIONS];
+    mls_remedy r = {7, {7, {7, 7, 7, 7}}};
+    mls_answer_t a;
+    size_t n = 9;
+    open_standard(&m);
+    memset(c, 0x55, sizeof c);
+    CHECK(mls_explain(&m, &q, NULL, 0, &n, &r) == MLS_ERANGE && n == 4 && mls_explain(&m, &q, c, 3, &n, &r) == MLS_ERANGE && n == 4);
+    CHECK(c[0].reason == 0x5555 && r.there == 7 && r.label.level == 7);
+    n = 9;
+    CHECK(mls_explain(&m, &bad, c, MLS_CONDITIONS, &n, &r) == MLS_EINVAL);
+    q.object = 4;
+    CHECK(mls_explain(&m, &q, c, MLS_CONDITIONS, &n, &r) == MLS_ENOTFOUND && n == 9 && c[0].reason == 0x5555 && r.there == 7);
+    q.object = MEMO;
+    CHECK(mls_explain(&m, &q, c, MLS_CONDITIONS, &n, &r) == MLS_OK && n == 4);
+    CHECK(c[0].reason == MLS_DISCRETIONARY && c[0].holds == 1 && c[0].basis == MLS_BY_PERMISSION && c[0].subject == BOB && c[0].mode == MLS_READ && c[0].object == MEMO);
+    CHECK(c[1].reason == MLS_SIMPLE && c[1].holds == 1 && c[1].basis == MLS_BY_DOMINANCE && c[1].first.kind == MLS_MAXIMUM_OF_CALLER && c[1].first.label.level == 1);
+    CHECK(c[1].second.kind == MLS_SECURITY_OF_OBJECT && c[1].second.of == MEMO && c[1].second.label.level == 1 && c[1].third.kind == MLS_NO_TERM);
+    CHECK(c[2].reason == MLS_STAR && c[2].holds == 0 && c[2].first.kind == MLS_CURRENT_OF_CALLER && c[2].first.label.level == 0 && c[2].subject == 0);
+    CHECK(c[3].reason == MLS_INTEGRITY && c[3].holds == 1 && c[3].first.kind == MLS_INTEGRITY_OF_OBJECT && c[3].first.of == MEMO);
+    CHECK(c[3].second.kind == MLS_INTEGRITY_OF_SUBJECT && c[3].second.of == BOB);
+    /* the remedy: at C the get is granted */
+    CHECK(r.there == 1 && r.label.level == 1 && r.label.categories[0] == 0);
+    CHECK(mls_level(&m, 0, BOB, &r.label, &a) == MLS_OK && a.reply == MLS_YES);
+    CHECK(mls_get(&m, 0, BOB, MEMO, MLS_READ, &a) == MLS_OK && a.reply == MLS_YES);
+    /* a request without conditions, and what isn't compared */
+    q.action = MLS_RELEASE;
+    CHECK(mls_explain(&m, &q, NULL, 0, &n, &r) == MLS_OK && n == 0 && r.there == 0 && r.label.level == 0);
+    q = request(MLS_GET, SEC, MLS_APPEND, MEMO);
+    CHECK(mls_explain(&m, &q, c, MLS_CONDITIONS, &n, &r) == MLS_OK && c[1].basis == MLS_BY_NO_OBSERVING && c[1].mode == MLS_APPEND);
+    CHECK(c[2].basis == MLS_BY_TRUST && c[2].subject == SEC);
+    q = request(MLS_OBJECT_LEVEL, ANN, 0, PLANS);
+    q.security = label(&m, MLS_SECURITY_LABEL, "T:A");
+    CHECK(mls_explain(&m, &q, c, MLS_CONDITIONS, &n, &r) == MLS_OK && n == 4 && c[0].reason == MLS_AUTHORITY && c[0].holds == 0);
+    CHECK(c[0].basis == MLS_BY_RELABELLING && c[0].also == 0 && c[0].subject == ANN && c[0].object == PLANS && c[0].parent == ROOT);
+    CHECK(c[0].first.label.level == 2 && c[0].second.label.level == 2 && c[0].second.of == PLANS && c[0].third.kind == MLS_REQUESTED_SECURITY && c[0].third.label.level == 3);
+    CHECK(c[1].reason == MLS_COMPATIBILITY && c[1].holds == 1 && c[1].basis == MLS_BY_PLACE && c[1].also == 1 && c[1].parent == ROOT);
+    CHECK(c[2].basis == MLS_BY_OBSERVERS && c[3].basis == MLS_BY_HOLDERS && c[3].object == PLANS && c[3].first.label.level == 3 && r.there == 0);
+    q.object = ROOT;
+    q.subject = SEC;
+    CHECK(mls_explain(&m, &q, c, MLS_CONDITIONS, &n, &r) == MLS_OK && c[0].basis == MLS_BY_TRUST && c[1].basis == MLS_BY_CHILDREN && c[1].holds == 0);
+    q = request(MLS_DELETE, SEC, 0, ROOT);
+    CHECK(mls_explain(&m, &q, c, MLS_CONDITIONS, &n, &r) == MLS_OK && n == 2 && c[0].basis == MLS_BY_NO_ROOT && c[1].basis == MLS_BY_NO_PARENT);
+    q = request(MLS_CREATE, SEC, 0, ROOT);
+    CHECK(mls_explain(&m, &q, c, MLS_CONDITIONS, &n, &r) == MLS_OK && n == 4 && c[0].basis == MLS_BY_ALTERING && c[3].basis == MLS_BY_NUMBER && c[3].object == 4);
+    CHECK(c[1].first.kind == MLS_REQUESTED_SECURITY && c[2].second.kind == MLS_REQUESTED_INTEGRITY);
+    q = request(MLS_GIVE, BOB, MLS_READ, TOOL);
+    CHECK(mls_explain(&m, &q, c, MLS_CONDITIONS, &n, &r) == MLS_OK && n == 1 && c[0].basis == MLS_BY_WRITING && c[0].object == ROOT);
+    q = request(MLS_SUBJECT_LEVEL, BOB, 0, 0);
+    CHECK(mls_explain(&m, &q, c, MLS_CONDITIONS, &n, &r) == MLS_OK && n == 2 && c[0].reason == MLS_CEILING && c[1].basis == MLS_BY_HOLDINGS && c[1].holds == 0);
+    n = 9;
+    left = 0;
+    r.there = 7;
+    CHECK(mls_explain(&m, &q, c, MLS_CONDITIONS, &n, &r) == MLS_ENOMEM && n == 9 && r.there == 7);
+    left = -1;
     mls_close(&m);
 }
 
@@ -467,6 +694,51 @@ static void words(void) {
     CHECK(MLS_VERSION_MAJOR == 0 && MLS_VERSION_MINOR == 2 && strcmp(mls_version(), "0.2") == 0);
 }
 
+/* Submits a request, and compares the line of its entry with the words of its numbers. */
+static void has_words(mls_t *m, const mls_request_t *q, long *reasons) {
+    mls_answer_t a;
+    char line[512], head[64], tail[64];
+    size_t len, front, end;
+    CHECK(mls_submit(m, 5, q, &a) == MLS_OK && mls_entry_text(m, a.number, line, sizeof line - 1, &len) == MLS_OK);
+    line[len] = 0;
+    sprintf(head, "%lu 5 %u %s%s%s", (unsigned long)a.number, q->subject, mls_action_word(q->action), q->action == MLS_GET ? "-" : " ",
+            q->action <= MLS_RESCIND ? mls_mode_word(q->mode) : "");
+    if (a.reply == MLS_CREATED)
+        sprintf(tail, " %s %u\n", mls_reply_word(a.reply), a.object);
+    else
+        sprintf(tail, " %s%s%s\n", mls_reply_word(a.reply), a.reply > MLS_DENIED ? " " : "", a.reply > MLS_DENIED ? mls_reason_word(mls_reason_of(a.reply)) : "");
+    front = strlen(head);
+    end = strlen(tail);
+    CHECK(len > front + end - 1 && memcmp(line, head, front) == 0 && memcmp(line + len - end, tail, end) == 0);
+    if (a.reply > MLS_DENIED) *reasons |= 1L << mls_reason_of(a.reply);
+}
+
+/* The words of c/mls.c are those of the journal's lines, of all actions, modes and replies. */
+static void words_of_lines(void) {
+    mls_t m = MLS_INIT;
+    mls_request_t q = request(MLS_CREATE, SEC, 0, ROOT), r;
+    mls_answer_t a;
+    long reasons = 0, n;
+    uint32_t random = 2463534242u;
+    open_standard(&m);
+    CHECK(mls_get(&m, 0, SEC, ROOT, MLS_WRITE, &a) == MLS_OK && a.reply == MLS_YES);
+    for (n = 0; n < 20000; n++) {
+        random ^= random << 13, random ^= random >> 17, random ^= random << 5;
+        r = request((uint8_t)(random & 7), (uint16_t)(random >> 3 & 3), (uint8_t)(random >> 5 & 3), (uint16_t)(random >> 7 & 3));
+        r.other = (uint16_t)(random >> 9 & 3);
+        r.security.level = (uint8_t)(random >> 11 & 3);
+        r.security.categories[0] = random >> 13 & 3;
+        r.integrity.level = (uint8_t)(random >> 15 & 1);
+        /* the objects of the start stay, so that all can be asked of them */
+        if (r.action != MLS_DELETE || r.subject != SEC || r.object == ROOT) has_words(&m, &r, &reasons);
+        if (n % 64 == 0) CHECK(mls_get(&m, 0, SEC, ROOT, MLS_WRITE, &a) == MLS_OK);
+    }
+    /* an object on each number that is left, and one more */
+    for (n = 0; n <= MLS_OBJECTS; n++) has_words(&m, &q, &reasons);
+    CHECK(reasons == (1L << (MLS_FULL + 1)) - 2);
+    mls_close(&m);
+}
+
 int main(int argc, char **argv) {
     FILE *file = argc > 1 ? fopen(argv[1], "rb") : NULL;
     if (!file) return 2;
@@ -479,6 +751,10 @@ int main(int argc, char **argv) {
     tell("all actions", all_actions);
     tell("bad numbers", bad_numbers);
     tell("names and labels", names_and_labels);
+    tell("dominance", dominance);
+    tell("deciding by labels", deciding_by_labels);
+    tell("readers", readers);
+    tell("explaining", explaining);
     tell("the text of a journal", keeping);
     tell("resuming", resuming);
     tell("journals that are refused", refused_journals);
@@ -487,6 +763,7 @@ int main(int argc, char **argv) {
     tell("submits without memory", refused_submits);
     tell("many submits", many_submits);
     tell("words", words);
+    tell("words of lines", words_of_lines);
     printf("%d passed, %d failed\n", passed, failed);
     return failed != 0;
 }

@@ -9,10 +9,11 @@
  * - The caller allocates a handle, as MLS_INIT or all zeros, and never copies it, writes to it or
  *   moves it while it is open.
  * - Pointers are valid for what they are lent for, aligned, and none overlaps another of the same
- *   call. Where a length is 0, the pointer beside it may be null; no other may.
+ *   call, but that what is only read may be lent twice. Where a length is 0, the pointer beside it
+ *   may be null; no other may.
  * - One call at a time works on a handle: put a mutex round it where threads share it, as
- *   mls_shared.h does. No call is made from a signal handler, nor in the forked child of a process
- *   with threads.
+ *   mls_shared.h does. mls_dominates takes no handle, and is called by any threads at once. No call
+ *   is made from a signal handler, nor in the forked child of a process with threads.
  * Memory comes from malloc, realloc and free, and only mls_close frees what the library holds.
  */
 #ifndef MLS_H
@@ -41,8 +42,8 @@ enum {
     MLS_ESTART = -5,    /* the start is refused: the fault says why */
     MLS_EJOURNAL = -6,  /* a line of the journal is no entry's: the fault says which and why */
     MLS_EREPLAY = -7,   /* the journal isn't one of its start: the fault says where and why */
-    MLS_ERANGE = -8,    /* the buffer is too short */
-    MLS_ENOTFOUND = -9  /* no such entry, or no such name */
+    MLS_ERANGE = -8,    /* the buffer or the rows are too short */
+    MLS_ENOTFOUND = -9  /* no such entry, name, subject or object, or a request that names none */
 };
 
 /* Actions. */
@@ -115,6 +116,101 @@ typedef struct {
     uint64_t place;
 } mls_fault;
 
+/* A subject: its labels, and 1 where the star property doesn't bind it, else 0. */
+typedef struct {
+    mls_label maximum, current, integrity;
+    uint8_t trusted;
+} mls_subject_info;
+
+/* An object: its labels, and its parent, 0 where it is the root. */
+typedef struct {
+    mls_label security, integrity;
+    uint16_t parent;
+} mls_object_info;
+
+/* Sets of modes: the sum of these, or bit MLS_READ and so on. */
+enum {
+    MLS_EXECUTES = 1 << MLS_EXECUTE, MLS_READS = 1 << MLS_READ, MLS_APPENDS = 1 << MLS_APPEND,
+    MLS_WRITES = 1 << MLS_WRITE
+};
+
+/* A subject and an object: the modes that the matrix permits, and those in which it is held. */
+typedef struct {
+    uint8_t permitted, held;
+} mls_pair_info;
+
+/* How many entries, subjects and active objects there are, and the number that the next object will
+ * have, MLS_OBJECTS where there is none. Subjects have the numbers below how many there are. */
+typedef struct {
+    uint64_t entries;
+    uint16_t subjects, objects, next;
+} mls_counts;
+
+/* Object numbers are below this. */
+enum { MLS_OBJECTS = 4096 };
+
+/* What a label that a condition compares is the label of. */
+enum {
+    MLS_NO_TERM = 0,           /* no label is compared */
+    MLS_MAXIMUM_OF_CALLER = 1,
+    MLS_CURRENT_OF_CALLER = 2,
+    MLS_REQUESTED_SECURITY = 3,
+    MLS_SECURITY_OF_OBJECT = 4,    /* of: the object */
+    MLS_REQUESTED_INTEGRITY = 5,
+    MLS_INTEGRITY_OF_OBJECT = 6,   /* of: the object */
+    MLS_INTEGRITY_OF_SUBJECT = 7   /* of: the subject */
+};
+
+/* A label that a condition compares: what it is the label of, the number of the object or the
+ * subject, else 0, and the label. */
+typedef struct {
+    uint16_t kind, of;
+    mls_label label;
+} mls_term;
+
+/* What a condition rests on, and the fields that say it; the others are 0. */
+enum {
+    MLS_BY_PERMISSION = 1,   /* the matrix permits subject the object in the mode */
+    MLS_BY_NO_OBSERVING = 2, /* the mode doesn't observe */
+    MLS_BY_EXECUTE = 3,      /* execute neither observes nor alters */
+    MLS_BY_TRUST = 4,        /* subject is trusted */
+    MLS_BY_DOMINANCE = 5,    /* first dominates second */
+    MLS_BY_EQUALITY = 6,     /* first equals second */
+    MLS_BY_WRITING = 7,      /* subject holds write on object */
+    MLS_BY_ALTERING = 8,     /* subject holds append or write on object */
+    MLS_BY_NO_PARENT = 9,    /* object has no parent that could be written: it never holds */
+    MLS_BY_NUMBER = 10,      /* the next number, which object has, is below MLS_OBJECTS */
+    MLS_BY_NO_ROOT = 11,     /* object isn't the root */
+    MLS_BY_HOLDINGS = 12,    /* star of all that subject holds, with the current label first */
+    MLS_BY_RELABELLING = 13, /* also: subject writes parent; and first, its current label, and
+                                third, the new one, dominate second, that of object */
+    MLS_BY_CHILDREN = 14,    /* the label of each child of object dominates first */
+    MLS_BY_PLACE = 15,       /* first dominates second, the label of parent, the object's parent;
+                                and also: the label of each child of object dominates first */
+    MLS_BY_OBSERVERS = 16,   /* simple security of all that is held of object, with label first */
+    MLS_BY_HOLDERS = 17      /* star of all that is held of object, with label first */
+};
+
+/* No request has more conditions than this. */
+enum { MLS_CONDITIONS = 4 };
+
+/* A condition of a request: the reason of the denial where it is the first that fails, 1 where it
+ * holds, and what it rests on. */
+typedef struct {
+    uint16_t reason;
+    uint8_t holds, also, basis, mode;
+    uint16_t subject, object, parent;
+    mls_term first, second, third;
+} mls_condition;
+
+/* The remedy of a get: 1 and the least current label that the subject can take now after which the
+ * get is granted; 0 where there is none. Of a get that is granted anyway it may be a lower label
+ * than the current one. */
+typedef struct {
+    uint8_t there;
+    mls_label label;
+} mls_remedy;
+
 /* The same types by their names of version 0.2, which the next version no longer has: POSIX keeps
  * names that end in _t for itself. */
 typedef mls_monitor mls_t;
@@ -173,6 +269,45 @@ int mls_read_label(mls_monitor *m, int kind, const uint8_t *text, size_t len, ml
  * MLS_EINVAL where the scheme has no such label, MLS_ERANGE, MLS_ENOMEM. */
 int mls_write_label(mls_monitor *m, int kind, const mls_label *label, char *buf, size_t cap,
                     size_t *len);
+
+/* Whether label a dominates label b: 1 or 0, and 0 too where the level of one is above 15. It takes
+ * no handle, and a and b may be the same label. */
+int mls_dominates(const mls_label *a, const mls_label *b);
+
+/* What simple security, star and integrity say of an access of the subject in the mode to what has
+ * these labels and isn't an object, a row or a file say: MLS_YES, MLS_UNDEFINED where the subject
+ * is unknown or a label outside the bounds, or MLS_DENIED and the reason of the first of the three
+ * that fails, as in the rule for a get. The matrix isn't asked, nothing is held afterwards, no
+ * entry is added, and it doesn't allocate. MLS_ECLOSED, MLS_EINVAL.
+ * It says what holds now. No later level change sees the access, as it sees what is held of
+ * objects: docs/EMBEDDING.md says how star is kept over rows. */
+int mls_decide_label(mls_monitor *m, uint16_t subject, uint8_t mode, const mls_label *security,
+                     const mls_label *integrity, uint16_t *reply);
+
+/* Copies out a subject; an active object; which modes of a subject on an object are permitted and
+ * held; and how much there is. They don't allocate. MLS_ECLOSED; MLS_ENOTFOUND where there is no
+ * such subject or the object isn't active. */
+int mls_read_subject(mls_monitor *m, uint16_t subject, mls_subject_info *info);
+int mls_read_object(mls_monitor *m, uint16_t object, mls_object_info *info);
+int mls_read_pair(mls_monitor *m, uint16_t subject, uint16_t object, mls_pair_info *info);
+int mls_count(mls_monitor *m, mls_counts *counts);
+
+/* The least child of an object whose number is above another one: of 0 and then of each child that
+ * is told, it tells all children. It doesn't allocate. MLS_ECLOSED; MLS_ENOTFOUND where the object
+ * isn't active or has no such child. */
+int mls_next_child(mls_monitor *m, uint16_t object, uint16_t above, uint16_t *child);
+
+/* Copies out the name that the start has for a subject's or an object's number, as mls_entry_text
+ * does a line. They don't allocate. MLS_ECLOSED, MLS_ENOTFOUND where it has none, MLS_ERANGE. */
+int mls_subject_name(mls_monitor *m, uint16_t subject, char *buf, size_t cap, size_t *len);
+int mls_object_name(mls_monitor *m, uint16_t object, char *buf, size_t cap, size_t *len);
+
+/* Copies out the conditions of a request, in the order of its rule, and the remedy, which only a
+ * get has. How many conditions there are is told with MLS_OK and with MLS_ERANGE, which writes
+ * nothing else; cap is how many have room. MLS_ECLOSED; MLS_EINVAL; MLS_ENOTFOUND where the reply
+ * is MLS_UNDEFINED; MLS_ERANGE; MLS_ENOMEM. */
+int mls_explain(mls_monitor *m, const mls_request *request, mls_condition *conditions, size_t cap,
+                size_t *count, mls_remedy *remedy);
 
 /* Closes a handle and frees what it holds. A closed handle stays closed. */
 void mls_close(mls_monitor *m);
@@ -269,6 +404,31 @@ MLS_INLINE int mls_relabel(mls_monitor *m, uint32_t session, uint16_t subject, u
     mls_request request = mls_request_of(MLS_OBJECT_LEVEL, subject, object, 0);
     request.security = *security;
     return mls_submit(m, session, &request, answer);
+}
+
+/* Whether the subject may see what has this label, or change it: mls_decide_label says yes. 1 or 0,
+ * and 0 too where the handle is closed or the numbers are none. */
+MLS_INLINE int mls_may(mls_monitor *m, uint16_t subject, uint8_t mode, const mls_label *security,
+                       const mls_label *integrity) {
+    uint16_t reply = MLS_UNDEFINED;
+    return mls_decide_label(m, subject, mode, security, integrity, &reply) == MLS_OK &&
+           reply == MLS_YES;
+}
+
+/* The reason of a denial, 0 of any other reply: mls_reason_word has its word. */
+MLS_INLINE int mls_reason_of(uint16_t reply) { return reply > MLS_DENIED ? reply - MLS_DENIED : 0; }
+
+/* Whether an object is active: 1 or 0. */
+MLS_INLINE int mls_is_active(mls_monitor *m, uint16_t object) {
+    mls_object_info info;
+    return mls_read_object(m, object, &info) == MLS_OK;
+}
+
+/* The least child of an object above another number, 0 where there is none:
+ * for (c = mls_child_after(m, o, 0); c; c = mls_child_after(m, o, c)) .. */
+MLS_INLINE uint16_t mls_child_after(mls_monitor *m, uint16_t object, uint16_t above) {
+    uint16_t child = 0;
+    return mls_next_child(m, object, above, &child) == MLS_OK ? child : 0;
 }
 
 #ifdef __cplusplus

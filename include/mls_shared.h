@@ -121,6 +121,68 @@ MLS_INLINE int mls_shared_write_label(mls_shared *s, int kind, const mls_label *
     return status;
 }
 
+MLS_INLINE int mls_shared_decide_label(mls_shared *s, uint16_t subject, uint8_t mode,
+                                       const mls_label *security, const mls_label *integrity,
+                                       uint16_t *reply) {
+    int status = mls_decide_label(mls_shared_lock(s), subject, mode, security, integrity, reply);
+    mls_shared_unlock(s);
+    return status;
+}
+
+MLS_INLINE int mls_shared_explain(mls_shared *s, const mls_request *request,
+                                  mls_condition *conditions, size_t cap, size_t *count,
+                                  mls_remedy *remedy) {
+    int status = mls_explain(mls_shared_lock(s), request, conditions, cap, count, remedy);
+    mls_shared_unlock(s);
+    return status;
+}
+
+MLS_INLINE int mls_shared_read_subject(mls_shared *s, uint16_t subject, mls_subject_info *info) {
+    int status = mls_read_subject(mls_shared_lock(s), subject, info);
+    mls_shared_unlock(s);
+    return status;
+}
+
+MLS_INLINE int mls_shared_read_object(mls_shared *s, uint16_t object, mls_object_info *info) {
+    int status = mls_read_object(mls_shared_lock(s), object, info);
+    mls_shared_unlock(s);
+    return status;
+}
+
+MLS_INLINE int mls_shared_read_pair(mls_shared *s, uint16_t subject, uint16_t object,
+                                    mls_pair_info *info) {
+    int status = mls_read_pair(mls_shared_lock(s), subject, object, info);
+    mls_shared_unlock(s);
+    return status;
+}
+
+MLS_INLINE int mls_shared_count(mls_shared *s, mls_counts *counts) {
+    int status = mls_count(mls_shared_lock(s), counts);
+    mls_shared_unlock(s);
+    return status;
+}
+
+MLS_INLINE int mls_shared_next_child(mls_shared *s, uint16_t object, uint16_t above,
+                                     uint16_t *child) {
+    int status = mls_next_child(mls_shared_lock(s), object, above, child);
+    mls_shared_unlock(s);
+    return status;
+}
+
+MLS_INLINE int mls_shared_subject_name(mls_shared *s, uint16_t subject, char *buf, size_t cap,
+                                       size_t *len) {
+    int status = mls_subject_name(mls_shared_lock(s), subject, buf, cap, len);
+    mls_shared_unlock(s);
+    return status;
+}
+
+MLS_INLINE int mls_shared_object_name(mls_shared *s, uint16_t object, char *buf, size_t cap,
+                                      size_t *len) {
+    int status = mls_object_name(mls_shared_lock(s), object, buf, cap, len);
+    mls_shared_unlock(s);
+    return status;
+}
+
 /* Closes the handle, which may be opened again. */
 MLS_INLINE void mls_shared_close(mls_shared *s) {
     mls_close(mls_shared_lock(s));

@@ -1,6 +1,9 @@
 pub mod Answers
+pub mod Conditions
 pub mod Faults
 pub mod Handle
+pub mod Infos
+pub mod LabelAsking
 pub mod Labels
 pub mod Opened
 pub mod Requests

@@ -1,9 +1,9 @@
 //! Replies and entries in numbers.
 ghost use Rattle.std.specs.Prelude.{◌≡◌};
-ghost use Rattle.mls_c.specs.Answers.{number_of_reply, object_of_reply, answer_of, numbers_of_entry};
+ghost use Rattle.mls_c.specs.Answers.{number_of_reason, number_of_reply, object_of_reply, answer_of, numbers_of_entry};
 
 use crate::request::RequestNumbers;
-use mls_requests::{Entry, Reply};
+use mls_requests::{Entry, Reason, Reply};
 
 /// The answer to a request: the number of its entry, the reply, and the object that was made, if one was.
 #[repr(C)]
@@ -25,6 +25,13 @@ pub struct EntryNumbers {
     pub request: RequestNumbers,
 }
 
+/// The number of a reason, from 1 on.
+pub(crate) fn number_of_reason(reason: Reason) -> u16
+    ensures { result ≡ number_of_reason reason }
+{
+    1 + reason.place()
+}
+
 /// The number of a reply.
 pub(crate) fn number_of_reply(reply: &Reply) -> u16
     ensures { result ≡ number_of_reply reply.now }
@@ -33,7 +40,7 @@ pub(crate) fn number_of_reply(reply: &Reply) -> u16
         Reply::Yes => 0,
         Reply::Created(_) => 1,
         Reply::Undefined => 2,
-        Reply::No(reason) => 17 + reason.place(),
+        Reply::No(reason) => 16 + number_of_reason(*reason),
     }
 }
 

@@ -3,38 +3,54 @@
 
 mod answer;
 mod asking;
+mod condition_numbers;
+mod counts;
+mod explaining;
 mod fault;
 mod handle;
 mod journal;
 mod kept;
 mod label;
+mod label_asking;
 mod label_text;
 mod lines;
 mod names;
+mod object_info;
 mod opened;
 mod opening;
+mod pair_info;
 mod request;
 mod resume_fault;
 mod resuming;
 mod status;
+mod subject_info;
+mod term_numbers;
 mod text;
 mod theorems;
 
 pub use answer::{Answer, EntryNumbers};
 pub use asking::{mls_check, mls_decide, mls_submit};
+pub use condition_numbers::ConditionNumbers;
+pub use counts::{Counts, mls_count};
+pub use explaining::{RemedyNumbers, mls_explain_rows};
 pub use fault::FaultNumbers;
 pub use handle::{Mls, mls_close};
 pub use journal::{mls_entries, mls_entry};
 pub use kept::Kept;
 pub use label::LabelNumbers;
+pub use label_asking::{LabelAccess, mls_decide_label, mls_dominates};
 pub use label_text::{mls_read_label_bytes, mls_write_label_bytes};
 pub use lines::mls_entry_bytes;
 pub use names::{mls_object_bytes, mls_subject_bytes};
+pub use object_info::{ObjectInfo, mls_next_child, mls_object_name_bytes, mls_read_object};
 pub use opened::Opened;
 pub use opening::mls_open_bytes;
+pub use pair_info::{PairInfo, mls_read_pair};
 pub use request::RequestNumbers;
 pub use resuming::mls_resume_bytes;
+pub use subject_info::{SubjectInfo, mls_read_subject, mls_subject_name_bytes};
+pub use term_numbers::TermNumbers;
 pub use theorems::{
-    entries_have_their_numbers, labels_have_their_numbers, replies_have_their_numbers,
-    requests_have_their_numbers,
+    entries_have_their_numbers, labels_decide_as_objects_do, labels_have_their_numbers,
+    replies_have_their_numbers, requests_have_their_numbers,
 };

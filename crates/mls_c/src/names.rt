@@ -26,7 +26,7 @@ fn object_of(names: &Names, name: &[u8]) -> Option<u16>
 }
 
 /// Tells the number of a name, where it has one.
-fn tell(found: Option<u16>, number: &mut u16) -> i32
+pub(crate) fn tell(found: Option<u16>, number: &mut u16) -> i32
     ensures status { result ≡ found_status found }
     ensures found { result ≡ OK → found ≡ Some number.new }
     ensures silent { result ≢ OK → number.new ≡ number.old }

@@ -34,7 +34,7 @@ pub(crate) fn mode_at(number: u8) -> Option<Mode>
 }
 
 /// The number of a mode.
-fn number_of_mode(mode: Mode) -> u8
+pub(crate) fn number_of_mode(mode: Mode) -> u8
     ensures { result ≡ number_of_mode mode }
 {
     match mode {

@@ -1,10 +1,17 @@
 //! What holds of numbers. The functions do nothing: each is a law, which its contract states.
-ghost use Rattle.std.specs.Prelude.{◌≡◌, Some};
+ghost use Rattle.std.specs.Prelude.{◌≡◌, ◌∷◌, ℕ, IsTrue, Some};
 ghost use Rattle.mls_labels.specs.Label.{Label as LabelView};
 ghost use Rattle.mls_requests.specs.declared.entry.Entry.{Entry as EntryView};
 ghost use Rattle.mls_requests.specs.declared.reply.Reply.{Reply as ReplyView};
 ghost use Rattle.mls_requests.specs.declared.request.Request.{Request as RequestView};
+ghost use Rattle.mls_requests.specs.declared.action.Action.TheVariants.{Get};
+ghost use Rattle.mls_requests.specs.declared.reason.Reason.TheVariants.{Discretionary};
+ghost use Rattle.mls_state.specs.State.{State as StateView};
+ghost use Rattle.mls_state.specs.Properties.{discretionary_holds};
+ghost use Rattle.mls_rules.specs.Rules.{conditions, reply};
 ghost use Rattle.mls_journal.specs.EntryText.{LabelHasRanges, ActionHasRanges, HasRanges};
+ghost use Rattle.mls_c.specs.LabelAsking.{get_of, HasLabels, has_bounds, label_conditions, label_reply};
+ghost use Rattle.mls_c.specs.declared.label_asking.LabelAccess.{LabelAccess as AccessView};
 ghost use Rattle.mls_c.specs.Labels.{label_of, numbers_of_label};
 ghost use Rattle.mls_c.specs.Requests.{request_of, numbers_of_request};
 ghost use Rattle.mls_c.specs.Answers.{number_of_reply, object_of_reply, numbers_of_entry};
@@ -32,4 +39,15 @@ pub fn replies_have_their_numbers()
 /// No two entries have the same numbers: who reads an entry in numbers knows the entry.
 pub fn entries_have_their_numbers()
     ensures apart { (a b : EntryView) → HasRanges a → HasRanges b → numbers_of_entry a ≡ numbers_of_entry b → a ≡ b }
+{}
+
+/// What is decided by labels is what the rule for a get decides of an active object that has them. Its conditions are
+/// those of the get behind the first, which is the matrix's; where that permits the get, and the bounds have the labels,
+/// both replies are the same.
+pub fn labels_decide_as_objects_do()
+    ensures conditions { (v : StateView) (o : ℕ) (a : AccessView) → HasLabels v o a
+        → conditions v a.subject (Get a.mode o)
+        ≡ (Discretionary, discretionary_holds v (a.subject, o, a.mode)) ∷ label_conditions v a }
+    ensures reply { (v : StateView) (o : ℕ) (a : AccessView) → HasLabels v o a → IsTrue (has_bounds v a)
+        → IsTrue (discretionary_holds v (a.subject, o, a.mode)) → label_reply v a ≡ reply v (get_of a o) }
 {}
