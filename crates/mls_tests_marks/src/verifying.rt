@@ -1,0 +1,176 @@
+//! Marks verified in pieces, and asked for. The digests are those of Python's hashlib.
+use mls_marks::{Digest, MarkFault, Marks, Time, Verifier};
+use std::process::Abort;
+
+/// The lines of three entries.
+const JOURNAL: &[u8] = b"0 0 0 get-read 1 yes\n1 0 0 get-read 2 no state\n2 0 1 delete 3 yes\n";
+
+/// The mark of the first entry, but for its digest.
+const FIRST: &[u8] = b"0 2026-11-27T11:12:26.736512Z ";
+
+/// The digest of 32 zero bytes and the first line.
+const FIRST_DIGEST: &[u8] = b"899c2cfb011b90cd5b0eec4174e340189117785e03f8995f0cbe33892662f344";
+
+/// The mark of the other two, but for its digest. The clock went back.
+const SECOND: &[u8] = b"2 2026-11-27T11:12:25.000000Z ";
+
+/// The digest of the first digest and the other two lines.
+const SECOND_DIGEST: &[u8] = b"cbeccef4fed3557555cab3624bacf0de321dfee0519791878520e9c8685be054";
+
+/// The bytes of marks, in pieces; why they aren't those of the journal, where they aren't; and how many agree.
+#[derive(Clone, Copy)]
+struct Row {
+    pieces: &'static [&'static [u8]],
+    fault: Option<MarkFault>,
+    marks: u64,
+}
+
+const ROWS: [Row; 10] = [
+    Row {
+        pieces: &[FIRST, FIRST_DIGEST, b"\n", SECOND, SECOND_DIGEST, b"\n"],
+        fault: None,
+        marks: 2,
+    },
+    Row {
+        pieces: &[],
+        fault: None,
+        marks: 0,
+    },
+    // no newline at the end
+    Row {
+        pieces: &[FIRST, FIRST_DIGEST, b"\n", SECOND, SECOND_DIGEST],
+        fault: Some(MarkFault::Torn),
+        marks: 1,
+    },
+    // a zero byte in a line that is complete
+    Row {
+        pieces: &[FIRST, b"\0", FIRST_DIGEST, b"\n"],
+        fault: Some(MarkFault::Torn),
+        marks: 0,
+    },
+    // a month that isn't one
+    Row {
+        pieces: &[b"0 2026-13-27T11:12:26.736512Z ", FIRST_DIGEST, b"\n"],
+        fault: Some(MarkFault::Form { line: 1 }),
+        marks: 0,
+    },
+    // a line that is longer than a mark's
+    Row {
+        pieces: &[
+            FIRST,
+            FIRST_DIGEST,
+            b"\n",
+            SECOND,
+            SECOND_DIGEST,
+            SECOND_DIGEST,
+            b"\n",
+        ],
+        fault: Some(MarkFault::Form { line: 2 }),
+        marks: 1,
+    },
+    // a digit in upper case
+    Row {
+        pieces: &[
+            FIRST,
+            b"899C2cfb011b90cd5b0eec4174e340189117785e03f8995f0cbe33892662f344\n",
+        ],
+        fault: Some(MarkFault::Form { line: 1 }),
+        marks: 0,
+    },
+    // a mark that stands there twice
+    Row {
+        pieces: &[FIRST, FIRST_DIGEST, b"\n", FIRST, FIRST_DIGEST, b"\n"],
+        fault: Some(MarkFault::Differs { entry: 0 }),
+        marks: 1,
+    },
+    // the mark before is left out
+    Row {
+        pieces: &[SECOND, SECOND_DIGEST, b"\n"],
+        fault: Some(MarkFault::Differs { entry: 2 }),
+        marks: 0,
+    },
+    // an entry that isn't there
+    Row {
+        pieces: &[b"3 2026-11-27T11:12:25.000000Z ", SECOND_DIGEST, b"\n"],
+        fault: Some(MarkFault::Differs { entry: 3 }),
+        marks: 0,
+    },
+];
+
+/// Takes a piece a byte at a time.
+fn take_bytes(verifier: &mut Verifier<'_>, piece: &[u8]) {
+    for i in 0..piece.len() {
+        let _ = verifier.take(&piece[i..i + 1]);
+    }
+}
+
+/// Asserts what the marks of a row come to.
+fn assert_row(rt: &impl Abort, row: &Row, verifier: &Verifier<'_>) {
+    assert_eq!(rt; verifier.end().err(), row.fault);
+    assert_eq!(rt; verifier.verified().marks, row.marks);
+}
+
+#[test]
+fn marks_are_verified_in_pieces(rt: HostRuntime) {
+    for row in &ROWS {
+        let mut verifier = Verifier::new(JOURNAL, Digest::zeros(), None);
+        for piece in row.pieces {
+            let _ = verifier.take(piece);
+        }
+        assert_row(&rt, row, &verifier);
+    }
+}
+
+#[test]
+fn marks_are_verified_byte_by_byte(rt: HostRuntime) {
+    for row in &ROWS {
+        let mut verifier = Verifier::new(JOURNAL, Digest::zeros(), None);
+        for piece in row.pieces {
+            take_bytes(&mut verifier, piece);
+        }
+        assert_row(&rt, row, &verifier);
+    }
+}
+
+/// Asserts what marks that agree say.
+fn assert_verified(rt: &impl Abort, verifier: &Verifier<'_>) {
+    let verified = verifier.verified();
+    assert_eq!(rt; Some(verified.chain.digest), Digest::read(SECOND_DIGEST));
+    assert_eq!(rt; verified.chain.entries, 3);
+    assert_eq!(rt; verified.chain.len, JOURNAL.len());
+    assert_eq!(rt; verified.first, Time::read(b"2026-11-27T11:12:26.736512Z"));
+    assert_eq!(rt; verified.last, Time::read(b"2026-11-27T11:12:25.000000Z"));
+    assert!(rt; verified.is_found);
+    assert_eq!(rt; verified.len, 190);
+}
+
+/// Asserts what is told of times.
+fn assert_times(rt: &impl Abort, marks: &Marks, early: &Time, late: &Time) {
+    assert_eq!(rt; marks.time_of(0), Some(*late));
+    assert_eq!(rt; marks.time_of(1), Some(*early));
+    assert_eq!(rt; marks.time_of(2), Some(*early));
+    assert_eq!(rt; marks.time_of(3), None);
+    assert_eq!(rt; marks.since(early), Some(0));
+    assert_eq!(rt; marks.since(late), Some(0));
+    assert_eq!(rt; marks.until(early), Some(2));
+    assert_eq!(rt; marks.until(late), Some(2));
+}
+
+#[test]
+fn marks_say_when_entries_were_made(rt: HostRuntime) {
+    let mut marks = Marks::new(rt.alloc());
+    let mut verifier = Verifier::new(JOURNAL, Digest::zeros(), Digest::read(FIRST_DIGEST));
+    for piece in ROWS[0].pieces {
+        if verifier.take_rows(piece, &mut marks).is_err() {
+            panic!(rt; "marks that agree");
+        }
+    }
+    assert_verified(&rt, &verifier);
+    match (
+        Time::read(b"2026-11-27T11:12:25.000000Z"),
+        Time::read(b"2026-11-27T11:12:26.736512Z"),
+    ) {
+        (Some(early), Some(late)) => assert_times(&rt, &marks, &early, &late),
+        _ => panic!(rt; "times"),
+    }
+}
