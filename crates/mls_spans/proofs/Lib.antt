@@ -1,0 +1,6 @@
+mod Followed
+mod Standing
+mod Places
+mod Swept
+mod Begins
+mod Listed

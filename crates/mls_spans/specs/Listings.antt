@@ -1,0 +1,45 @@
+-- What is listed of the spans in which accesses are held.
+use Rattle.std.specs.Prelude.{◌≡◌, ◌⊎◌, ℕ, List, Some, string_bytes}
+use Rattle.std.specs.List.{list_any}
+use Rattle.mls_lines.specs.Names.{Names}
+use Rattle.mls_requests.specs.declared.entry.Entry.{Entry}
+use Rattle.mls_replay.specs.Replays.{Replayed, ReplaysAt, RefusesAt}
+use Rattle.mls_replay.specs.declared.command.CommandFault.TheVariants.{Memory}
+use Rattle.mls_replay.specs.declared.question_fault.QuestionFault.{QuestionFault}
+use Rattle.mls_replay.specs.declared.question_fault.QuestionFault.TheVariants.{Files}
+use Rattle.mls_state.specs.State.{State}
+use Rattle.mls_wording.specs.declared.answer.Answer.{Answer}
+use Rattle.mls_spans.specs.Asked.{Choice, Words, IsChosen, choice_fault, is_asked}
+use Rattle.mls_spans.specs.Lines.{lines_text}
+use Rattle.mls_spans.specs.Spans.{spans_over}
+
+-- The lines of the spans over a start and entries that are asked for, and of no others; it is positive where there is
+-- one. (own)
+pub record IsListing (names : Names) (start : State) (entries : List Entry) (c : Choice) (answer : Answer)
+    : Type 0 where
+  pub text : string_bytes answer.text ≡ lines_text names c (spans_over start entries)
+  pub positive : answer.is_positive ≡ list_any (is_asked c) (spans_over start entries)
+
+-- There is a listing of the spans of a replay that a filter asks for. (own)
+abbrev pub ListsOver : Replayed → Words → Answer → Type 0
+ListsOver r words answer = (c : Choice) × IsChosen r.names words c × IsListing r.names r.start r.entries c answer
+
+-- A start file and a journal are replayed, and there is a listing of the spans that a filter asks for. (own)
+abbrev pub ListsHeld : List ℕ → List ℕ → Words → Answer → Type 0
+ListsHeld bytes journal words answer =
+    (r : Replayed) × ReplaysAt bytes journal (Some words.states.first) r × ListsOver r words answer
+
+-- A start file and a journal are replayed, and a filter's words have this fault. (own)
+abbrev pub HasWrongName : List ℕ → List ℕ → Words → QuestionFault → Type 0
+HasWrongName bytes journal words fault =
+    (r : Replayed) × ReplaysAt bytes journal (Some words.states.first) r × (choice_fault r.names words ≡ Some fault)
+
+-- Why the spans of a replay aren't listed: memory ran out, or a filter's words have this fault. (own)
+abbrev pub RefusesNames : Names → Words → QuestionFault → Type 0
+RefusesNames names words fault = (fault ≡ Files Memory) ⊎ (choice_fault names words ≡ Some fault)
+
+-- Why spans aren't listed: as a replay up to the first state that is asked about is refused, or else a filter's words
+-- have this fault. (own)
+abbrev pub RefusesHeld : List ℕ → List ℕ → Words → QuestionFault → Type 0
+RefusesHeld bytes journal words fault =
+    RefusesAt bytes journal (Some words.states.first) fault ⊎ HasWrongName bytes journal words fault

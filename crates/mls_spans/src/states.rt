@@ -1,0 +1,63 @@
+//! Which states are asked about.
+ghost use Rattle.std.specs.Prelude.{◌≡◌, Some};
+ghost use Rattle.mls_spans.specs.Asked.{state_before, state_after, first_state, is_up_to, meets};
+
+use crate::span::Span;
+
+/// The states that are asked about, by their numbers: state N is the one before entry N, and the last one is behind all
+/// entries.
+#[derive(Clone, Copy, Debug, PartialEq, Eq)]
+pub struct States {
+    /// From this one on.
+    pub first: u64,
+    /// Up to this one, it included.
+    pub last: Option<u64>,
+}
+
+impl States {
+    /// The state before an entry.
+    pub fn at(number: u64) -> States
+        ensures { result ≡ record { first = number; last = Some number } }
+    {
+        States {
+            first: number,
+            last: Some(number),
+        }
+    }
+
+    /// The states from the one before an entry to the one after another, or from the first, or to the last.
+    pub fn between(from: Option<u64>, to: Option<u64>) -> States
+        ensures { result ≡ record { first = state_before from; last = state_after to } }
+    {
+        let first = match from {
+            Some(number) => number,
+            None => 0,
+        };
+        let last = match to {
+            Some(number) if number < u64::MAX => Some(number + 1),
+            _ => None,
+        };
+        States { first, last }
+    }
+
+    /// Whether a span has one of them that isn't too late.
+    fn is_begun(&self, span: &Span) -> bool
+        ensures { result ≡ is_up_to (first_state span.now.made) self.now.last }
+    {
+        match (span.made, self.last) {
+            (Some(made), Some(last)) => made < last,
+            _ => true,
+        }
+    }
+
+    /// Whether a span has one of them.
+    pub fn meet(&self, span: &Span) -> bool
+        ensures { result ≡ meets self.now span.now }
+    {
+        let is_late = match span.ended {
+            Some(ending) => self.first <= ending.number,
+            None => true,
+        };
+        self.is_begun(span) && is_late
+    }
+}
