@@ -31,6 +31,8 @@ CHECKS = [
     Check("service", (".ci/check-durable",), PROGRAM, 40),
     Check("front", (".ci/check-mlsd", "--short"), PROOF, 60),
     Check("database", ("integrations/postgresql/check",), PROGRAM, 60),
+    Check("replicas", ("integrations/etcd/check", "--short"), PROOF, 60),
+    Check("guard", ("integrations/guard/check", "--short"), PROGRAM, 40),
     Check("tutorial", (".ci/check-tutorial",), PROGRAM, 20),
     Check("mutants", ("bin/mutants", "--read"), FILES, 1),
     Check("links", (".ci/check-links",), FILES, 1),

@@ -16,19 +16,23 @@ class Shipping:
 
     def __init__(self, journal, copy):
         loop = f"while :; do '{TOOL}' --pause 0.02 {journal} -- '{TOOL}' --take {copy}; sleep 0.1; done"
-        self.loop = subprocess.Popen(["sh", "-c", loop], start_new_session=True, stdout=subprocess.PIPE, stderr=subprocess.PIPE)
+        self.said_in = f"{copy}.said"
+        with open(self.said_in, "wb") as said:
+            streams = {"stdout": said, "stderr": subprocess.PIPE}
+            self.loop = subprocess.Popen(["sh", "-c", loop], start_new_session=True, **streams)
 
     def __enter__(self):
         return self
 
     def __exit__(self, *_):
         os.killpg(self.loop.pid, signal.SIGKILL)
-        self.said, self.told = self.loop.communicate()
+        self.told = self.loop.communicate()[1]
+        self.said = content(self.said_in)
 
     def until(self, copy, wanted):
-        """Waits until the copy has these bytes."""
-        ends = time.monotonic() + SECONDS
-        while not os.path.exists(copy) or content(copy) != wanted:
+        """Waits until the copy has these bytes, and the tool has said so."""
+        ends, line = time.monotonic() + SECONDS, b"entries %d\n" % wanted.count(b"\n")
+        while not (os.path.exists(copy) and content(copy) == wanted and content(self.said_in).endswith(line)):
             assert time.monotonic() < ends, "it isn't shipped"
             time.sleep(0.02)
 

@@ -6,7 +6,7 @@ import time
 
 import fronts
 from fronts import ALL, ANN, BOB, JOURNAL, OTHER, USERS, Front, comes, core, entries, fresh, held, levels, refused, told
-from mls_client import Ended, Refused
+from mls import Ended
 from outside import example, put, same, shown
 
 POOL = ["app-1", "app-2", "app-3"]
@@ -184,6 +184,13 @@ def releases_wait_for_company():
         assert time.monotonic() - begun > 3.9, "the release did not wait"
 
 
+def read_users_anew(front, users):
+    """Writes the users file, has it read anew, and waits until it was."""
+    put(USERS, users)
+    front.run.send_signal(signal.SIGHUP)
+    assert front.notices.has("RELOADING=1", lambda: True) and front.notices.has("READY=1", lambda: True)
+
+
 def users_are_read_anew():
     """SIGHUP: who may ask is let in, who may not is closed and what it held released; a file that is refused changes
     nothing."""
@@ -192,12 +199,9 @@ def users_are_read_anew():
         ann, bob = front.client(ANN), front.client(BOB)
         same([ann.ask("ann get-read plans"), bob.ask("bob get-execute tool")], ["yes", "yes"])
         for users in (b"%d = nobody\n" % BOB, b"pool app = ann\n"):
-            put(USERS, users)
-            front.run.send_signal(signal.SIGHUP)
-            assert front.notices.has("RELOADING=1", lambda: True) and front.notices.has("READY=1", lambda: True)
+            read_users_anew(front, users)
             same([ann.ask("ann check read plans"), bob.ask("bob check execute tool")], ["held", "held"])
-        put(USERS, b"%d = bob aud\n%d = ann\n" % (BOB, OTHER))
-        front.run.send_signal(signal.SIGHUP)
+        read_users_anew(front, b"%d = bob aud\n%d = ann\n" % (BOB, OTHER))
         try:
             ann.ask("ann check read plans")
             assert False, "it was answered"
@@ -205,8 +209,7 @@ def users_are_read_anew():
             pass
         same([bob.ask("aud check read plans"), front.client(OTHER).ask("ann check read plans")], ["not held"] * 2)
         same(fronts.rest_of(fronts.connected_as(ANN, ANN)), b"not known\n")
-        put(USERS, b"%d = aud\n" % BOB)
-        front.run.send_signal(signal.SIGHUP)
+        read_users_anew(front, b"%d = aud\n" % BOB)
         try:
             bob.ask("aud check read plans")
             assert False, "it may ask as fewer, and was answered"
