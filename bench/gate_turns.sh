@@ -1,13 +1,13 @@
 #!/usr/bin/env bash
 # The cost of a turn at the gate: has 1, 2 and 4 threads do nothing but submit a release, and work between two of them, through the gate
-# and under the toolchain's mutex round the same monitor (crates/mls_turns), and prints nanoseconds by the clock and of processor time a
+# and under the toolchain's mutex round the same monitor (crates/mls_probes), and prints nanoseconds by the clock and of processor time a
 # turn, what a run of few turns takes taken off: the least of seven runs of each kind, gate and mutex by turns. (A run of few turns may
 # have a nap in it that is longer than all of them, so many and few are not compared run by run.)
 set -u
 export LC_ALL=C
 cd "$(dirname -- "$0")/.." || exit 1
-program=$PWD/crates/mls_turns/out/mls_turns
-[ -x "$program" ] || bin/prove mls_turns || exit 1
+program=$PWD/crates/mls_probes/out/mls_probes
+[ -x "$program" ] || bin/prove mls_probes || exit 1
 
 python3 - "$program" <<'TIMES'
 import os, resource, subprocess, sys, time

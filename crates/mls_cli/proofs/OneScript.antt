@@ -10,8 +10,8 @@ use Rattle.mls_scripts.specs.Lines.{lines_of}
 use Rattle.mls_scripts.specs.Script.{answers, after_lines}
 use Rattle.mls_scripts.proofs.Laws.{alone}
 use Rattle.mls_replay.specs.RunTexts.{heading}
-use Rattle.mls_runs.specs.Run.{begins, scripts_left, scripts_text, run_entries, run_text}
-use Rattle.mls_runs.specs.Threads.{LeavesInThreads}
+use Rattle.mls_cli.specs.Run.{begins, scripts_left, scripts_text, run_entries, run_text}
+use Rattle.mls_cli.specs.Threads.{LeavesInThreads}
 use Rattle.mls_replay.specs.RunTexts.{ending}
 
 -- where there is one session, all entries are its own

@@ -3,8 +3,8 @@ ghost use Rattle.std.specs.Prelude.{◌≡◌, ℕ, List, [], ◌∷◌, Bool, O
 ghost use Rattle.mls_state.specs.State.{State};
 ghost use Rattle.mls_journal.specs.EntryText.{journal_text};
 ghost use Rattle.mls_lines.specs.Names.{Names};
-ghost use Rattle.mls_runs.specs.Run.{run_entries, run_text};
-ghost use Rattle.mls_runs.specs.Threads.{LeavesInThreads};
+ghost use Rattle.mls_cli.specs.Run.{run_entries, run_text};
+ghost use Rattle.mls_cli.specs.Threads.{LeavesInThreads};
 
 /// One script that is run in a thread prints what a serial run of it prints, and leaves the same journal.
 pub fn one_script_runs_alike()

@@ -1,11 +1,16 @@
-//! Tests of journals: the lines of entries, and the service over an outside in memory whose calls fail from some call on,
-//! which shows that the trait can be met.
+//! Tests of journals: the lines of entries; the service over an outside in memory whose calls fail from some call on,
+//! which shows that the trait can be met; marks, verified in pieces and made by a service.
 #![tactic(auto)]
 
 #[cfg(test)]
 mod entries;
 #[cfg(test)]
 mod journals;
+mod keeper;
+#[cfg(test)]
+mod marked_service;
+#[cfg(test)]
+mod marks_verified;
 mod memory;
 #[cfg(test)]
 mod refusals;
@@ -16,4 +21,5 @@ mod seen;
 #[cfg(test)]
 mod tests;
 
+pub use keeper::MemoryMarks;
 pub use memory::{Call, Memory};

@@ -1,0 +1,6 @@
+use Rattle.mls_monitor.specs.declared.feed.Stage.TheVariants.{Ready}
+use Rattle.mls_monitor.specs.Feeds.{AllAt}
+use Rattle.mls_probes.proofs.turns.make_feeds.Given as goal
+
+abbrev pub invariant-loop : goal.invariant-loop
+invariant-loop l = AllAt (λ f. f.stage) Ready l.all.items

@@ -1,6 +1,0 @@
-use Rattle.mls_monitor.specs.declared.feed.Stage.TheVariants.{Ready}
-use Rattle.mls_monitor.specs.Feeds.{AllAt}
-use Rattle.mls_turns.proofs.turns.make_feeds.Given as goal
-
-abbrev pub invariant-loop : goal.invariant-loop
-invariant-loop l = AllAt (λ f. f.stage) Ready l.all.items
