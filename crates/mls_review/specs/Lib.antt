@@ -5,3 +5,4 @@ pub mod Dead
 pub mod Findings
 pub mod Flows
 pub mod LintText
+pub mod Powers

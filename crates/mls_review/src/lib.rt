@@ -1,6 +1,8 @@
-//! A start, reviewed: its labels drawn as a lattice, and what is suspicious in its permissions.
+//! A start, reviewed: its labels drawn as a lattice, what is suspicious in its permissions, and what its subjects may
+//! change.
 #![tactic(auto)]
 
+mod authority;
 mod counting;
 mod cover;
 mod covering;
@@ -16,8 +18,12 @@ mod holding;
 mod known;
 mod lines;
 mod live;
+mod power;
+mod relabeling;
+mod theorems;
 mod unused;
 
+pub use authority::{Asked, powers};
 pub use cover::Cover;
 pub use covering::covering_pairs;
 pub use dead::{Dead, dead_permissions};
@@ -29,4 +35,7 @@ pub use findings::lint;
 pub use flows::downflows;
 pub use holder::Holder;
 pub use live::dead_at_all_labels;
+pub use power::Power;
+pub use relabeling::Relabeling;
+pub use theorems::{creates_are_alike, gives_are_alike};
 pub use unused::{idle_subjects, unused_objects};

@@ -1,0 +1,8 @@
+use Rattle.std.proofs.Common.{◌≡◌, ◌++◌, take, string_bytes}
+use Rattle.std.specs.List.{flat_map}
+use Rattle.mls_review.specs.Powers.{downgrade_line}
+use Rattle.mls_review.proofs.authority.push_downgrades.Given as goal
+
+-- what was looked at is written
+abbrev pub invariant-loop-o : goal.invariant-loop-o
+invariant-loop-o g l = string_bytes l.text ≡ string_bytes l.fn.text ++ flat_map (downgrade_line l.names l.state l.labels l.s) (take l.o-index l.objects)

@@ -1,0 +1,213 @@
+//! What subjects may change.
+ghost use Rattle.std.specs.Prelude.{◌≡◌, ◌++◌, ◌==◌, not, IsTrue, IfOk, OnOk, All, Some, length, string_bytes};
+ghost use Rattle.std.specs.List.{flat_map};
+ghost use Rattle.mls_state.specs.State.{is_subject, is_active};
+ghost use Rattle.mls_review.specs.Distinct.{distinct};
+ghost use Rattle.mls_review.specs.Findings.{objects as active_objects};
+ghost use Rattle.mls_review.specs.Powers.{object_relabelings, downgrade_line, subject_powers, subject_downgrades};
+ghost use Rattle.mls_review.specs.Powers.{asked_subjects, subject_lines, powers_text};
+
+use crate::distinct::distinct_labels;
+use crate::known::{objects, subjects};
+use crate::power::Power;
+use crate::relabeling::Relabeling;
+use mls_labels::SecLabel;
+use mls_lines::Names;
+use mls_state::State;
+use mls_tables::{ObjectId, SubjectId};
+use mls_wording::Answer;
+use std::alloc::{AllocError, Allocator, Global};
+
+/// Of whom it is asked what they may change, and whether only what they may downgrade.
+#[derive(Clone, Copy, Debug)]
+pub struct Asked {
+    /// The subject that is asked for; where there is none, all.
+    pub subject: Option<SubjectId>,
+    /// Only labels of objects are asked for, and of them only those that don't dominate the present one.
+    pub downgrades: bool,
+}
+
+/// Appends the lines of the labels that a subject may give to an object.
+fn push_object<A: Allocator>(
+    alloc: Global,
+    text: &mut String,
+    names: &Names,
+    state: &State<A>,
+    labels: &[SecLabel],
+    s: SubjectId,
+    o: ObjectId,
+) -> Result<(), AllocError>
+    requires subject { IsTrue (is_subject state.now s) }
+    requires object { IsTrue (is_active state.now o) }
+    ensures { OnOk result (string_bytes text.new ≡ string_bytes text.old
+        ++ object_relabelings names.now state.now labels.now s o) }
+{
+    Relabeling::Down(o).push_line(alloc, text, names, state, s, labels)?;
+    Relabeling::Up(o).push_line(alloc, text, names, state, s, labels)
+}
+
+/// Appends the lines of the labels that a subject may give to some objects.
+fn push_objects<A: Allocator>(
+    alloc: Global,
+    text: &mut String,
+    names: &Names,
+    state: &State<A>,
+    labels: &[SecLabel],
+    s: SubjectId,
+    objects: &[ObjectId],
+) -> Result<(), AllocError>
+    requires subject { IsTrue (is_subject state.now s) }
+    requires objects { All (λ o. IsTrue (is_active state.now o)) objects.now }
+    ensures { OnOk result (string_bytes text.new ≡ string_bytes text.old
+        ++ flat_map (object_relabelings names.now state.now labels.now s) objects.now) }
+{
+    for o in objects {
+        push_object(alloc, text, names, state, labels, s, *o)?;
+    }
+    Ok(())
+}
+
+/// Appends the lines of the labels downwards that a subject may give to some objects.
+fn push_downgrades<A: Allocator>(
+    alloc: Global,
+    text: &mut String,
+    names: &Names,
+    state: &State<A>,
+    labels: &[SecLabel],
+    s: SubjectId,
+    objects: &[ObjectId],
+) -> Result<(), AllocError>
+    requires subject { IsTrue (is_subject state.now s) }
+    requires objects { All (λ o. IsTrue (is_active state.now o)) objects.now }
+    ensures { OnOk result (string_bytes text.new ≡ string_bytes text.old
+        ++ flat_map (downgrade_line names.now state.now labels.now s) objects.now) }
+{
+    for o in objects {
+        Relabeling::Down(*o).push_line(alloc, text, names, state, s, labels)?;
+    }
+    Ok(())
+}
+
+/// Appends the lines of all that a subject may change.
+fn push_powers<A: Allocator>(
+    alloc: Global,
+    text: &mut String,
+    names: &Names,
+    state: &State<A>,
+    labels: &[SecLabel],
+    s: SubjectId,
+    objects: &[ObjectId],
+) -> Result<(), AllocError>
+    requires subject { IsTrue (is_subject state.now s) }
+    requires active { All (λ o. IsTrue (is_active state.now o)) objects.now }
+    requires all { objects.now ≡ active_objects state.now }
+    ensures { OnOk result (string_bytes text.new ≡ string_bytes text.old
+        ++ subject_powers names.now state.now labels.now s) }
+{
+    Power::Gives.push_lines(text, names, state, s, objects)?;
+    Power::Creates.push_lines(text, names, state, s, objects)?;
+    Power::Deletes.push_lines(text, names, state, s, objects)?;
+    Relabeling::Level.push_line(alloc, text, names, state, s, labels)?;
+    push_objects(alloc, text, names, state, labels, s, objects)
+}
+
+/// Appends the lines of a subject.
+fn push_subject<A: Allocator>(
+    alloc: Global,
+    text: &mut String,
+    names: &Names,
+    state: &State<A>,
+    labels: &[SecLabel],
+    s: SubjectId,
+    objects: &[ObjectId],
+    downgrades: bool,
+) -> Result<(), AllocError>
+    requires subject { IsTrue (is_subject state.now s) }
+    requires active { All (λ o. IsTrue (is_active state.now o)) objects.now }
+    requires all { objects.now ≡ active_objects state.now }
+    requires labels { labels.now ≡ distinct state.now }
+    ensures { OnOk result (string_bytes text.new ≡ string_bytes text.old
+        ++ subject_lines names.now state.now downgrades s) }
+{
+    if downgrades {
+        push_downgrades(alloc, text, names, state, labels, s, objects)
+    } else {
+        push_powers(alloc, text, names, state, labels, s, objects)
+    }
+}
+
+/// Appends the lines of some subjects.
+fn push_subjects<A: Allocator>(
+    alloc: Global,
+    text: &mut String,
+    names: &Names,
+    state: &State<A>,
+    subjects: &[SubjectId],
+    downgrades: bool,
+) -> Result<(), AllocError>
+    requires { All (λ s. IsTrue (is_subject state.now s)) subjects.now }
+    ensures { OnOk result (string_bytes text.new ≡ string_bytes text.old
+        ++ flat_map (subject_lines names.now state.now downgrades) subjects.now) }
+{
+    let objects = objects(alloc, state)?;
+    let labels = distinct_labels(alloc, state)?;
+    for s in subjects {
+        push_subject(alloc, text, names, state, &labels, *s, &objects, downgrades)?;
+    }
+    Ok(())
+}
+
+/// The subject, where it is known.
+fn only<A: Allocator>(
+    alloc: Global,
+    state: &State<A>,
+    s: SubjectId,
+) -> Result<Vec<SubjectId>, AllocError>
+    ensures list { IfOk result (λ found. found.items ≡ asked_subjects state.now (Some s)) }
+    ensures known { IfOk result (λ found. All (λ s. IsTrue (is_subject state.now s)) found.items) }
+{
+    let mut found = Vec::new(alloc);
+    if state.is_subject(s) {
+        found.push(s)?;
+    }
+    Ok(found)
+}
+
+/// The subjects that are asked for, by number.
+fn asked_subjects<A: Allocator>(
+    alloc: Global,
+    state: &State<A>,
+    subject: Option<SubjectId>,
+) -> Result<Vec<SubjectId>, AllocError>
+    ensures list { IfOk result (λ found. found.items ≡ asked_subjects state.now subject) }
+    ensures known { IfOk result (λ found. All (λ s. IsTrue (is_subject state.now s)) found.items) }
+{
+    match subject {
+        Some(s) => only(alloc, state, s),
+        None => subjects(alloc, state),
+    }
+}
+
+/// What subjects may change in a state, a line each: over which objects they may give and rescind permissions, under
+/// which they may create, which they may delete; which labels they may take, and which they may give to an object, of
+/// those in use in the state, in the order of `distinct_labels`. By subject, then in the order of the rules, then by
+/// object. The answer is positive where there is a line.
+///
+/// # Errors
+/// `AllocError` where an allocation failed.
+pub fn powers<A: Allocator>(
+    alloc: Global,
+    names: &Names,
+    state: &State<A>,
+    asked: Asked,
+) -> Result<Answer, AllocError>
+    ensures text { IfOk result (λ found. string_bytes found.text ≡ powers_text names.now state.now asked) }
+    ensures positive { IfOk result
+        (λ found. found.is_positive ≡ not (length (powers_text names.now state.now asked) == 0)) }
+{
+    let subjects = asked_subjects(alloc, state, asked.subject)?;
+    let mut text = String::new(alloc);
+    push_subjects(alloc, &mut text, names, state, &subjects, asked.downgrades)?;
+    let is_positive = text.len() != 0;
+    Ok(Answer { text, is_positive })
+}
