@@ -4,6 +4,7 @@
 
 mod commands;
 mod files;
+mod marks;
 mod questions;
 mod service;
 
@@ -13,10 +14,11 @@ use crate::commands::{
     RunJournal, check, discard, ended_run, lent, open_run_journal, read_scripts, replay,
     serve_standard, start_file,
 };
+use crate::marks::verify;
 use crate::questions::answer;
 use crate::service::serve_journal;
+use mls_cli::{run_serial, run_threads};
 use mls_replay::MAX_SCRIPTS;
-use mls_runs::{run_serial, run_threads};
 use mls_scripts::SCRIPT_LIMIT;
 use mls_terminal::{Held, Job, NO_MEMORY, Progress, RunWords, file_refused, read_words, refused};
 use std::env;
@@ -26,6 +28,7 @@ use std::process::ExitCode;
 use std::rt::Env;
 use std::sync::Wait;
 use std::thread::Threads;
+use std::time::Clock;
 
 /// The line on standard error where the count of scripts is none that can be run.
 const SCRIPT_COUNT: &str = "mls: run: at most 64 scripts";
@@ -141,8 +144,8 @@ fn run<R: Threads + Wait + Sync>(
     status
 }
 
-/// Does a job. Threads are started by a run of scripts alone.
-fn run_job<R: Threads + Wait + Sync>(
+/// Does a job. Threads are started by a run of scripts, and by a service that makes marks.
+fn run_job<R: Threads + Wait + Clock + Sync>(
     threads: &R,
     progress: &mut Progress<'_>,
     job: Job<'_>,
@@ -151,14 +154,15 @@ fn run_job<R: Threads + Wait + Sync>(
         Job::Check { start } => check(progress, start),
         Job::Run(words) => run(threads, progress, &words),
         Job::Replay { start, journal } => replay(progress, start, journal),
-        Job::Serve(words) => serve_journal(progress, &words),
+        Job::Verify(words) => verify(progress, &words),
+        Job::Serve(words) => serve_journal(threads, progress, &words),
         Job::Question(question) => answer(progress, &question),
         Job::Answer => serve_standard(progress.rt()),
     }
 }
 
 /// Does what the words ask for.
-fn run_words<R: Threads + Wait + Sync>(
+fn run_words<R: Threads + Wait + Clock + Sync>(
     threads: &R,
     rt: &HostRuntime,
     words: &[String],
@@ -170,7 +174,7 @@ fn run_words<R: Threads + Wait + Sync>(
 }
 
 /// Reads the words and does what they ask for.
-fn run_args<R: Threads + Wait + Sync>(threads: &R, rt: &HostRuntime) -> ExitCode {
+fn run_args<R: Threads + Wait + Clock + Sync>(threads: &R, rt: &HostRuntime) -> ExitCode {
     let args = match env::args(rt) {
         Ok(args) => args,
         Err(error) if error.kind() == ErrorKind::OutOfMemory => return refused(rt, NO_MEMORY, 1),

@@ -2,9 +2,11 @@
 mod answering;
 mod asking;
 mod comparison;
+mod empowering;
 mod listing;
 mod snapshots;
 mod sources;
+mod spans;
 mod starts;
 
 pub use answering::answer;

@@ -13,16 +13,26 @@ pub(crate) enum Kind {
     UnlessAt,
     /// An operand that is the word of a mode, and may be left out.
     Mode,
+    /// An option with the word of a mode.
+    ModeText,
     /// One operand or more.
     Operands,
     /// An option with a text, which help calls so.
     Text(&'static str),
     /// An option with a text that has to be there.
     NeededText(&'static str),
+    /// An option with a text, the first here, that stands beside the option of the second name alone.
+    TextBeside(&'static str, &'static str),
+    /// An option with a time, that stands beside the option `--marks` alone.
+    Time,
+    /// An option with a time, that stands beside the option `--marks` alone, and not beside `--at`.
+    TimeForAt,
     /// An option with a number of 32 bits.
     Session,
     /// An option with the number of an entry.
     Entry,
+    /// An option with the number of an entry that can't stand beside the options `--from` and `--to`.
+    EntryOrRange,
     /// An option with the number of an entry of the journal that the option `--journal` names.
     EntryOfJournal,
     /// An option without a value.
@@ -54,6 +64,11 @@ fn with_entry<'a>(arg: Arg<'a>, name: &'a str) -> Arg<'a> {
     with_value(arg, name, "N").value_parser(clap::value_parser!(u64))
 }
 
+/// An option with a time that stands beside the option `--marks` alone.
+fn with_time<'a>(arg: Arg<'a>, name: &'a str) -> Result<Arg<'a>, AllocError> {
+    with_value(arg, name, "TIME").requires_arg("marks")
+}
+
 /// An option without a value.
 fn as_flag<'a>(arg: Arg<'a>, name: &'a str) -> Arg<'a> {
     arg.long(name).action(ArgAction::SetTrue)
@@ -67,13 +82,24 @@ impl Argument {
             Kind::Optional => Ok(arg),
             Kind::UnlessAt => arg.required_unless_present("at"),
             Kind::Mode => Ok(arg.value_parser(MODES.as_slice())),
+            Kind::ModeText => {
+                Ok(with_value(arg, self.name, "MODE").value_parser(MODES.as_slice()))
+            }
             Kind::Operands => Ok(arg.required(true).num_args(1..).action(ArgAction::Append)),
             Kind::Text(value) => Ok(with_value(arg, self.name, value)),
             Kind::NeededText(value) => Ok(with_value(arg, self.name, value).required(true)),
+            Kind::TextBeside(value, other) => {
+                with_value(arg, self.name, value).requires_arg(other)
+            }
+            Kind::Time => with_time(arg, self.name),
+            Kind::TimeForAt => with_time(arg, self.name)?.conflicts_with("at"),
             Kind::Session => {
                 Ok(with_value(arg, self.name, "K").value_parser(clap::value_parser!(u32)))
             }
             Kind::Entry => Ok(with_entry(arg, self.name)),
+            Kind::EntryOrRange => with_entry(arg, self.name)
+                .conflicts_with("from")?
+                .conflicts_with("to"),
             Kind::EntryOfJournal => with_entry(arg, self.name).requires_arg("journal"),
             Kind::Flag => Ok(as_flag(arg, self.name)),
             Kind::FlagWithout(other) => as_flag(arg, self.name).conflicts_with(other),

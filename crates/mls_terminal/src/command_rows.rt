@@ -8,14 +8,17 @@ pub(crate) enum CommandName {
     Check,
     Run,
     Replay,
+    Verify,
     Serve,
     Ask,
     Explain,
     Who,
+    Powers,
     Lint,
     Lattice,
     Journal,
     State,
+    Held,
     Compare,
 }
 
@@ -57,6 +60,27 @@ const AT: Argument = Argument {
     help: "The state before entry N, counted from 0; without it, after the last entry",
 };
 
+/// The option `--marks` of a question about the journal of the option `--journal`.
+const MARKS_OF_JOURNAL: Argument = Argument {
+    name: "marks",
+    kind: Kind::TextBeside("MARKS", "journal"),
+    help: "The marks of the journal, which must agree with it",
+};
+
+/// The option `--marks` of a question about the journal of the operand `JOURNAL`.
+const MARKS_OF_OPERAND: Argument = Argument {
+    name: "marks",
+    kind: Kind::Text("MARKS"),
+    help: "The marks of JOURNAL, which must agree with it",
+};
+
+/// The option `--when` of a question.
+const WHEN: Argument = Argument {
+    name: "when",
+    kind: Kind::TimeForAt,
+    help: "The state after the last batch in MARKS whose time is TIME or earlier",
+};
+
 /// The arguments of `check`.
 const CHECK_ARGUMENTS: [Argument; 1] = [START];
 
@@ -84,8 +108,29 @@ const RUN_ARGUMENTS: [Argument; 4] = [
 /// The arguments of `replay`.
 const REPLAY_ARGUMENTS: [Argument; 2] = [START, JOURNAL];
 
+/// The arguments of `verify`.
+const VERIFY_ARGUMENTS: [Argument; 5] = [
+    Argument {
+        name: "from",
+        kind: Kind::Text("DIGEST"),
+        help: "What the chain of digests begins from, 64 hexadecimal digits; without it, zeros",
+    },
+    Argument {
+        name: "digest",
+        kind: Kind::Text("DIGEST"),
+        help: "A digest that the chain must contain, as one that was noted before",
+    },
+    START,
+    JOURNAL,
+    Argument {
+        name: "MARKS",
+        kind: Kind::Operand,
+        help: "The marks of JOURNAL, as mls serve --marks writes them",
+    },
+];
+
 /// The arguments of `serve`.
-const SERVE_ARGUMENTS: [Argument; 8] = [
+const SERVE_ARGUMENTS: [Argument; 9] = [
     Argument {
         name: "session",
         kind: Kind::Session,
@@ -122,13 +167,21 @@ const SERVE_ARGUMENTS: [Argument; 8] = [
         kind: Kind::NeededText("FILE"),
         help: "The journal, which is made where it isn't there",
     },
+    Argument {
+        name: "marks",
+        kind: Kind::Text("MARKS"),
+        help: "Adds a line to MARKS for each batch of entries: the number of the last, the time, and a digest of the \
+            journal so far; MARKS is made where it isn't there",
+    },
     START,
 ];
 
 /// The arguments of `ask`.
-const ASK_ARGUMENTS: [Argument; 4] = [
+const ASK_ARGUMENTS: [Argument; 6] = [
     OF_JOURNAL,
     AT,
+    MARKS_OF_JOURNAL,
+    WHEN,
     START,
     Argument {
         name: "LINE",
@@ -138,9 +191,11 @@ const ASK_ARGUMENTS: [Argument; 4] = [
 ];
 
 /// The arguments of `explain`.
-const EXPLAIN_ARGUMENTS: [Argument; 4] = [
+const EXPLAIN_ARGUMENTS: [Argument; 6] = [
     OF_JOURNAL,
     AT,
+    MARKS_OF_JOURNAL,
+    WHEN,
     START,
     Argument {
         name: "LINE",
@@ -150,9 +205,11 @@ const EXPLAIN_ARGUMENTS: [Argument; 4] = [
 ];
 
 /// The arguments of `who`.
-const WHO_ARGUMENTS: [Argument; 5] = [
+const WHO_ARGUMENTS: [Argument; 7] = [
     OF_JOURNAL,
     AT,
+    MARKS_OF_JOURNAL,
+    WHEN,
     START,
     Argument {
         name: "OBJ",
@@ -166,6 +223,25 @@ const WHO_ARGUMENTS: [Argument; 5] = [
     },
 ];
 
+/// The arguments of `powers`.
+const POWERS_ARGUMENTS: [Argument; 7] = [
+    OF_JOURNAL,
+    AT,
+    MARKS_OF_JOURNAL,
+    WHEN,
+    Argument {
+        name: "down",
+        kind: Kind::Flag,
+        help: "Which objects may be given labels that don't dominate the present ones, and which labels, alone",
+    },
+    START,
+    Argument {
+        name: "SUBJ",
+        kind: Kind::Optional,
+        help: "This subject alone: its name, or # and its number (quoted)",
+    },
+];
+
 /// The arguments of `lint`.
 const LINT_ARGUMENTS: [Argument; 1] = [START];
 
@@ -173,7 +249,7 @@ const LINT_ARGUMENTS: [Argument; 1] = [START];
 const LATTICE_ARGUMENTS: [Argument; 1] = [START];
 
 /// The arguments of `journal`.
-const JOURNAL_ARGUMENTS: [Argument; 11] = [
+const JOURNAL_ARGUMENTS: [Argument; 14] = [
     Argument {
         name: "subject",
         kind: Kind::Text("SUBJ"),
@@ -209,6 +285,17 @@ const JOURNAL_ARGUMENTS: [Argument; 11] = [
         kind: Kind::Entry,
         help: "Entries to number N",
     },
+    MARKS_OF_OPERAND,
+    Argument {
+        name: "since",
+        kind: Kind::Time,
+        help: "Entries from the first batch in MARKS on whose time is TIME or later",
+    },
+    Argument {
+        name: "until",
+        kind: Kind::Time,
+        help: "Entries to the end of the last batch in MARKS whose time is TIME or earlier",
+    },
     Argument {
         name: "summary",
         kind: Kind::Flag,
@@ -224,16 +311,54 @@ const JOURNAL_ARGUMENTS: [Argument; 11] = [
 ];
 
 /// The arguments of `state`.
-const STATE_ARGUMENTS: [Argument; 4] = [
+const STATE_ARGUMENTS: [Argument; 6] = [
     Argument {
         name: "at",
         kind: Kind::Entry,
         help: "The state before entry N, counted from 0; without it, after the last entry",
     },
+    MARKS_OF_OPERAND,
+    WHEN,
     Argument {
         name: "start",
         kind: Kind::Flag,
         help: "Prints a start file that opens with the state, its objects numbered anew: for a new journal",
+    },
+    START,
+    JOURNAL,
+];
+
+/// The arguments of `held`.
+const HELD_ARGUMENTS: [Argument; 8] = [
+    Argument {
+        name: "subject",
+        kind: Kind::Text("SUBJ"),
+        help: "What it held",
+    },
+    Argument {
+        name: "object",
+        kind: Kind::Text("OBJ"),
+        help: "Who held it: its name, or # and its number (quoted)",
+    },
+    Argument {
+        name: "mode",
+        kind: Kind::ModeText,
+        help: "In this mode alone",
+    },
+    Argument {
+        name: "at",
+        kind: Kind::EntryOrRange,
+        help: "What was held in the state before entry N, counted from 0",
+    },
+    Argument {
+        name: "from",
+        kind: Kind::Entry,
+        help: "What was held in the state before entry N, or later",
+    },
+    Argument {
+        name: "to",
+        kind: Kind::Entry,
+        help: "What was held in the state after entry N, or earlier",
     },
     START,
     JOURNAL,
@@ -259,7 +384,7 @@ const COMPARE_ARGUMENTS: [Argument; 3] = [
 ];
 
 /// The commands, in the order of help.
-pub(crate) const COMMANDS: [CommandRow; 12] = [
+pub(crate) const COMMANDS: [CommandRow; 15] = [
     CommandRow {
         command: CommandName::Check,
         name: "check",
@@ -282,6 +407,15 @@ pub(crate) const COMMANDS: [CommandRow; 12] = [
         about: "Recomputes every reply of a journal over a start file, or tells the first entry that is wrong",
         example: "Example: mls replay examples/office.json office.journal",
         arguments: &REPLAY_ARGUMENTS,
+    },
+    CommandRow {
+        command: CommandName::Verify,
+        name: "verify",
+        about: "Replays a journal over a start file and checks that its marks agree with it; prints how many entries \
+            it has, the last digest, and from when to when they are marked, and where entries stand behind the last \
+            mark how many. A journal that was cut or rewritten lacks a digest that was noted before: the status is 3",
+        example: "Example: mls verify examples/office.json office.journal office.marks",
+        arguments: &VERIFY_ARGUMENTS,
     },
     CommandRow {
         command: CommandName::Serve,
@@ -325,6 +459,16 @@ pub(crate) const COMMANDS: [CommandRow; 12] = [
         arguments: &WHO_ARGUMENTS,
     },
     CommandRow {
+        command: CommandName::Powers,
+        name: "powers",
+        about: "Prints what each subject may change now: on which objects it may give and rescind permissions, under \
+            which it may create objects, which it may delete, which labels it may take, and which it may give to an \
+            object, of the labels in use. The status is 0 where there is a line, else 4",
+        example: "Examples: mls powers examples/standard.json; mls powers --down examples/office.json, of what can be \
+            downgraded, and by whom",
+        arguments: &POWERS_ARGUMENTS,
+    },
+    CommandRow {
         command: CommandName::Lint,
         name: "lint",
         about: "Prints what is suspicious in a start file: members that a JSON object has twice, permissions \
@@ -359,6 +503,15 @@ pub(crate) const COMMANDS: [CommandRow; 12] = [
         example: "Examples: mls state examples/office.json office.journal; mls state --start \
             examples/office.json office.journal > next.json",
         arguments: &STATE_ARGUMENTS,
+    },
+    CommandRow {
+        command: CommandName::Held,
+        name: "held",
+        about: "Prints who held what over a journal, and from which entry to which: each access as long as it is held, \
+            whatever part of that is asked for. The status is 0 where there is one, else 4",
+        example: "Examples: mls held --object salaries --from 4000 examples/office.json office.journal, of all who held \
+            it since; mls held --subject petra --at 5000 examples/office.json office.journal",
+        arguments: &HELD_ARGUMENTS,
     },
     CommandRow {
         command: CommandName::Compare,

@@ -1,6 +1,7 @@
 //! What a command line asks for.
 
 use crate::question::Question;
+use mls_marks::Digest;
 
 /// What a run of scripts is asked for.
 #[derive(Debug, Drop)]
@@ -19,6 +20,8 @@ pub struct ServeWords<'a> {
     pub start: &'a str,
     /// The journal's file.
     pub journal: &'a str,
+    /// The file of the journal's marks, where they are made.
+    pub marks: Option<&'a str>,
     /// The number of the session that asks, unless each line says it.
     pub session: u32,
     /// Whether each line begins with the number of its session.
@@ -33,6 +36,19 @@ pub struct ServeWords<'a> {
     pub is_cutting_damage: bool,
 }
 
+/// What a verification of marks is asked for.
+#[derive(Clone, Copy, Debug)]
+pub struct VerifyWords<'a> {
+    pub start: &'a str,
+    pub journal: &'a str,
+    /// The file of the journal's marks.
+    pub marks: &'a str,
+    /// What the chain of digests begins from, where that is told.
+    pub from: Option<Digest>,
+    /// A digest that the chain must contain, where one is told.
+    pub digest: Option<Digest>,
+}
+
 /// What a command line asks for.
 #[derive(Debug, Drop)]
 pub enum Job<'a> {
@@ -44,6 +60,8 @@ pub enum Job<'a> {
     Run(RunWords<'a>),
     /// To replay a journal over a start file.
     Replay { start: &'a str, journal: &'a str },
+    /// To replay a journal over a start file, and to check its marks.
+    Verify(VerifyWords<'a>),
     /// To serve standard input over a start file and the file of a journal.
     Serve(ServeWords<'a>),
     /// To answer a question about start files or journals.

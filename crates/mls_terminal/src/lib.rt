@@ -11,13 +11,16 @@ mod output;
 mod progress;
 mod question;
 mod question_words;
+mod times;
+mod verify_words;
 mod words;
 mod words_fault;
 
 pub use files::{FileFault, Input, write_file};
 pub use held::Held;
-pub use job::{Job, RunWords, ServeWords};
+pub use job::{Job, RunWords, ServeWords, VerifyWords};
 pub use output::{NO_MEMORY, NOT_WRITTEN, file_refused, is_taken, print, refused, write_bytes};
 pub use progress::Progress;
-pub use question::{JournalWords, Question, Source};
+pub use question::{HeldWords, JournalWords, Question, Source};
+pub use times::now;
 pub use words::read_words;

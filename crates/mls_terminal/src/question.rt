@@ -1,5 +1,7 @@
 //! What the commands are asked for that answer questions about start files and journals.
+use mls_marks::Time;
 use mls_reports::{Form, Words};
+use mls_spans::Words as HeldFilter;
 
 /// The files of a question about a state: that of a start, or the one that a journal leads to.
 #[derive(Clone, Copy, Debug)]
@@ -9,6 +11,10 @@ pub struct Source<'a> {
     pub journal: Option<&'a str>,
     /// The number of the entry before which the state is looked at; without it, after the last.
     pub at: Option<u64>,
+    /// The file of the journal's marks, where there is one.
+    pub marks: Option<&'a str>,
+    /// The time of the last batch after which the state is looked at, in place of a number.
+    pub when: Option<Time>,
 }
 
 /// What `journal` is asked for.
@@ -18,6 +24,20 @@ pub struct JournalWords<'a> {
     pub journal: &'a str,
     pub filter: Words<'a>,
     pub form: Form,
+    /// The file of the journal's marks, where there is one.
+    pub marks: Option<&'a str>,
+    /// The time of the first batch of which entries are asked for.
+    pub since: Option<Time>,
+    /// The time of the last batch of which entries are asked for.
+    pub until: Option<Time>,
+}
+
+/// What `held` is asked for.
+#[derive(Clone, Copy, Debug)]
+pub struct HeldWords<'a> {
+    pub start: &'a str,
+    pub journal: &'a str,
+    pub filter: HeldFilter<'a>,
 }
 
 /// A question about start files or journals.
@@ -39,6 +59,14 @@ pub enum Question<'a> {
         object: &'a str,
         mode: Option<&'a str>,
     },
+    /// What subjects may change.
+    Powers {
+        source: Source<'a>,
+        /// The subject that is asked for; without it, all.
+        subject: Option<&'a str>,
+        /// Whether only labels of objects are asked for that don't dominate the present ones.
+        downgrades: bool,
+    },
     /// What is wrong with a start file, or suspicious in it.
     Lint {
         start: &'a str,
@@ -55,6 +83,8 @@ pub enum Question<'a> {
         /// Whether it is written as a start file.
         is_start: bool,
     },
+    /// Who held what over a journal.
+    Held(HeldWords<'a>),
     /// How a second start differs from a first one, or from its journal's replies.
     Compare {
         first: &'a str,

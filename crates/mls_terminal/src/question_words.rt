@@ -1,20 +1,41 @@
 //! What the words of a question ask for.
-use crate::question::{JournalWords, Question, Source};
-use crate::words_fault::WordsFault;
+use crate::job::Job;
+use crate::question::{HeldWords, JournalWords, Question, Source};
+use crate::times::{time_by, time_from};
+use crate::words_fault::{FormedOption, WordsFault};
 use clap::ArgMatches;
-use mls_reports::{Filter, Form, ReplyFront};
+use mls_marks::Time;
+use mls_reports::{Filter, Form, ReplyFront, Words};
+use mls_requests::read_mode;
+use mls_spans::{Filter as HeldFilter, States};
+use mls_tables::Mode;
 
 /// The text of an operand.
 pub(crate) fn operand<'a>(matches: &ArgMatches<'a>, name: &str) -> &'a str {
     matches.get_str(name).unwrap_or("")
 }
 
-/// The files of a question whose journal is an option.
-fn source<'a>(matches: &ArgMatches<'a>) -> Source<'a> {
+/// The time of the option `--when`, where it is given.
+///
+/// # Errors
+/// `Time` where its word is none.
+fn when<'a>(matches: &ArgMatches<'a>) -> Result<Option<Time>, WordsFault<'a>> {
+    time_by(FormedOption::When, matches.get_str("when"))
+}
+
+/// The files of a question about the state that this journal leads to, where there is one, after the last batch by a
+/// time, where that is told.
+fn source<'a>(
+    matches: &ArgMatches<'a>,
+    journal: Option<&'a str>,
+    when: Option<Time>,
+) -> Source<'a> {
     Source {
         start: operand(matches, "START"),
-        journal: matches.get_str("journal"),
+        journal,
         at: matches.get_one("at"),
+        marks: matches.get_str("marks"),
+        when,
     }
 }
 
@@ -56,66 +77,141 @@ fn form(matches: &ArgMatches<'_>) -> Form {
     }
 }
 
+/// Which entries of a journal are asked for, with replies that begin so and numbers between these.
+fn filter<'a>(
+    matches: &ArgMatches<'a>,
+    reply: Option<ReplyFront>,
+    from: Option<u64>,
+    to: Option<u64>,
+) -> Words<'a> {
+    Filter {
+        subject: matches.get_str("subject"),
+        by: matches.get_str("by"),
+        object: matches.get_str("object"),
+        session: matches.get_one("session"),
+        reply,
+        from,
+        to,
+    }
+}
+
 /// What `journal` was asked for.
 ///
 /// # Errors
-/// `Reply` where no reply begins with the words, else `Above` where the first number is above the last.
-pub(crate) fn journal_words<'a>(
-    matches: &ArgMatches<'a>,
-) -> Result<JournalWords<'a>, WordsFault<'a>> {
+/// `Reply` where no reply begins with the words, else `Above` where the first number is above the last, else `Time`
+/// where a word is to be a time and is none.
+pub(crate) fn journal_words<'a>(matches: &ArgMatches<'a>) -> Result<Job<'a>, WordsFault<'a>> {
     let reply = reply_front(matches)?;
     let (from, to) = range(matches)?;
-    Ok(JournalWords {
+    let since = time_from(FormedOption::Since, matches.get_str("since"))?;
+    let until = time_by(FormedOption::Until, matches.get_str("until"))?;
+    Ok(Job::Question(Question::Journal(JournalWords {
         start: operand(matches, "START"),
         journal: operand(matches, "JOURNAL"),
-        filter: Filter {
-            subject: matches.get_str("subject"),
-            by: matches.get_str("by"),
-            object: matches.get_str("object"),
-            session: matches.get_one("session"),
-            reply,
-            from,
-            to,
-        },
+        filter: filter(matches, reply, from, to),
         form: form(matches),
-    })
+        marks: matches.get_str("marks"),
+        since,
+        until,
+    })))
+}
+
+/// The states that are asked about: the one before an entry, or those of some entries.
+///
+/// # Errors
+/// `Above` where the number of the first entry is above that of the last.
+fn states<'a>(matches: &ArgMatches<'a>) -> Result<States, WordsFault<'a>> {
+    let (from, to) = range(matches)?;
+    match matches.get_one::<u64>("at") {
+        Some(at) => Ok(States::at(at)),
+        None => Ok(States::between(from, to)),
+    }
+}
+
+/// The mode that is asked for, where one is.
+fn mode(matches: &ArgMatches<'_>) -> Option<Mode> {
+    let word = matches.get_str("mode")?;
+    read_mode(word.as_bytes())
+}
+
+/// What `held` was asked for.
+///
+/// # Errors
+/// `Above` where the number of the first entry is above that of the last.
+pub(crate) fn held_words<'a>(matches: &ArgMatches<'a>) -> Result<Job<'a>, WordsFault<'a>> {
+    let states = states(matches)?;
+    Ok(Job::Question(Question::Held(HeldWords {
+        start: operand(matches, "START"),
+        journal: operand(matches, "JOURNAL"),
+        filter: HeldFilter {
+            subject: matches.get_str("subject"),
+            object: matches.get_str("object"),
+            mode: mode(matches),
+            states,
+        },
+    })))
 }
 
 /// What `ask` was asked for.
-pub(crate) fn ask_words<'a>(matches: &ArgMatches<'a>) -> Question<'a> {
-    Question::Ask {
-        source: source(matches),
+///
+/// # Errors
+/// `Time` where a word is to be a time and is none.
+pub(crate) fn ask_words<'a>(matches: &ArgMatches<'a>) -> Result<Job<'a>, WordsFault<'a>> {
+    let when = when(matches)?;
+    Ok(Job::Question(Question::Ask {
+        source: source(matches, matches.get_str("journal"), when),
         line: operand(matches, "LINE"),
-    }
+    }))
 }
 
 /// What `explain` was asked for.
-pub(crate) fn explain_words<'a>(matches: &ArgMatches<'a>) -> Question<'a> {
-    Question::Explain {
-        source: source(matches),
+///
+/// # Errors
+/// `Time` where a word is to be a time and is none.
+pub(crate) fn explain_words<'a>(matches: &ArgMatches<'a>) -> Result<Job<'a>, WordsFault<'a>> {
+    let when = when(matches)?;
+    Ok(Job::Question(Question::Explain {
+        source: source(matches, matches.get_str("journal"), when),
         line: matches.get_str("LINE"),
-    }
+    }))
 }
 
 /// What `who` was asked for.
-pub(crate) fn who_words<'a>(matches: &ArgMatches<'a>) -> Question<'a> {
-    Question::Who {
-        source: source(matches),
+///
+/// # Errors
+/// `Time` where a word is to be a time and is none.
+pub(crate) fn who_words<'a>(matches: &ArgMatches<'a>) -> Result<Job<'a>, WordsFault<'a>> {
+    let when = when(matches)?;
+    Ok(Job::Question(Question::Who {
+        source: source(matches, matches.get_str("journal"), when),
         object: operand(matches, "OBJ"),
         mode: matches.get_str("MODE"),
-    }
+    }))
+}
+
+/// What `powers` was asked for.
+///
+/// # Errors
+/// `Time` where a word is to be a time and is none.
+pub(crate) fn powers_words<'a>(matches: &ArgMatches<'a>) -> Result<Job<'a>, WordsFault<'a>> {
+    let when = when(matches)?;
+    Ok(Job::Question(Question::Powers {
+        source: source(matches, matches.get_str("journal"), when),
+        subject: matches.get_str("SUBJ"),
+        downgrades: matches.get_flag("down"),
+    }))
 }
 
 /// What `state` was asked for.
-pub(crate) fn state_words<'a>(matches: &ArgMatches<'a>) -> Question<'a> {
-    Question::State {
-        source: Source {
-            start: operand(matches, "START"),
-            journal: matches.get_str("JOURNAL"),
-            at: matches.get_one("at"),
-        },
+///
+/// # Errors
+/// `Time` where a word is to be a time and is none.
+pub(crate) fn state_words<'a>(matches: &ArgMatches<'a>) -> Result<Job<'a>, WordsFault<'a>> {
+    let when = when(matches)?;
+    Ok(Job::Question(Question::State {
+        source: source(matches, matches.get_str("JOURNAL"), when),
         is_start: matches.get_flag("start"),
-    }
+    }))
 }
 
 /// What `compare` was asked for.

@@ -4,8 +4,10 @@ use crate::job::{Job, RunWords, ServeWords};
 use crate::output::{NOT_WRITTEN, refused};
 use crate::question::Question;
 use crate::question_words::{
-    ask_words, compare_words, explain_words, journal_words, operand, state_words, who_words,
+    ask_words, compare_words, explain_words, held_words, journal_words, operand, powers_words,
+    state_words, who_words,
 };
+use crate::verify_words::verify_words;
 use crate::words_fault::{WordsFault, words_refused};
 use clap::{ArgMatches, Command, Error};
 use std::alloc::{AllocError, Global};
@@ -64,6 +66,7 @@ fn serve_words<'a>(matches: &ArgMatches<'a>) -> ServeWords<'a> {
     ServeWords {
         start: operand(matches, "START"),
         journal: operand(matches, "journal"),
+        marks: matches.get_str("marks"),
         session: matches.get_one("session").unwrap_or(0),
         has_sessions: matches.get_flag("sessions"),
         has_numbers: matches.get_flag("numbers"),
@@ -94,10 +97,10 @@ fn run_job<'a>(alloc: Global, words: &ArgMatches<'a>) -> Result<Job<'a>, WordsFa
     }
 }
 
-/// What `journal` was asked for, as a job.
-fn journal_job<'a>(words: &ArgMatches<'a>) -> Result<Job<'a>, WordsFault<'a>> {
-    match journal_words(words) {
-        Ok(asked) => Ok(Job::Question(Question::Journal(asked))),
+/// A verification, as a job.
+fn verify_job<'a>(words: &ArgMatches<'a>) -> Result<Job<'a>, WordsFault<'a>> {
+    match verify_words(words) {
+        Ok(asked) => Ok(Job::Verify(asked)),
         Err(fault) => Err(fault),
     }
 }
@@ -117,18 +120,21 @@ fn command_job<'a>(
             start: operand(words, "START"),
             journal: operand(words, "JOURNAL"),
         }),
+        CommandName::Verify => verify_job(words),
         CommandName::Serve => Ok(Job::Serve(serve_words(words))),
-        CommandName::Ask => Ok(Job::Question(ask_words(words))),
-        CommandName::Explain => Ok(Job::Question(explain_words(words))),
-        CommandName::Who => Ok(Job::Question(who_words(words))),
+        CommandName::Ask => ask_words(words),
+        CommandName::Explain => explain_words(words),
+        CommandName::Who => who_words(words),
+        CommandName::Powers => powers_words(words),
         CommandName::Lint => Ok(Job::Question(Question::Lint {
             start: operand(words, "START"),
         })),
         CommandName::Lattice => Ok(Job::Question(Question::Lattice {
             start: operand(words, "START"),
         })),
-        CommandName::Journal => journal_job(words),
-        CommandName::State => Ok(Job::Question(state_words(words))),
+        CommandName::Journal => journal_words(words),
+        CommandName::State => state_words(words),
+        CommandName::Held => held_words(words),
         CommandName::Compare => Ok(Job::Question(compare_words(words))),
     }
 }

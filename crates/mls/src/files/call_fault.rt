@@ -2,7 +2,7 @@
 use std::fmt::{Display, Formatter};
 use std::{fmt, io};
 
-/// A call on a file that the program writes.
+/// A call on a file that the program writes, or on the clock whose time it writes.
 #[derive(Clone, Copy, Debug, PartialEq, Eq)]
 pub(crate) enum FileCall {
     Open,
@@ -11,6 +11,7 @@ pub(crate) enum FileCall {
     Append,
     Cut,
     Sync,
+    Clock,
 }
 
 /// A call on a file that has failed, and the system's reason.
@@ -38,6 +39,7 @@ impl FileCall {
             FileCall::Append => "append",
             FileCall::Cut => "cut",
             FileCall::Sync => "sync",
+            FileCall::Clock => "clock",
         }
     }
 }
@@ -48,7 +50,7 @@ impl CallFault {
     pub(crate) fn status(&self) -> u8 {
         match self.call {
             FileCall::Append | FileCall::Sync => 5,
-            FileCall::Open | FileCall::Lock | FileCall::Read | FileCall::Cut => 1,
+            FileCall::Open | FileCall::Lock | FileCall::Read | FileCall::Cut | FileCall::Clock => 1,
         }
     }
 }

@@ -2,8 +2,10 @@
 use crate::commands::{command_refused, fault_file};
 use crate::questions::asking::{ask, explain, who};
 use crate::questions::comparison::compare;
+use crate::questions::empowering::powers;
 use crate::questions::listing::{journal, state};
 use crate::questions::snapshots::start_of_state;
+use crate::questions::spans::held;
 use crate::questions::starts::{lattice, lint};
 use mls_lines::LineFault;
 use mls_replay::QuestionFault;
@@ -112,6 +114,11 @@ pub fn answer(progress: &mut Progress<'_>, question: &Question<'_>) -> ExitCode 
             object,
             mode,
         } => who(progress, source, object, *mode),
+        Question::Powers {
+            source,
+            subject,
+            downgrades,
+        } => powers(progress, source, *subject, *downgrades),
         Question::Lint { start } => lint(progress, start),
         Question::Lattice { start } => lattice(progress, start),
         Question::Journal(words) => journal(progress, words),
@@ -123,6 +130,7 @@ pub fn answer(progress: &mut Progress<'_>, question: &Question<'_>) -> ExitCode 
             source,
             is_start: true,
         } => start_of_state(progress, source),
+        Question::Held(words) => held(progress, words),
         Question::Compare {
             first,
             second,

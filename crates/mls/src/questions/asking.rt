@@ -22,13 +22,18 @@ pub(crate) fn ask(progress: &mut Progress<'_>, source: &Source<'_>, line: &str) 
         Ok(bytes) => bytes,
         Err(status) => return status,
     };
-    let Bytes { start, journal } = &bytes;
+    let Bytes {
+        start,
+        journal,
+        at,
+        ..
+    } = &bytes;
     progress.begin("asking");
     let done = asked(
         progress.rt().alloc(),
         start,
         journal.as_deref(),
-        source.at,
+        *at,
         line.as_bytes(),
     );
     drop(bytes);
@@ -45,16 +50,15 @@ pub(crate) fn explain(
         Ok(bytes) => bytes,
         Err(status) => return status,
     };
-    let Bytes { start, journal } = &bytes;
+    let Bytes {
+        start,
+        journal,
+        at,
+        ..
+    } = &bytes;
     let line = line.map(|line| line.as_bytes());
     progress.begin("explaining");
-    let done = explained(
-        progress.rt().alloc(),
-        start,
-        journal.as_deref(),
-        source.at,
-        line,
-    );
+    let done = explained(progress.rt().alloc(), start, journal.as_deref(), *at, line);
     drop(bytes);
     ended(progress, named(source, ""), done)
 }
@@ -70,14 +74,19 @@ pub(crate) fn who(
         Ok(bytes) => bytes,
         Err(status) => return status,
     };
-    let Bytes { start, journal } = &bytes;
+    let Bytes {
+        start,
+        journal,
+        at,
+        ..
+    } = &bytes;
     let mode = mode.and_then(|mode| read_mode(mode.as_bytes()));
     progress.begin("looking");
     let done = listed(
         progress.rt().alloc(),
         start,
         journal.as_deref(),
-        source.at,
+        *at,
         object,
         mode,
     );

@@ -46,7 +46,7 @@ fn compare_with(
         Ok(read) => read,
         Err(status) => return status,
     };
-    let Bytes { start, journal } = &read;
+    let Bytes { start, journal, .. } = &read;
     progress.begin("comparing");
     let words = (first, others.start);
     let done = compared(
@@ -61,11 +61,11 @@ fn compare_with(
 }
 
 /// Prints how a second start differs from a first one, or from the replies of a journal of it.
-pub(crate) fn compare(
+pub(crate) fn compare<'x>(
     progress: &mut Progress<'_>,
     first: &str,
-    second: &str,
-    journal: Option<&str>,
+    second: &'x str,
+    journal: Option<&'x str>,
 ) -> ExitCode {
     let bytes = match start_file(first).read(progress) {
         Ok(bytes) => bytes,
@@ -75,6 +75,8 @@ pub(crate) fn compare(
         start: second,
         journal,
         at: None,
+        marks: None,
+        when: None,
     };
     let status = compare_with(progress, first, &bytes, &others);
     drop(bytes);

@@ -1,7 +1,8 @@
 //! The commands that list what a journal has, and the state that it leads to.
 use crate::questions::answering::{Named, answered, ended, name_refused, question_refused};
 use crate::questions::sources::{Bytes, read_source};
-use mls_reports::{ListFault, list_journal, list_state};
+use mls_marks::Marks;
+use mls_reports::{Filter, ListFault, Words, list_journal, list_state};
 use mls_terminal::{JournalWords, Progress, Source};
 use std::process::ExitCode;
 
@@ -22,22 +23,83 @@ fn list_refused(rt: &HostRuntime, words: &JournalWords<'_>, fault: ListFault) ->
     }
 }
 
+/// The greater of two numbers of first entries, where they are asked for.
+fn later(from: Option<u64>, since: Option<u64>) -> Option<u64> {
+    match (from, since) {
+        (Some(from), Some(since)) => Some(from.max(since)),
+        (from, since) => from.or(since),
+    }
+}
+
+/// The lesser of two numbers of last entries, where they are asked for.
+fn earlier(to: Option<u64>, until: Option<u64>) -> Option<u64> {
+    match (to, until) {
+        (Some(to), Some(until)) => Some(to.min(until)),
+        (to, until) => to.or(until),
+    }
+}
+
+/// The numbers of the first and of the last entry that are asked for, by number and by time. Where no mark has such a
+/// time the first is the greatest number, which no entry has.
+fn range(words: &JournalWords<'_>, marks: Option<&Marks>) -> (Option<u64>, Option<u64>) {
+    let mut from = words.filter.from;
+    let mut to = words.filter.to;
+    let Some(marks) = marks else {
+        return (from, to);
+    };
+    if let Some(time) = &words.since {
+        let first = marks.since(time).unwrap_or(u64::MAX);
+        from = later(from, Some(first));
+    }
+    if let Some(time) = &words.until {
+        match marks.until(time) {
+            Some(last) => to = earlier(to, Some(last)),
+            None => from = Some(u64::MAX),
+        }
+    }
+    (from, to)
+}
+
+/// Which entries are asked for, those between two times among them.
+fn marked_filter<'a>(words: &JournalWords<'a>, marks: Option<&Marks>) -> Words<'a> {
+    let (from, to) = range(words, marks);
+    Filter {
+        subject: words.filter.subject,
+        by: words.filter.by,
+        object: words.filter.object,
+        session: words.filter.session,
+        reply: words.filter.reply,
+        from,
+        to,
+    }
+}
+
 /// Prints the entries of a journal that are asked for.
 pub(crate) fn journal(progress: &mut Progress<'_>, words: &JournalWords<'_>) -> ExitCode {
     let source = Source {
         start: words.start,
         journal: Some(words.journal),
         at: None,
+        marks: words.marks,
+        when: None,
     };
     let bytes = match read_source(progress, &source) {
         Ok(bytes) => bytes,
         Err(status) => return status,
     };
-    let Bytes { start, journal } = &bytes;
-    let journal = journal.as_deref().unwrap_or(b"".as_slice());
+    let journal = bytes.journal.as_deref().unwrap_or(b"".as_slice());
+    let marks = bytes.marks.as_ref();
+    let filter = marked_filter(words, marks);
     progress.begin("listing");
     let rt = progress.rt();
-    let done = list_journal(rt.alloc(), start, journal, &words.filter, words.form);
+    let done = list_journal(
+        rt.alloc(),
+        &bytes.start,
+        journal,
+        marks,
+        &filter,
+        words.form,
+    );
     drop(bytes);
     progress.end();
     match done {
@@ -52,10 +114,15 @@ pub(crate) fn state(progress: &mut Progress<'_>, source: &Source<'_>) -> ExitCod
         Ok(bytes) => bytes,
         Err(status) => return status,
     };
-    let Bytes { start, journal } = &bytes;
+    let Bytes {
+        start,
+        journal,
+        at,
+        ..
+    } = &bytes;
     let journal = journal.as_deref().unwrap_or(b"".as_slice());
     progress.begin("listing");
-    let done = list_state(progress.rt().alloc(), start, journal, source.at);
+    let done = list_state(progress.rt().alloc(), start, journal, *at);
     drop(bytes);
     let named = Named::files(source.start, source.journal.unwrap_or(""));
     ended(progress, named, done)

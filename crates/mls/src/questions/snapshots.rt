@@ -27,11 +27,16 @@ pub(crate) fn start_of_state(progress: &mut Progress<'_>, source: &Source<'_>) -
         Ok(bytes) => bytes,
         Err(status) => return status,
     };
-    let Bytes { start, journal } = &bytes;
+    let Bytes {
+        start,
+        journal,
+        at,
+        ..
+    } = &bytes;
     let journal = journal.as_deref().unwrap_or(b"".as_slice());
     progress.begin("writing");
     let rt = progress.rt();
-    let done = snapshot(rt.alloc(), start, journal, source.at);
+    let done = snapshot(rt.alloc(), start, journal, *at);
     drop(bytes);
     progress.end();
     match done {

@@ -3,7 +3,7 @@ use crate::commands::command_refused;
 use crate::files::{CallFault, OpenFault};
 use mls_durable::{AttendFault, RecoverFault, ServiceFault};
 use mls_replay::CommandFault;
-use mls_terminal::{NO_MEMORY, NOT_WRITTEN, refused};
+use mls_terminal::{NO_MEMORY, NOT_WRITTEN, ServeWords, refused};
 use std::io;
 use std::process::ExitCode;
 
@@ -26,8 +26,8 @@ pub(crate) fn tell_call(rt: &HostRuntime, file: &str, fault: &CallFault) {
     let _ = eprintln!(rt; "mls: {file}: {fault}");
 }
 
-/// Tells why a journal's file wasn't opened.
-pub(crate) fn open_refused(rt: &HostRuntime, file: &str, fault: OpenFault) -> ExitCode {
+/// Tells why a file wasn't opened.
+fn open_refused(rt: &HostRuntime, file: &str, fault: OpenFault) -> ExitCode {
     match fault {
         OpenFault::Call(fault) => {
             tell_call(rt, file, &fault);
@@ -35,6 +35,28 @@ pub(crate) fn open_refused(rt: &HostRuntime, file: &str, fault: OpenFault) -> Ex
         }
         OpenFault::InUse => tell_file(rt, file, "in use"),
     }
+}
+
+/// The status where another service holds a file's lock, for a front that is to try again.
+const TRY_AGAIN: u8 = 75;
+
+/// Tells why a file of a service wasn't opened.
+pub(crate) fn not_opened(
+    rt: &HostRuntime,
+    words: &ServeWords<'_>,
+    file: &str,
+    fault: OpenFault,
+) -> ExitCode {
+    let status = open_refused(rt, file, fault);
+    match fault {
+        OpenFault::InUse if words.has_names => ExitCode::from(TRY_AGAIN),
+        _ => status,
+    }
+}
+
+/// Tells that the file of a journal is longer than its limit.
+pub(crate) fn journal_too_long(rt: &HostRuntime, journal: &str) -> ExitCode {
+    tell_file(rt, journal, "too long")
 }
 
 /// The status after a fault of a file: a call on it failed, and that was told; or an allocation failed before it was
