@@ -1,6 +1,6 @@
 /* Calls the library many times: `embed START WHAT COUNT`, where WHAT is check, decide, dominates, label (decided by
- * labels), explain, denied, granted, delete, or cells, which looks up
- * packed cells of four modes with no monitor. Prints nanoseconds a call. `delete` is for the start of bench/rules.sh in which subject 0
+ * labels), explain, denied, held (a get of what is held already), granted (a get of what isn't, and its release, in
+ * turn), delete, or cells, which looks up packed cells of four modes with no monitor. Prints nanoseconds a call. `delete` is for the start of bench/rules.sh in which subject 0
  * writes object 1, and below this stand objects 2 to 11 with 60 below each, 12 to 611, that subjects 1 to 16 may read: all that is got,
  * and then COUNT of the ten are deleted. */
 #define _POSIX_C_SOURCE 199309L
@@ -88,6 +88,8 @@ int main(int argc, char **argv) {
         for (n = 0; n < count; n++) sum += (unsigned)mls_explain(&m, &get, conditions, MLS_CONDITIONS, &rows, &remedy) + conditions[0].holds;
     else if (!strcmp(argv[2], "denied"))
         for (n = 0; n < count; n++) sum += (unsigned)mls_submit(&m, 0, &denied, &a);
+    else if (!strcmp(argv[2], "held"))
+        for (n = 0; n < count; n++) sum += (unsigned)mls_submit(&m, 0, &get, &a);
     else if (!strcmp(argv[2], "delete"))
         for (n = 0; n < count; n++) granted(&m, MLS_DELETE, 0, 0, (uint16_t)(2 + n));
     else if (!strcmp(argv[2], "granted"))

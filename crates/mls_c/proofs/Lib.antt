@@ -3,6 +3,7 @@ pub mod LabelAccesses
 pub mod Openings
 pub mod Pointers
 pub mod ReadBack
+pub mod ReadConditions
 pub mod Resumings
 pub mod Rows
 pub mod Utf8

@@ -37,7 +37,7 @@ label_read l h = rw (lt-ltb l.level MAX_LEVELS h.0, categories_back l.categories
 pub label_apart : (a b : Label) → LabelHasRanges a → LabelHasRanges b → numbers_of_label a ≡ numbers_of_label b → a ≡ b
 label_apart a b h k e = same_Some a b (sym (label_read a h) ∙ ap label_of e ∙ label_read b k)
 
-mode_read : (x : Mode) → mode_at (number_of_mode x) ≡ Some x
+pub mode_read : (x : Mode) → mode_at (number_of_mode x) ≡ Some x
 mode_read Execute = refl
 mode_read Read = refl
 mode_read Append = refl
@@ -71,7 +71,7 @@ pub request_apart : (a b : Request) → ActionHasRanges a.action → ActionHasRa
 request_apart a b h k e = same_Some a b (sym (request_read a h) ∙ ap request_of e ∙ request_read b k)
 
 -- the reply that numbers say
-abbrev reason_at : ℕ → Reason
+abbrev pub reason_at : ℕ → Reason
 reason_at n =
     if n == 1 then Discretionary
     else if n == 2 then Simple

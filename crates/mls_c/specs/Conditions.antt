@@ -9,6 +9,7 @@ use Rattle.mls_requests.specs.declared.action.Action.TheVariants.{SubjectLevel, 
 use Rattle.mls_requests.specs.declared.request.Request.{Request}
 use Rattle.mls_state.specs.State.{State}
 use Rattle.mls_rules.specs.Rules.{conditions, is_defined}
+use Rattle.mls_journal.specs.EntryText.{LabelHasRanges}
 use Rattle.mls_explain.specs.Grounds.{grounds, tests_of, grounds_of}
 use Rattle.mls_explain.specs.Remedy.{HasRemedy}
 use Rattle.mls_explain.specs.declared.condition.Condition.{Condition}
@@ -117,6 +118,36 @@ numbers_of_basis (rests.Holders o l) = naming (about 17 0 o) l
 abbrev pub numbers_of_condition : Condition → ConditionNumbers
 numbers_of_condition c =
     record (numbers_of_basis c.basis) { reason = number_of_reason c.reason; holds = bit_of c.holds }
+
+-- A label that is compared is one that a program can have: its level and its categories are within the limits. (own)
+abbrev pub TermHasRanges : Term → Type 0
+TermHasRanges (term.Maximum l) = LabelHasRanges l
+TermHasRanges (term.Current l) = LabelHasRanges l
+TermHasRanges (term.Security l) = LabelHasRanges l
+TermHasRanges (term.Object l o) = LabelHasRanges l
+TermHasRanges (term.Integrity i) = LabelHasRanges i
+TermHasRanges (term.ObjectIntegrity i o) = LabelHasRanges i
+TermHasRanges (term.SubjectIntegrity i s) = LabelHasRanges i
+
+-- The labels of what a condition rests on are within the limits. (own)
+abbrev pub BasisHasRanges : Ground → Type 0
+BasisHasRanges (rests.Permission s x o) = Unit {0}
+BasisHasRanges (rests.Unobserving x) = Unit {0}
+BasisHasRanges rests.Inert = Unit {0}
+BasisHasRanges (rests.Trust s) = Unit {0}
+BasisHasRanges (rests.Dominance a b) = TermHasRanges a × TermHasRanges b
+BasisHasRanges (rests.Equality a b) = TermHasRanges a × TermHasRanges b
+BasisHasRanges (rests.Writing s o) = Unit {0}
+BasisHasRanges (rests.Altering s o) = Unit {0}
+BasisHasRanges (rests.Parentless o) = Unit {0}
+BasisHasRanges (rests.Number n) = Unit {0}
+BasisHasRanges (rests.Root o) = Unit {0}
+BasisHasRanges (rests.Holdings s l) = LabelHasRanges l
+BasisHasRanges (rests.Relabelling r) = LabelHasRanges r.current × LabelHasRanges r.label × LabelHasRanges r.new
+BasisHasRanges (rests.Children o l) = LabelHasRanges l
+BasisHasRanges (rests.Place p) = LabelHasRanges p.new × LabelHasRanges p.label
+BasisHasRanges (rests.Observers o l) = LabelHasRanges l
+BasisHasRanges (rests.Holders o l) = LabelHasRanges l
 
 -- These are the conditions of a request: just those of its rule, in its order, with what each rests on. (own)
 pub record AreConditions (v : State) (r : Request) (all : List Condition) : Type 0 where

@@ -5,6 +5,7 @@ pub mod Handle
 pub mod Infos
 pub mod LabelAsking
 pub mod Labels
+pub mod Lending
 pub mod Opened
 pub mod Requests
 pub mod Resumed

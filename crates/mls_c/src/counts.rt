@@ -10,7 +10,6 @@ use crate::opened::Opened;
 use crate::status::{ECLOSED, OK};
 use mls_state::State;
 use mls_tables::{MAX_OBJECTS, ObjectId};
-use std::alloc::Global;
 
 /// How many entries, subjects and active objects there are, and the number that the next object will have, 4,096 where
 /// there is none.
@@ -54,22 +53,22 @@ impl Counts {
 fn tell_counts(opened: &Opened, counts: &mut Counts)
     ensures { HasCounts (Some opened.now) counts.new }
 {
-    *counts = Counts::of(opened.state(), opened.entries().len() as u64);
+    *counts = Counts::of(opened.state(), opened.entry_count());
 }
 
 /// Tells how many entries, subjects and active objects there are, and the number of the next object. It doesn't
 /// allocate.
 #[unsafe(no_mangle)]
-pub extern "C" fn mls_count(m: &mut Mls, alloc: Global, counts: &mut Counts) -> i32
+pub extern "C" fn mls_count(m: &mut Mls, counts: &mut Counts) -> i32
     ensures status { result ≡ status_if_open m.old.monitor.value (λ _. OK) }
     ensures told { result ≡ OK → HasCounts m.old.monitor.value counts.new }
     ensures same { m.new.monitor.value ≡ m.old.monitor.value }
     ensures silent { result ≢ OK → counts.new ≡ counts.old }
 {
-    let Some(opened) = m.take(alloc) else {
+    if m.held == 0 {
         return ECLOSED;
-    };
-    tell_counts(&opened, counts);
-    m.put(opened);
+    }
+    let opened = m.monitor.lend();
+    tell_counts(opened, counts);
     OK
 }

@@ -190,10 +190,9 @@ pub extern "C" fn mls_explain_rows(
     ensures remedy { result ≢ OK → level.new ≡ level.old }
     ensures same { m.new.monitor.value ≡ m.old.monitor.value }
 {
-    let Some(opened) = m.take(alloc) else {
+    if m.held == 0 {
         return ECLOSED;
-    };
-    let status = explain_numbers(&opened, alloc, asked, rows, count, level);
-    m.put(opened);
-    status
+    }
+    let opened = m.monitor.lend();
+    explain_numbers(opened, alloc, asked, rows, count, level)
 }

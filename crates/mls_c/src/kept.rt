@@ -24,6 +24,9 @@ impl Model for Kept {
 unsafe impl Send for Kept {}
 
 impl Kept {
+    ghost use types.Logic.{sem};
+    ghost use Rattle.mls_c.specs.Lending.{lends_opened};
+
     /// No monitor.
     pub(crate) fn none() -> Kept
         ensures { result.value ≡ None }
@@ -40,6 +43,15 @@ impl Kept {
         Kept {
             at: Box::into_raw(boxed).cast(),
         }
+    }
+
+    /// The monitor, which stays where it is.
+    pub(crate) fn lend(&mut self) -> &mut Opened
+        requires { IsSome self.old.value }
+        ensures* writes_back { sem 𝓛 (lends_opened self.entry result) }
+        ensures value { Some result.now ≡ self.old.value }
+    {
+        unsafe { &mut *self.at.cast() }
     }
 
     /// The box of the monitor, whose block goes back to the heap.

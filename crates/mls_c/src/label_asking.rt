@@ -17,7 +17,6 @@ use mls_labels::{IntLabel, SecLabel};
 use mls_requests::{Reason, Reply};
 use mls_state::{State, integrity_between, simple_between, star_between};
 use mls_tables::{Mode, SubjectId};
-use std::alloc::Global;
 
 /// Whether the first label dominates the second: 1 or 0. It is 0 too where one of them has a level that no label has.
 /// It takes no handle and doesn't allocate.
@@ -131,7 +130,6 @@ fn decide_labels(
 #[unsafe(no_mangle)]
 pub extern "C" fn mls_decide_label(
     m: &mut Mls,
-    alloc: Global,
     subject: u16,
     mode: u8,
     security: &LabelNumbers,
@@ -144,10 +142,9 @@ pub extern "C" fn mls_decide_label(
     ensures same { m.new.monitor.value ≡ m.old.monitor.value }
     ensures silent { result ≢ OK → reply.new ≡ reply.old }
 {
-    let Some(opened) = m.take(alloc) else {
+    if m.held == 0 {
         return ECLOSED;
-    };
-    let status = decide_labels(&opened, subject, mode, security, integrity, reply);
-    m.put(opened);
-    status
+    }
+    let opened = m.monitor.lend();
+    decide_labels(opened, subject, mode, security, integrity, reply)
 }

@@ -62,7 +62,6 @@ fn read_text(opened: &Opened, kind: u32, text: &[u8], label: &mut LabelNumbers) 
 #[unsafe(no_mangle)]
 pub extern "C" fn mls_read_label_bytes(
     m: &mut Mls,
-    alloc: Global,
     kind: u32,
     text: &[u8],
     label: &mut LabelNumbers,
@@ -74,12 +73,11 @@ pub extern "C" fn mls_read_label_bytes(
     ensures silent { result ≢ OK → label.new ≡ label.old }
     ensures same { m.new.monitor.value ≡ m.old.monitor.value }
 {
-    let Some(opened) = m.take(alloc) else {
+    if m.held == 0 {
         return ECLOSED;
-    };
-    let status = read_text(&opened, kind, text, label);
-    m.put(opened);
-    status
+    }
+    let opened = m.monitor.lend();
+    read_text(opened, kind, text, label)
 }
 
 /// The text of a label that a scheme has.
@@ -180,10 +178,9 @@ pub extern "C" fn mls_write_label_bytes(
     ensures silent { result ≢ OK → result ≢ ERANGE → len.new ≡ len.old }
     ensures same { m.new.monitor.value ≡ m.old.monitor.value }
 {
-    let Some(opened) = m.take(alloc) else {
+    if m.held == 0 {
         return ECLOSED;
-    };
-    let status = copy_label_of(&opened, alloc, kind, numbers, buffer, len);
-    m.put(opened);
-    status
+    }
+    let opened = m.monitor.lend();
+    copy_label_of(opened, alloc, kind, numbers, buffer, len)
 }

@@ -5,6 +5,7 @@ mod answer;
 mod asking;
 mod condition_numbers;
 mod counts;
+mod deciding;
 mod explaining;
 mod fault;
 mod handle;
@@ -51,6 +52,6 @@ pub use resuming::mls_resume_bytes;
 pub use subject_info::{SubjectInfo, mls_read_subject, mls_subject_name_bytes};
 pub use term_numbers::TermNumbers;
 pub use theorems::{
-    entries_have_their_numbers, labels_decide_as_objects_do, labels_have_their_numbers,
-    replies_have_their_numbers, requests_have_their_numbers,
+    conditions_have_their_numbers, entries_have_their_numbers, labels_decide_as_objects_do,
+    labels_have_their_numbers, replies_have_their_numbers, requests_have_their_numbers,
 };

@@ -7,7 +7,6 @@ use crate::handle::Mls;
 use crate::status::{ECLOSED, ENOTFOUND, OK};
 use crate::text::text_of;
 use mls_lines::Names;
-use std::alloc::Global;
 
 /// The number of the subject of a name.
 fn subject_of(names: &Names, name: &[u8]) -> Option<u16>
@@ -42,39 +41,32 @@ pub(crate) fn tell(found: Option<u16>, number: &mut u16) -> i32
 
 /// The number of the subject of a name. It doesn't allocate.
 #[unsafe(no_mangle)]
-pub extern "C" fn mls_subject_bytes(
-    m: &mut Mls,
-    alloc: Global,
-    name: &[u8],
-    number: &mut u16,
-) -> i32
+pub extern "C" fn mls_subject_bytes(m: &mut Mls, name: &[u8], number: &mut u16) -> i32
     ensures status { result
         ≡ status_if_open m.old.monitor.value (λ v. found_status (name_in v.names.subjects name.now)) }
     ensures found { result ≡ OK → subject_named m.old.monitor.value name.now ≡ Some number.new }
     ensures silent { result ≢ OK → number.new ≡ number.old }
     ensures same { m.new.monitor.value ≡ m.old.monitor.value }
 {
-    let Some(opened) = m.take(alloc) else {
+    if m.held == 0 {
         return ECLOSED;
-    };
-    let status = tell(subject_of(opened.names(), name), number);
-    m.put(opened);
-    status
+    }
+    let opened = m.monitor.lend();
+    tell(subject_of(opened.names(), name), number)
 }
 
 /// The number of the object of a name of the start. It doesn't allocate.
 #[unsafe(no_mangle)]
-pub extern "C" fn mls_object_bytes(m: &mut Mls, alloc: Global, name: &[u8], number: &mut u16) -> i32
+pub extern "C" fn mls_object_bytes(m: &mut Mls, name: &[u8], number: &mut u16) -> i32
     ensures status { result
         ≡ status_if_open m.old.monitor.value (λ v. found_status (name_in v.names.objects name.now)) }
     ensures found { result ≡ OK → object_named m.old.monitor.value name.now ≡ Some number.new }
     ensures silent { result ≢ OK → number.new ≡ number.old }
     ensures same { m.new.monitor.value ≡ m.old.monitor.value }
 {
-    let Some(opened) = m.take(alloc) else {
+    if m.held == 0 {
         return ECLOSED;
-    };
-    let status = tell(object_of(opened.names(), name), number);
-    m.put(opened);
-    status
+    }
+    let opened = m.monitor.lend();
+    tell(object_of(opened.names(), name), number)
 }

@@ -17,7 +17,6 @@ use crate::status::{ECLOSED, ENOTFOUND, OK};
 use crate::subject_info::copy_name;
 use mls_state::State;
 use mls_tables::ObjectId;
-use std::alloc::Global;
 
 /// An object: its labels, and its parent, 0 where it is the root.
 #[repr(C)]
@@ -71,23 +70,17 @@ fn copy_object(opened: &Opened, object: u16, info: &mut ObjectInfo) -> i32
 
 /// Copies out an active object's labels and its parent. It doesn't allocate.
 #[unsafe(no_mangle)]
-pub extern "C" fn mls_read_object(
-    m: &mut Mls,
-    alloc: Global,
-    object: u16,
-    info: &mut ObjectInfo,
-) -> i32
+pub extern "C" fn mls_read_object(m: &mut Mls, object: u16, info: &mut ObjectInfo) -> i32
     ensures status { result ≡ status_if_open m.old.monitor.value (λ v. there_status (is_active (state_of v) object)) }
     ensures copied { result ≡ OK → HasObjectInfo m.old.monitor.value object info.new }
     ensures same { m.new.monitor.value ≡ m.old.monitor.value }
     ensures silent { result ≢ OK → info.new ≡ info.old }
 {
-    let Some(opened) = m.take(alloc) else {
+    if m.held == 0 {
         return ECLOSED;
-    };
-    let status = copy_object(&opened, object, info);
-    m.put(opened);
-    status
+    }
+    let opened = m.monitor.lend();
+    copy_object(opened, object, info)
 }
 
 /// The first of some objects whose number is above another.
@@ -117,13 +110,7 @@ fn child_above(state: &State, object: u16, above: u16) -> Option<u16>
 /// The least child of an object whose number is above another: from 0, which is no child's, each call gives the next.
 /// It doesn't allocate.
 #[unsafe(no_mangle)]
-pub extern "C" fn mls_next_child(
-    m: &mut Mls,
-    alloc: Global,
-    object: u16,
-    above: u16,
-    child: &mut u16,
-) -> i32
+pub extern "C" fn mls_next_child(m: &mut Mls, object: u16, above: u16, child: &mut u16) -> i32
     ensures status { result
         ≡ status_if_open m.old.monitor.value (λ v. found_status (child_above (state_of v) object above)) }
     ensures found { result ≡ OK
@@ -131,12 +118,11 @@ pub extern "C" fn mls_next_child(
     ensures silent { result ≢ OK → child.new ≡ child.old }
     ensures same { m.new.monitor.value ≡ m.old.monitor.value }
 {
-    let Some(opened) = m.take(alloc) else {
+    if m.held == 0 {
         return ECLOSED;
-    };
-    let status = tell(child_above(opened.state(), object, above), child);
-    m.put(opened);
-    status
+    }
+    let opened = m.monitor.lend();
+    tell(child_above(opened.state(), object, above), child)
 }
 
 /// Copies out the name that the start has for the number of an object. The length of the name is told where the buffer
@@ -144,7 +130,6 @@ pub extern "C" fn mls_next_child(
 #[unsafe(no_mangle)]
 pub extern "C" fn mls_object_name_bytes(
     m: &mut Mls,
-    alloc: Global,
     object: u16,
     buffer: &mut [u8],
     len: &mut usize,
@@ -159,11 +144,10 @@ pub extern "C" fn mls_object_name_bytes(
     ensures silent { result ≢ OK → result ≢ ERANGE → len.new ≡ len.old }
     ensures same { m.new.monitor.value ≡ m.old.monitor.value }
 {
-    let Some(opened) = m.take(alloc) else {
+    if m.held == 0 {
         return ECLOSED;
-    };
+    }
+    let opened = m.monitor.lend();
     let name = opened.names().object_name(ObjectId::new(object));
-    let status = copy_name(name, buffer, len);
-    m.put(opened);
-    status
+    copy_name(name, buffer, len)
 }

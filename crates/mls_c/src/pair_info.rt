@@ -14,7 +14,6 @@ use crate::opened::Opened;
 use crate::status::{ECLOSED, ENOTFOUND, OK};
 use mls_state::State;
 use mls_tables::{Mode, Modes, ObjectId, SubjectId};
-use std::alloc::Global;
 
 /// A subject and an object: the modes that the matrix permits, and those in which the access is held. Execute is 1, read
 /// 2, append 4 and write 8, and sets of modes are sums.
@@ -74,23 +73,16 @@ fn copy_pair(opened: &Opened, subject: u16, object: u16, info: &mut PairInfo) ->
 
 /// Copies out which modes the matrix permits a subject on an object, and in which it holds it. It doesn't allocate.
 #[unsafe(no_mangle)]
-pub extern "C" fn mls_read_pair(
-    m: &mut Mls,
-    alloc: Global,
-    subject: u16,
-    object: u16,
-    info: &mut PairInfo,
-) -> i32
+pub extern "C" fn mls_read_pair(m: &mut Mls, subject: u16, object: u16, info: &mut PairInfo) -> i32
     ensures status { result ≡ status_if_open m.old.monitor.value
         (λ v. there_status (is_subject (state_of v) subject && is_active (state_of v) object)) }
     ensures copied { result ≡ OK → HasPairInfo m.old.monitor.value subject object info.new }
     ensures same { m.new.monitor.value ≡ m.old.monitor.value }
     ensures silent { result ≢ OK → info.new ≡ info.old }
 {
-    let Some(opened) = m.take(alloc) else {
+    if m.held == 0 {
         return ECLOSED;
-    };
-    let status = copy_pair(&opened, subject, object, info);
-    m.put(opened);
-    status
+    }
+    let opened = m.monitor.lend();
+    copy_pair(opened, subject, object, info)
 }

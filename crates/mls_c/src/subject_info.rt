@@ -14,7 +14,6 @@ use crate::status::{ECLOSED, ENOTFOUND, OK};
 use crate::text::copy_text;
 use mls_state::State;
 use mls_tables::SubjectId;
-use std::alloc::Global;
 
 /// A subject: its labels, and 1 where it is trusted, else 0.
 #[repr(C)]
@@ -59,24 +58,18 @@ fn copy_subject(opened: &Opened, subject: u16, info: &mut SubjectInfo) -> i32
 
 /// Copies out a subject's labels, and whether it is trusted. It doesn't allocate.
 #[unsafe(no_mangle)]
-pub extern "C" fn mls_read_subject(
-    m: &mut Mls,
-    alloc: Global,
-    subject: u16,
-    info: &mut SubjectInfo,
-) -> i32
+pub extern "C" fn mls_read_subject(m: &mut Mls, subject: u16, info: &mut SubjectInfo) -> i32
     ensures status { result
         ≡ status_if_open m.old.monitor.value (λ v. there_status (is_subject (state_of v) subject)) }
     ensures copied { result ≡ OK → HasSubjectInfo m.old.monitor.value subject info.new }
     ensures same { m.new.monitor.value ≡ m.old.monitor.value }
     ensures silent { result ≢ OK → info.new ≡ info.old }
 {
-    let Some(opened) = m.take(alloc) else {
+    if m.held == 0 {
         return ECLOSED;
-    };
-    let status = copy_subject(&opened, subject, info);
-    m.put(opened);
-    status
+    }
+    let opened = m.monitor.lend();
+    copy_subject(opened, subject, info)
 }
 
 /// Copies out a name of the start.
@@ -98,7 +91,6 @@ pub(crate) fn copy_name(name: Option<&str>, buffer: &mut [u8], len: &mut usize) 
 #[unsafe(no_mangle)]
 pub extern "C" fn mls_subject_name_bytes(
     m: &mut Mls,
-    alloc: Global,
     subject: u16,
     buffer: &mut [u8],
     len: &mut usize,
@@ -113,11 +105,10 @@ pub extern "C" fn mls_subject_name_bytes(
     ensures silent { result ≢ OK → result ≢ ERANGE → len.new ≡ len.old }
     ensures same { m.new.monitor.value ≡ m.old.monitor.value }
 {
-    let Some(opened) = m.take(alloc) else {
+    if m.held == 0 {
         return ECLOSED;
-    };
+    }
+    let opened = m.monitor.lend();
     let name = opened.names().subject_name(SubjectId::new(subject));
-    let status = copy_name(name, buffer, len);
-    m.put(opened);
-    status
+    copy_name(name, buffer, len)
 }

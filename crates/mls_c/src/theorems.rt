@@ -1,5 +1,5 @@
 //! What holds of numbers. The functions do nothing: each is a law, which its contract states.
-ghost use Rattle.std.specs.Prelude.{◌≡◌, ◌∷◌, ℕ, IsTrue, Some};
+ghost use Rattle.std.specs.Prelude.{◌≡◌, ◌≤◌, ◌∷◌, ℕ, IsTrue, Some};
 ghost use Rattle.mls_labels.specs.Label.{Label as LabelView};
 ghost use Rattle.mls_requests.specs.declared.entry.Entry.{Entry as EntryView};
 ghost use Rattle.mls_requests.specs.declared.reply.Reply.{Reply as ReplyView};
@@ -10,6 +10,8 @@ ghost use Rattle.mls_state.specs.State.{State as StateView};
 ghost use Rattle.mls_state.specs.Properties.{discretionary_holds};
 ghost use Rattle.mls_rules.specs.Rules.{conditions, reply};
 ghost use Rattle.mls_journal.specs.EntryText.{LabelHasRanges, ActionHasRanges, HasRanges};
+ghost use Rattle.mls_explain.specs.declared.condition.Condition.{Condition as ConditionView};
+ghost use Rattle.mls_c.specs.Conditions.{BasisHasRanges, numbers_of_condition, condition_count};
 ghost use Rattle.mls_c.specs.LabelAsking.{get_of, HasLabels, has_bounds, label_conditions, label_reply};
 ghost use Rattle.mls_c.specs.declared.label_asking.LabelAccess.{LabelAccess as AccessView};
 ghost use Rattle.mls_c.specs.Labels.{label_of, numbers_of_label};
@@ -39,6 +41,14 @@ pub fn replies_have_their_numbers()
 /// No two entries have the same numbers: who reads an entry in numbers knows the entry.
 pub fn entries_have_their_numbers()
     ensures apart { (a b : EntryView) → HasRanges a → HasRanges b → numbers_of_entry a ≡ numbers_of_entry b → a ≡ b }
+{}
+
+/// No two conditions have the same numbers: who reads a condition in numbers knows the condition. And no request has
+/// more conditions than four.
+pub fn conditions_have_their_numbers()
+    ensures apart { (a b : ConditionView) → BasisHasRanges a.basis → BasisHasRanges b.basis
+        → numbers_of_condition a ≡ numbers_of_condition b → a ≡ b }
+    ensures few { (v : StateView) (r : RequestView) → condition_count v r ≤ 4 }
 {}
 
 /// What is decided by labels is what the rule for a get decides of an active object that has them. Its conditions are
