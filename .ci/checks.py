@@ -28,7 +28,7 @@ CHECKS = [
     Check("starts", (".ci/check-starts",), PROGRAM, 60),
     Check("program", (".ci/check-program",), PROGRAM, 50),
     Check("scripts", (".ci/check-scripts",), PROGRAM, 40),
-    Check("service", (".ci/check-durable",), PROGRAM, 40),
+    Check("service", (".ci/check-durable",), PROGRAM, 80),
     Check("front", (".ci/check-mlsd", "--short"), PROOF, 60),
     Check("database", ("integrations/postgresql/check",), PROGRAM, 60),
     Check("replicas", ("integrations/etcd/check", "--short"), PROOF, 60),

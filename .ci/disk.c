@@ -5,10 +5,16 @@
  *   DISK_FAIL=N    the Nth of them fails, with the errno of DISK_ERRNO; where it is a write, the first DISK_FRONT bytes are
  *                  in the file all the same
  *   DISK_KILL=N    before the Nth of them the program is killed
- *   DISK_REFUSE=CALL    each `flock`, or each `read` of DISK_JOURNAL, fails with the errno of DISK_ERRNO
+ *   DISK_OF=FILE, DISK_CALL=CALL    no calls are counted but those on FILE (the last part of its name), and of CALL alone:
+ *                  `write`, `sync` or `cut`. A program with threads makes its calls in no order, but on each file in one.
+ *   DISK_REFUSE=CALL    each `flock` (of DISK_OF, where that is given), or each `read` of DISK_JOURNAL, fails with the errno
+ *                  of DISK_ERRNO
  *   DISK_PIECE=K   no write to a file takes more than K bytes
  *   DISK_SLOW=U    each sync begins with so many microseconds of waiting
  *   DISK_JOURNAL=FILE, DISK_COPY=COPY    after each sync of FILE that ended well, COPY has all that FILE has
+ *   DISK_MARKS=FILE, DISK_MARKS_COPY=COPY    the same of a second file
+ *   DISK_CLOCK=FILE    the clock says the seconds and the nanoseconds that stand in FILE; where they can't be read it fails
+ *                  with the errno of DISK_ERRNO
  *   DISK_NOTES=NOTES    a line for each of them, and for each write to standard output: what was asked, of which file
  *                  (the last part of its name; `out` for standard output), how many bytes, and `ok` or `failed`. The bytes
  *                  of a sync and of a cut are those that the file then has.
@@ -23,6 +29,8 @@
 #include <string.h>
 #include <sys/file.h>
 #include <sys/stat.h>
+#include <sys/syscall.h>
+#include <time.h>
 #include <unistd.h>
 
 static ssize_t (*true_write)(int, const void *, size_t);
@@ -31,6 +39,7 @@ static int (*true_flock)(int, int);
 static int (*true_fsync)(int);
 static int (*true_fdatasync)(int);
 static int (*true_ftruncate)(int, off_t);
+static int (*true_clock)(clockid_t, struct timespec *);
 static long counted;
 
 __attribute__((constructor)) static void find(void) {
@@ -40,6 +49,7 @@ __attribute__((constructor)) static void find(void) {
     *(void **)&true_fsync = dlsym(RTLD_NEXT, "fsync");
     *(void **)&true_fdatasync = dlsym(RTLD_NEXT, "fdatasync");
     *(void **)&true_ftruncate = dlsym(RTLD_NEXT, "ftruncate");
+    *(void **)&true_clock = dlsym(RTLD_NEXT, "clock_gettime");
 }
 
 /* The number that the environment has by a name, or -1. */
@@ -77,37 +87,54 @@ static void note(const char *asked, int fd, long bytes, int is_done) {
     errno = error;
 }
 
-/* Counts one call more. Says whether it is the one that is to fail. */
-static int is_failing(void) {
-    counted++;
-    if (counted == number("DISK_KILL")) kill(getpid(), SIGKILL);
-    if (counted != number("DISK_FAIL")) return 0;
+/* Whether an open file is the one of DISK_OF, or none is given. */
+static int is_of(int fd) {
+    char name[4096];
+    const char *of = getenv("DISK_OF"), *last;
+    if (!of) return 1;
+    name_of(fd, name, sizeof name);
+    last = strrchr(name, '/');
+    return last && !strcmp(last + 1, of);
+}
+
+/* Counts one call more, where it is one that is counted. Says whether it is the one that is to fail. */
+static int is_failing(const char *call, int fd) {
+    const char *only = getenv("DISK_CALL");
+    long place;
+    if ((only && strcmp(only, call)) || !is_of(fd)) return 0;
+    place = __atomic_add_fetch(&counted, 1, __ATOMIC_SEQ_CST);
+    if (place == number("DISK_KILL")) kill(getpid(), SIGKILL);
+    if (place != number("DISK_FAIL")) return 0;
     errno = (int)number("DISK_ERRNO");
     return 1;
 }
 
-/* Whether this is the journal's file. */
-static int is_journal(int fd) {
+/* Whether an open file has the name that the environment has by this one. */
+static int is_named(int fd, const char *by) {
     char name[4096];
-    const char *journal = getenv("DISK_JOURNAL");
+    const char *wanted = getenv(by);
+    if (!wanted) return 0;
     name_of(fd, name, sizeof name);
-    return journal && !strcmp(name, journal);
+    return !strcmp(name, wanted);
 }
 
-/* Copies the journal, where this is the journal's file. */
-static void copy(int fd) {
-    char piece[65536];
-    const char *journal = getenv("DISK_JOURNAL"), *copy = getenv("DISK_COPY");
+/* Copies a file to the name that the environment has by this one, in one step. */
+static void copy(int fd, const char *by) {
+    char piece[65536], name[4096], new[4200];
+    const char *copy = getenv(by);
     int from, to, error = errno;
     ssize_t count;
-    if (!copy || !is_journal(fd)) return;
-    from = open(journal, O_RDONLY);
-    to = open(copy, O_WRONLY | O_CREAT | O_TRUNC, 0600);
+    if (!copy) return;
+    name_of(fd, name, sizeof name);
+    snprintf(new, sizeof new, "%s.new", copy);
+    from = open(name, O_RDONLY);
+    to = open(new, O_WRONLY | O_CREAT | O_TRUNC, 0600);
     if (from < 0 || to < 0) abort();
     while ((count = true_read(from, piece, sizeof piece)) > 0)
         if (true_write(to, piece, count) != count) abort();
     close(from);
     close(to);
+    if (rename(new, copy)) abort();
     errno = error;
 }
 
@@ -120,10 +147,30 @@ static int is_refused(const char *call) {
 }
 
 ssize_t read(int fd, void *bytes, size_t count) {
-    return is_journal(fd) && is_refused("read") ? -1 : true_read(fd, bytes, count);
+    return is_named(fd, "DISK_JOURNAL") && is_refused("read") ? -1 : true_read(fd, bytes, count);
 }
 
-int flock(int fd, int how) { return is_refused("flock") ? -1 : true_flock(fd, how); }
+int flock(int fd, int how) { return is_of(fd) && is_refused("flock") ? -1 : true_flock(fd, how); }
+
+int clock_gettime(clockid_t clock, struct timespec *time) {
+    const char *told = getenv("DISK_CLOCK");
+    long long seconds, nanoseconds;
+    FILE *file;
+    int count;
+    // (a program may ask for the time before this file is made ready)
+    if (!true_clock) return (int)syscall(SYS_clock_gettime, clock, time);
+    if (!told || clock != CLOCK_REALTIME) return true_clock(clock, time);
+    file = fopen(told, "r");
+    count = file ? fscanf(file, "%lld %lld", &seconds, &nanoseconds) : 0;
+    if (file) fclose(file);
+    if (count == 2) {
+        time->tv_sec = (time_t)seconds;
+        time->tv_nsec = (long)nanoseconds;
+        return 0;
+    }
+    errno = (int)number("DISK_ERRNO");
+    return -1;
+}
 
 ssize_t write(int fd, const void *bytes, size_t count) {
     long piece = number("DISK_PIECE"), front = number("DISK_FRONT");
@@ -134,7 +181,7 @@ ssize_t write(int fd, const void *bytes, size_t count) {
         note("write", fd, done, done >= 0);
         return done;
     }
-    if (is_failing()) {
+    if (is_failing("write", fd)) {
         int error = errno;
         if (front > 0) front = true_write(fd, bytes, (size_t)front < count ? (size_t)front : count);
         note("write", fd, front, 0);
@@ -149,9 +196,10 @@ ssize_t write(int fd, const void *bytes, size_t count) {
 static int sync_by(int (*true_sync)(int), int fd) {
     int failed;
     if (number("DISK_SLOW") > 0) usleep((useconds_t)number("DISK_SLOW"));
-    failed = is_failing() || true_sync(fd);
+    failed = is_failing("sync", fd) || true_sync(fd);
     note("sync", fd, size_of(fd), !failed);
-    if (!failed) copy(fd);
+    if (!failed && is_named(fd, "DISK_JOURNAL")) copy(fd, "DISK_COPY");
+    if (!failed && is_named(fd, "DISK_MARKS")) copy(fd, "DISK_MARKS_COPY");
     return failed ? -1 : 0;
 }
 
@@ -160,7 +208,7 @@ int fsync(int fd) { return sync_by(true_fsync, fd); }
 int fdatasync(int fd) { return sync_by(true_fdatasync, fd); }
 
 int ftruncate(int fd, off_t length) {
-    int failed = is_failing() || true_ftruncate(fd, length);
+    int failed = is_failing("cut", fd) || true_ftruncate(fd, length);
     note("cut", fd, size_of(fd), !failed);
     return failed ? -1 : 0;
 }

@@ -3,8 +3,9 @@ import os
 from errno import ENOSPC
 
 from durable_crashes import recovered
+from durable_marks import is_marked
 from outside import put, ran, same
-from serving import REQUESTS, STANDARD, Due, Serving, SmallDisk, content, failed, is_kept, ready, served
+from serving import IN_SESSIONS, LINES, REQUESTS, STANDARD, Due, Serving, SmallDisk, content, failed, is_kept, ready, served
 
 SIZE = 65_536
 LARGER = 1_048_576
@@ -36,6 +37,27 @@ def disk_that_fills():
         same(served(b"ann get-read plans\n", "small/j")[:2], (0, ready(journal.count(b"\n")) + b"yes\n"))
 
 
+def disk_that_fills_with_marks():
+    """One of both files can't be written: all that was answered is in the journal, and has its mark. Once there is room a service goes on."""
+    with SmallDisk("packed", SIZE) as disk:
+        due = Due(600 * IN_SESSIONS)
+        with Serving("packed/j", "--sessions", "--marks", "packed/m") as run:
+            run.says(ready(0))
+            run.feed(due.asked, 100)
+            written = run.run.stdout.read()
+            status, rest, error = run.end()
+        same((status, rest), (5, b""))
+        assert error in [failed(f"packed/{it}", "append", ENOSPC) for it in "jm"], error
+        is_kept(content("packed/j"), b"", due, written)
+        disk.grow(LARGER)
+        status, output, error = served(LINES[0].asked, "packed/j", "--recover", "--marks", "packed/m")
+        journal = content("packed/j")
+        count = journal.count(b"\n")
+        same((status, output), (0, ready(count - 1) + LINES[0].answer))
+        is_kept(b"".join(journal.splitlines(keepends=True)[:-1]), b"", due, written)
+        is_marked("packed/j", "packed/m")
+
+
 def torn_end_on_a_full_disk():
     """It can't be kept: the journal stays, and no part of what was to be kept."""
     whole = Due(REQUESTS).journal
@@ -59,4 +81,4 @@ def run_on_a_full_disk():
         same(ran(words=["run", "--journal", "brim/k", STANDARD, "many"]), (1, b"", b"mls: brim/k: file\n"))
 
 
-CHECKS = [disk_that_fills, torn_end_on_a_full_disk, run_on_a_full_disk]
+CHECKS = [disk_that_fills, disk_that_fills_with_marks, torn_end_on_a_full_disk, run_on_a_full_disk]

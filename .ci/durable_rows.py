@@ -1,11 +1,16 @@
 """What mls serve does with its words and files, and what it tells: a row for each line of the table in FORMATS.md, each status and
 each flag."""
+import contextlib
 import errno
+import io
 import os
 import random
 import resource
+import types
 
+import full_check
 import outside
+from checks import Counts
 from outside import SECONDS, needs_proof, put, ran, same
 from serving import (
     LINES, REQUESTS, STANDARD, Due, Serving, content, failed, is_kept, is_refused, mode_of, ready, served, status_of,
@@ -427,6 +432,38 @@ def line_that_is_not_finished():
         same(content("un"), b"")
 
 
+def line_that_begins_another():
+    """A client that dies within the name of an object has not asked for the object whose name begins so."""
+    named = content(STANDARD).replace(b'"plans"', b'"cable-1"').replace(b'"memo"', b'"cable-10"')
+    put("cables.json", named)
+    begun = b"0 0 2 get-write 0 yes\n"
+    for flags, front in (((), b""), (("--sessions",), b"0 ")):
+        put("cables", begun)
+        same(served(front + b"sec delete cable-1", "cables", *flags, start="cables.json"), (1, ready(1), UNFINISHED))
+        same(content("cables"), begun)
+        same(served(front + b"sec delete cable-10\n", "cables", *flags, start="cables.json"), (0, ready(1) + front + b"yes\n", b""))
+        same(content("cables"), begun + b"1 0 2 delete 2 yes\n")
+
+
+def machine_without_a_compiler():
+    """The checks that need one are named as skipped, and the full check counts a failure."""
+    given, folder, kept = dict(os.environ), os.getcwd(), dict(vars(full_check))
+    none, well, said = (lambda *_: Counts()), (lambda *_: Counts(passed=1)), io.StringIO()
+    try:
+        for compiler, wanted in ((None, (1, "2 passed, 1 failed")), ("/usr/bin/cc", (0, "2 passed, 0 failed"))):
+            which = types.SimpleNamespace(which=lambda _, compiler=compiler: compiler)
+            vars(full_check).update(proofs=well, kept=none, checked=well, shutil=which)
+            with contextlib.redirect_stdout(said):
+                status = full_check.main()
+            same((compiler, status, said.getvalue().splitlines()[-1]), (compiler, *wanted))
+            same("a C compiler: NOT INSTALLED\n" in said.getvalue(), True)
+    finally:
+        vars(full_check).update(kept)
+        os.environ.clear()
+        os.environ.update(given)
+        os.chdir(folder)
+
+
 def in_session(journal, session):
     """Entries with the number of another session."""
     words = [line.split(b" ") for line in journal.splitlines(keepends=True)]
@@ -726,6 +763,7 @@ CHECKS = [
     input_without_an_end,
     client_that_sends_half_a_line_and_waits,
     line_that_is_not_finished,
+    line_that_begins_another,
     lines_of_sessions,
     lines_of_sessions_by_chance,
     numbers_behind_answers,
@@ -738,4 +776,5 @@ CHECKS = [
     journal_that_grows_to_its_limit,
     input_that_is_a_folder,
     memory_that_runs_out,
+    machine_without_a_compiler,
 ]

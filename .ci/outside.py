@@ -1,4 +1,5 @@
 """What checks of the program mls from outside share: how it is run, and how the checks are counted."""
+import functools
 import os
 import subprocess
 import tempfile
@@ -78,11 +79,32 @@ def rounds(count):
     return count if IS_PROVED else max(1, count // 10)
 
 
+def some(rows, of):
+    """All rows; over a trial one of so many."""
+    return rows if IS_PROVED else rows[::of]
+
+
 def needs_proof(check):
     """Marks a check that only the proved program can pass: a trial takes minutes for it, or more memory than it
     leaves."""
     check.needs_proof = True
     return check
+
+
+def in_its_folder(check):
+    """A check in a folder of its own below the one that checks run in."""
+
+    @functools.wraps(check)
+    def checked():
+        folder = os.path.abspath(check.__name__)
+        os.mkdir(folder)
+        os.chdir(folder)
+        try:
+            check()
+        finally:
+            os.chdir(os.path.dirname(folder))
+
+    return checked
 
 
 def why_skipped(check, unfit):

@@ -113,6 +113,27 @@ PERMISSIONS = (
     "permit sec write memo\npermit aud read plans\n"
 )
 
+# Nobody holds anything, so authority is the trusted subjects' over the root; memo lies over the root alone, and under nothing.
+DOWN = "{0} relabels plans down to C U\n{0} relabels memo down to U\n"
+RELABELED = (
+    "{0} relabels plans down to C U\n{0} relabels plans up to T:A,B\n{0} relabels memo down to U\n{0} relabels memo up to S:A T:A,B\n"
+    "{0} relabels tool up to S:A C T:A,B\n"
+)
+SEC = "sec gives and rescinds root\nsec level S:A C T:A,B\n" + RELABELED.format("sec")
+POWERS = [
+    ([STANDARD], "ann level C U\nbob level C\n" + SEC + "aud gives and rescinds root\naud level S:A C\n" + RELABELED.format("aud"), 0),
+    ([STANDARD, "sec"], SEC, 0),
+    ([STANDARD, "#2"], SEC, 0),
+    (["--down", STANDARD], DOWN.format("sec") + DOWN.format("aud"), 0),
+    (["--down", STANDARD, "bob"], "", 4),
+    ([STANDARD, "#9"], "", 4),
+    # sec writes the root: permissions on what is below it, and the objects themselves, are sec's
+    (["--journal", "root.journal", STANDARD, "sec"],
+     "".join(f"sec gives and rescinds {it}\n" for it in ("root", "plans", "memo", "tool")) + "sec creates under root\n"
+     + "".join(f"sec deletes {it}\n" for it in ("plans", "memo", "tool")) + "sec level S:A C T:A,B\n" + RELABELED.format("sec"), 0),
+    (["--journal", "root.journal", "--at", "0", STANDARD, "sec"], SEC, 0),
+]
+
 LATTICE = (
     'digraph lattice {\nrankdir=BT;\nnode [shape=box];\n"S:A" [label="S:A\\nann maximum, current\\naud maximum\\nplans"];\n'
     '"C" [label="C\\nbob maximum\\nmemo"];\n"U" [label="U\\nbob current\\nsec current\\naud current\\nroot\\ntool"];\n'
@@ -314,6 +335,14 @@ def states_of_a_journal():
     refused(["state", "--at", "4", STANDARD, "memo.journal"], "mls: memo.journal: at most 3\n")
 
 
+def powers_of_subjects():
+    put("root.journal", b"0 0 2 get-write 0 yes\n")
+    for words, text, status in POWERS:
+        answered(["powers", *words], text, status)
+    refused(["powers", STANDARD, "carl"], "mls: carl: bad name\n")
+    refused(["powers", "--journal", "root.journal", "--at", "2", STANDARD], "mls: root.journal: at most 1\n")
+
+
 def drawing_of_the_standard_start():
     answered(["lattice", STANDARD], LATTICE, 0)
     put("empty.json", b"")
@@ -351,6 +380,7 @@ def one_repeat_and_nothing_else():
 
 CHECKS = [
     lines_that_are_asked, lines_that_are_explained, lines_that_ask_nothing, subjects_who_may, entries_that_are_explained, states_before_entries,
-    faults_in_their_order, words_that_no_question_has, listed_entries, states_of_a_journal, suspicious_examples, drawing_of_the_standard_start,
+    faults_in_their_order, words_that_no_question_has, listed_entries, states_of_a_journal, suspicious_examples, powers_of_subjects,
+    drawing_of_the_standard_start,
     entries_about_a_subject, words_that_begin_no_reply, members_that_are_repeated, one_repeat_and_nothing_else,
 ]

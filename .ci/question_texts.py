@@ -1,9 +1,9 @@
-"""What `mls journal`, `mls state` and `mls lint` print, and the pairs that `mls lattice` draws, in Python from docs/FORMATS.md over the policy of policy.py."""
+"""What `mls journal`, `mls state`, `mls lint` and `mls powers` print, and the pairs that `mls lattice` draws, in Python from docs/FORMATS.md over the policy of policy.py."""
 import copy
 
 import json
 
-from policy import KINDS, MODES, REASONS, dominates, words_of
+from policy import KINDS, MODES, REASONS, dominates, number_label, words_of
 
 REPLIES = ("yes", "created", "no", "undefined")
 
@@ -20,6 +20,17 @@ class Entry:
     def subjects(self):
         """The subjects that an entry is about: the one that asked, and one that a permission is given to or rescinded."""
         return [self.subject] + [it for kind, it in zip(KINDS[self.action[0]], self.action[1:]) if kind == "subject"]
+
+
+def entry_of(line):
+    """The entry of an entry line."""
+    number, session, subject, word, *rest = line.split()
+    is_get = word.startswith("get-")
+    kinds = KINDS[word][is_get:]
+    read = {"mode": MODES.index, "security": number_label, "integrity": number_label}
+    operands = [read.get(kind, int)(it) for kind, it in zip(kinds, rest)]
+    action = (word, *([MODES.index(word[4:])] if is_get else []), *operands)
+    return Entry(int(number), int(session), int(subject), action, " ".join(rest[len(kinds):]))
 
 
 def listed(state, entries, subject=None, by=None, object=None, session=None, reply=None, first=0, last=None):
@@ -149,3 +160,33 @@ def covering(labels):
 def labels(state):
     return {*state.maximum.values(), *state.current.values(), *state.label.values()}
 
+
+
+def in_use(state):
+    """The labels of a state, each once, in the order in which they are met: of subjects, the maximum first, and of objects."""
+    met = [it for s in sorted(state.maximum) for it in (state.maximum[s], state.current[s])]
+    return list(dict.fromkeys(met + [state.label[o] for o in sorted(state.label)]))
+
+
+def powers(state, subject=None, down=False):
+    """What `mls powers` prints, and its status: each line by trying all requests that it speaks of."""
+    top = len(state.security.levels) - 1, frozenset(range(len(state.security.categories)))
+    high = len(state.integrity.levels) - 1, frozenset(range(len(state.integrity.categories)))
+    lines, objects, labels = [], sorted(state.label), in_use(state)
+    for s in sorted(state.maximum) if subject is None else [subject]:
+        may = lambda *action: state.decide(s, action).split()[0] in ("yes", "created")
+        taken = lambda present, word, *operand: [it for it in labels if it != present and may(word, *operand, it)]
+        row = lambda words, found: lines.append(" ".join([state.subject(s), words, *map(state.security.text, found)]) + "\n") if found else None
+        if not down:
+            tried = {o: {may(word, x, t, o) for word in ("give", "rescind") for x in range(4) for t in state.maximum} for o in objects}
+            assert all(len(it) == 1 for it in tried.values()), "the rules of a give and a rescind look at more than who asks and the object"
+            lines += [f"{state.subject(s)} gives and rescinds {state.object(o)}\n" for o in objects if True in tried[o]]
+            lines += [f"{state.subject(s)} creates under {state.object(o)}\n" for o in objects
+                      if any(may("create", o, l, i) for l in below(state, top) for i in below(state, high))]
+            lines += [f"{state.subject(s)} deletes {state.object(o)}\n" for o in objects if may("delete", o)]
+            row("level", taken(state.current[s], "level"))
+        for o in objects:
+            found = taken(state.label[o], "relabel", o)
+            row(f"relabels {state.object(o)} down to", [it for it in found if not dominates(it, state.label[o])])
+            row(f"relabels {state.object(o)} up to", [it for it in found if dominates(it, state.label[o]) and not down])
+    return "".join(lines), 0 if lines else 4

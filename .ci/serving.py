@@ -19,8 +19,8 @@ TOP = outside.TOP
 STANDARD = f"{EXAMPLES}/standard.json"
 
 # A line over the standard start whose answer doesn't depend on what was asked before, with that answer, and with what its
-# entry has after the number of its session; None where it has no entry.
-Line = collections.namedtuple("Line", "asked answer entry")
+# entry has after the number of its session; None where it has no entry. `session` is that number, where the line tells it.
+Line = collections.namedtuple("Line", "asked answer entry session", defaults=[None])
 LINES = [
     Line(b"ann get-read plans\n", b"yes\n", b"0 get-read 1 yes"),
     Line(b"ann release read plans\n", b"yes\n", b"0 release read 1 yes"),
@@ -37,13 +37,25 @@ LINES = [
 REQUESTS = [line for line in LINES if line.entry]
 
 
+def asked_in(number, line):
+    """A line as a service with --sessions is asked it, with its answer."""
+    told = b"%d " % number
+    return Line(told + line.asked, told + line.answer if line.answer else b"", line.entry, number)
+
+
+# Lines of sessions, as --sessions has them: each of LINES, and one that only tells what it would be answered.
+IN_SESSIONS = [asked_in(number, line) for number, line in zip((7, 0, 4_294_967_294, 7, 12, 3, 0, 7, 5, 2), LINES)]
+IN_SESSIONS.append(Line(b"12 ? ann get-read plans\n", b"12 ? yes\n", None, 12))
+
+
 class Due:
     """Lines, with the answers and the entries that are due to them, over a journal that has `first` entries."""
 
     def __init__(self, lines, first=0, session=0):
         self.lines, self.entries = lines, []
         for line in lines:
-            entry = b"" if line.entry is None else b"%d %d %s\n" % (first, session, line.entry)
+            who = session if line.session is None else line.session
+            entry = b"" if line.entry is None else b"%d %d %s\n" % (first, who, line.entry)
             first += line.entry is not None
             self.entries.append(entry)
         self.asked = b"".join(line.asked for line in lines)
@@ -231,11 +243,15 @@ def unfit_for_disks(checks):
     return {} if can_mount() else dict.fromkeys(checks, "no file system can be mounted here")
 
 
+# The file that disk.c was built to.
+BUILT = []
+
+
 def shim(**words):
     """The environment under which a program's calls on its files go through disk.c."""
-    made = os.path.abspath("disk.so")
-    if not os.path.exists(made):
+    if not BUILT or not os.path.exists(BUILT[-1]):
+        BUILT.append(os.path.abspath("disk.so"))
         flags = ["-std=c99", "-Wall", "-Wextra", "-Werror", "-O1", "-shared", "-fPIC"]
-        subprocess.run(["cc", *flags, f"{TOP}/.ci/disk.c", "-o", made, "-ldl"], check=True)
+        subprocess.run(["cc", *flags, f"{TOP}/.ci/disk.c", "-o", BUILT[-1], "-ldl"], check=True)
     given = {f"DISK_{name.upper()}": str(value) for name, value in words.items()}
-    return {**os.environ, "LD_PRELOAD": made, **given}
+    return {**os.environ, "LD_PRELOAD": BUILT[-1], **given}
