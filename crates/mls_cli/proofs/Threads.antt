@@ -26,7 +26,7 @@ use Rattle.mls_replay.proofs.AskedJournals.{journal_asked}
 
 -- what a run of feeds left, of a monitor that grew from an empty journal
 left_feeds : {X : Type 0} (bytes : X → List ℕ) (old new : Monitor) (asked : Bool) (feeds left : List ScriptFeed) (output : List ℕ) (journal : Option X)
-    → old.entries ≡ [] → Grew old.start old.entries (length feeds) new → IsLegal new.start new.entries
+    → old.entries ≡ [] → Grew old.start old.entries old.forgotten (length feeds) new → IsLegal new.start new.entries
     → AllFed Gives GivesAhead Takes old.start old.entries (drop (length old.entries) new.entries) 0 feeds left → NoneFailed left
     → output ≡ fed_texts 0 left ++ ending (length new.entries) → IfSome journal (λ text. bytes text ≡ journal_text new.entries) → is_some journal ≡ asked
     → LeavesFeeds old.start feeds asked output (option_map bytes journal)
@@ -43,13 +43,13 @@ left_feeds bytes old new asked feeds left output journal fresh grew legal fed no
 
 -- the same of what a run returns
 pub run_left : {T E X Z : Type 0} (result : Result T E) (output_of : T → List ℕ) (journal_of : T → Option X) (bytes : X → List ℕ) (old new : Monitor) (asked : Bool)
-    (feeds left : Vec ScriptFeed Z) → old.entries ≡ [] → Grew old.start old.entries (vec_len feeds) new → IsLegal new.start new.entries
+    (feeds left : Vec ScriptFeed Z) → old.entries ≡ [] → Grew old.start old.entries old.forgotten (vec_len feeds) new → IsLegal new.start new.entries
     → AllFed Gives GivesAhead Takes old.start old.entries (drop (length old.entries) new.entries) 0 feeds.items left.items → OnOk result (NoneFailed left.items)
     → IfOk result (λ run. output_of run ≡ fed_texts 0 left.items ++ ending (length new.entries))
     → IfOk result (λ run. IfSome (journal_of run) (λ text. bytes text ≡ journal_text new.entries)) → IfOk result (λ run. is_some (journal_of run) ≡ asked)
     → IfOk result (λ run. LeavesFeeds old.start feeds.items asked (output_of run) (option_map bytes (journal_of run)))
 run_left (Ok run) output_of journal_of bytes old new asked feeds left fresh grew legal fed none printed told there =
-    left_feeds bytes old new asked feeds.items left.items (output_of run) (journal_of run) fresh (subst (λ n. Grew old.start old.entries n new) feeds.ok.0 grew) legal fed none printed told there
+    left_feeds bytes old new asked feeds.items left.items (output_of run) (journal_of run) fresh (subst (λ n. Grew old.start old.entries old.forgotten n new) feeds.ok.0 grew) legal fed none printed told there
 run_left (Err e) output_of journal_of bytes old new asked feeds left fresh grew legal fed none printed told there = printed
 
 -- what a run left over the start that a file says

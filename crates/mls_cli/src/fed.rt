@@ -3,7 +3,7 @@ ghost use Rattle.std.specs.Prelude.{◌≡◌, ◌≤◌, ◌++◌, length, map,
 ghost use Rattle.std.specs.Prelude.{OnOk};
 ghost use Rattle.std.specs.List.{list_any};
 ghost use Rattle.mls_monitor.specs.declared.feed.Stage.TheVariants as stage;
-ghost use Rattle.mls_monitor.specs.Journal.{IsLegal};
+ghost use Rattle.mls_monitor.specs.Journal.{IsLegal, kept_of};
 ghost use Rattle.mls_monitor.specs.Feeds.{AllAt};
 ghost use Rattle.mls_journal.specs.EntryText.{journal_text};
 ghost use Rattle.mls_replay.specs.RunTexts.{ending};
@@ -69,7 +69,7 @@ fn push_feeds(
     push_ending(alloc, monitor, output)
 }
 
-/// What a run came to whose scripts were all asked to their end.
+/// What a run came to whose scripts were all asked to their end; with the text of the entries that aren't forgotten.
 #[tactic(auto, using(crate::proofs::Feeds::none_failed))]
 pub fn done_text(
     alloc: Global,
@@ -79,7 +79,7 @@ pub fn done_text(
 ) -> Result<RunText, AllocError>
     requires { length feeds.now ≤ MAX_SCRIPTS }
     ensures journal { IfOk result
-        (λ run. IfSome run.journal (λ text. string_bytes text ≡ journal_text monitor.now.entries)) }
+        (λ run. IfSome run.journal (λ text. string_bytes text ≡ journal_text (kept_of monitor.now))) }
     ensures output { IfOk result
         (λ run. run.output.items ≡ fed_texts 0 feeds.now ++ ending (length monitor.now.entries)) }
     ensures asked { IfOk result (λ run. is_some run.journal ≡ journal) }

@@ -28,7 +28,8 @@ fn finish(
     left: RunDone<ScriptFeed<'_>>,
     journal: bool,
 ) -> Result<RunText, CommandFault>
-    requires { vec_len left.feeds ≤ MAX_SCRIPTS }
+    requires count { vec_len left.feeds ≤ MAX_SCRIPTS }
+    requires whole { left.monitor.forgotten ≡ 0 }
     ensures output { IfOk result
         (λ run. run.output.items ≡ fed_texts 0 left.entry.feeds.items
         ++ ending (length left.entry.monitor.entries)) }
@@ -70,6 +71,7 @@ fn run_feeds<R: Threads + Wait + Sync>(
     requires ready { AllAt (λ f. f.stage) stage.Ready feeds.items }
     requires count { vec_len feeds ≤ MAX_SCRIPTS }
     requires fresh { monitor.entries ≡ [] }
+    requires whole { monitor.forgotten ≡ 0 }
     ensures ok { IfOk result
         (λ run. LeavesFeeds monitor.start feeds.entry.items journal run.output.items
         (option_map (λ text. string_bytes text) run.journal)) }
@@ -96,6 +98,7 @@ fn run_over<R: Threads + Wait + Sync>(
 ) -> Result<RunText, CommandFault>
     requires count { (0 < length scripts.now) × (length scripts.now ≤ MAX_SCRIPTS) }
     requires fresh { monitor.entries ≡ [] }
+    requires whole { monitor.forgotten ≡ 0 }
     ensures ok { IfOk result
         (λ run. LeavesInThreads names.now monitor.start (map (λ script. script.now) scripts.now) journal
         run.output.items (option_map (λ text. string_bytes text) run.journal)) }

@@ -1,6 +1,6 @@
 -- What is kept of a line tells as much as the line.
 use Rattle.std.proofs.Common.{◌≡◌, ℕ, suc, ◌+◌, ◌-◌, ◌<◌, ◌≤◌, min, arith, length, take, Bool, List, [], ◌∷◌, ◌++◌, Option, Some, None, Err, zero, eqb, ltb, true, false, cond, sym, refl, ap, ◌∙◌, inl, inr, length-append, drop, get_or, drop-cons, get_or-take, take-append-drop, subst}
-use Rattle.std.specs.Prelude.{◌==◌, ◌&&◌, not}
+use Rattle.std.specs.Prelude.{◌==◌, ◌&&◌, ◌||◌, not}
 use Rattle.std.specs.Cmp.Derive.{both_true}
 use Rattle.std.proofs.lemmas.Bool.{cases_lt, true≢false, and_parts, eqb-true, ne_eqb}
 use Rattle.std.proofs.lemmas.List.{take_all, take-take, length-take, take-append-le, length-take-le}
@@ -190,6 +190,17 @@ no_space [] none = refl
 no_space (b ∷ line) none =
     both_true (ap not (ne_eqb b 32 (none 0 (omega arith))))
     (no_space line (λ k h. none (suc k) (omega arith)))
+
+either_false : (here t more : Bool) → t ≡ false → more ≡ false → (here && t) || more ≡ false
+either_false true t more is others = ap (λ u. u || more) is ∙ others
+either_false false t more is others = others
+
+-- a line without the byte has no variable
+pub no_variable : (here : Bool) (line : List ℕ) → ((k : ℕ) → k < length line → get_or line k 0 ≡ 36 → ⊥) → has_variable here line ≡ false
+no_variable here [] none = refl
+no_variable here (b ∷ line) none =
+    either_false here (b == 36) (has_variable (b == 32) line) (ne_eqb b 36 (none 0 (omega arith)))
+    (no_variable (b == 32) line (λ k h. none (suc k) (omega arith)))
 
 pub first_space : (line front back rest : List ℕ) (n : ℕ) → n < length line → ((k : ℕ) → k < n → get_or line k 0 ≡ 32 → ⊥) → get_or line n 0 ≡ 32
     → front ≡ take n line → back ≡ drop n line → rest ≡ drop 1 back → at_space line ≡ Some (front, rest)

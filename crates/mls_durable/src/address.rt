@@ -75,8 +75,8 @@ pub(crate) fn address(asker: Asker, line: &[u8]) -> (Who, &[u8])
     }
 }
 
-/// Whether a token of a line begins with `$`, as a variable does.
-pub(crate) fn has_variable(line: &[u8]) -> bool
+/// Whether a token of a line begins with `$`, as a variable does: byte by byte.
+fn is_token_marked(line: &[u8]) -> bool
     ensures { result ≡ has_variable_at true line.now }
 {
     let mut is_start = true;
@@ -89,4 +89,14 @@ pub(crate) fn has_variable(line: &[u8]) -> bool
         rest = others;
     }
     false
+}
+
+/// Whether a token of a line begins with `$`, as a variable does. Few lines have that byte at all.
+pub(crate) fn has_variable(line: &[u8]) -> bool
+    ensures { result ≡ has_variable_at true line.now }
+{
+    match memchr(b'$', line) {
+        Some(_) => is_token_marked(line),
+        None => false,
+    }
 }

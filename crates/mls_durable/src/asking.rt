@@ -57,6 +57,7 @@ fn ask_session(
         OnOk result (standing_of vars.new.bound monitor.new
         ≡ left_for before (Who.Session session) (said_for names.now before.vars (Who.Session session) line.now)) }
     ensures err { OnErr result (standing_of vars.new.bound monitor.new ≡ standing_of vars.old.bound monitor.old) }
+    ensures forgotten { monitor.new.forgotten ≡ monitor.old.forgotten }
 {
     if has_variable(line) {
         return Ok(refuse_variable(names, vars, line));
@@ -82,6 +83,7 @@ pub(crate) fn ask_for(
         OnOk result (standing_of vars.new.bound monitor.new
         ≡ left_for before who (said_for names.now before.vars who line.now)) }
     ensures err { OnErr result (standing_of vars.new.bound monitor.new ≡ standing_of vars.old.bound monitor.old) }
+    ensures forgotten { monitor.new.forgotten ≡ monitor.old.forgotten }
 {
     match who {
         Who::Script(session) => {

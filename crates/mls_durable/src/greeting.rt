@@ -189,7 +189,7 @@ pub(crate) fn write_greeting(
     ensures { IfOk result
         (λ text. string_bytes text ≡ greeting names.now wanted monitor.now.start monitor.now.entries) }
 {
-    let next = monitor.entries().len() as u64;
+    let next = monitor.next_number();
     let mut text = String::new(alloc);
     if !wanted {
         push_ready(&mut text, next)?;

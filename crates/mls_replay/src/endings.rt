@@ -17,7 +17,7 @@ pub(crate) fn yes_or_no(holds: bool) -> &'static str
 pub fn ending(alloc: Global, monitor: &Monitor) -> Result<String, AllocError>
     ensures { IfOk result (λ text. string_bytes text ≡ ending_text (length monitor.now.entries)) }
 {
-    let entries = monitor.entries().len();
+    let entries = monitor.next_number();
     let secure = yes_or_no(is_secure(monitor.state()));
     format!(in alloc; "entries {entries}\nsecure {secure}\n")
 }

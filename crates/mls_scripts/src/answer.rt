@@ -48,6 +48,7 @@ impl<N: Allocator> Script<'_, N> {
             OnOk result (standing_of vars.new.bound monitor.new
             ≡ left_by self.now.session before (line_of self.now.names.now before.vars line.now)) }
         ensures err { OnErr result (standing_of vars.new.bound monitor.new ≡ standing_of vars.old.bound monitor.old) }
+        ensures forgotten { monitor.new.forgotten ≡ monitor.old.forgotten }
     {
         match read_line(self.names, vars, line) {
             Err(fault) => Ok(Answer::Fault(fault)),
@@ -83,6 +84,7 @@ impl<N: Allocator> Script<'_, N> {
         ensures entries { OnOk result (monitor.new.entries
             ≡ monitor.old.entries ++ entry_for self.now.session (standing_of vars.old.bound monitor.old) request ∷ []) }
         ensures err { OnErr result (standing_of vars.new.bound monitor.new ≡ standing_of vars.old.bound monitor.old) }
+        ensures forgotten { monitor.new.forgotten ≡ monitor.old.forgotten }
     {
         let room = make_room(vars, bind)?;
         let reply = monitor.submit(self.session, request)?.reply;

@@ -42,6 +42,7 @@ impl<N: Allocator, V: Allocator + Copy> Answering<'_, N, V> {
             (after_line self.old.script.names.now self.old.script.session before line.now) result }
         ensures names { self.new.script.names.now ≡ self.old.script.names.now }
         ensures session { self.new.script.session ≡ self.old.script.session }
+        ensures forgotten { monitor.new.forgotten ≡ monitor.old.forgotten }
     {
         let Ok(answer) = self.script.answer(&mut self.vars, monitor, line) else {
             return Err(ServeFault::Memory);
@@ -68,6 +69,7 @@ impl<N: Allocator, V: Allocator + Copy> Answering<'_, N, V> {
         ensures left { IfOk result (λ left. left.now ≡ open_part piece.now) }
         ensures names { self.new.script.names.now ≡ self.old.script.names.now }
         ensures session { self.new.script.session ≡ self.old.script.session }
+        ensures forgotten { monitor.new.forgotten ≡ monitor.old.forgotten }
     {
         let mut rest = piece;
         while let Some((line, more)) = cut_line(rest) {

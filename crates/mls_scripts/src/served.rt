@@ -49,6 +49,7 @@ impl<N: Allocator, V: Allocator + Copy> Served<'_, N, V> {
         ensures line { OnOk result (self.new.line.items ≡ []) }
         ensures names { self.new.answering.script.names.now ≡ self.old.answering.script.names.now }
         ensures session { self.new.answering.script.session ≡ self.old.answering.script.session }
+        ensures forgotten { monitor.new.forgotten ≡ monitor.old.forgotten }
     {
         keep(&mut self.line, last)?;
         self.answering.reply(monitor, &self.line, writer)?;
@@ -72,6 +73,7 @@ impl<N: Allocator, V: Allocator + Copy> Served<'_, N, V> {
         ensures line { OnOk result (self.new.line.items ≡ kept_of (open_part piece.now)) }
         ensures names { self.new.answering.script.names.now ≡ self.old.answering.script.names.now }
         ensures session { self.new.answering.script.session ≡ self.old.answering.script.session }
+        ensures forgotten { monitor.new.forgotten ≡ monitor.old.forgotten }
     {
         let left = self.answering.reply_all(monitor, piece, writer)?;
         keep(&mut self.line, left)
@@ -92,6 +94,7 @@ impl<N: Allocator, V: Allocator + Copy> Served<'_, N, V> {
             self.old.line.items self.new.line.items piece.now result }
         ensures names { self.new.answering.script.names.now ≡ self.old.answering.script.names.now }
         ensures session { self.new.answering.script.session ≡ self.old.answering.script.session }
+        ensures forgotten { monitor.new.forgotten ≡ monitor.old.forgotten }
     {
         if self.line.is_empty() {
             return self.reply_and_keep(monitor, piece, writer);
@@ -123,6 +126,7 @@ impl<N: Allocator, V: Allocator + Copy> Served<'_, N, V> {
             self.old.line.items self.new.line.items piece.now result }
         ensures names { self.new.answering.script.names.now ≡ self.old.answering.script.names.now }
         ensures session { self.new.answering.script.session ≡ self.old.answering.script.session }
+        ensures forgotten { monitor.new.forgotten ≡ monitor.old.forgotten }
     {
         self.answering.wrote = false;
         let outcome = self.reply_piece(monitor, piece, writer);
@@ -148,6 +152,7 @@ impl<N: Allocator, V: Allocator + Copy> Served<'_, N, V> {
             (lines_of line) result }
         ensures names { self.new.answering.script.names.now ≡ self.old.answering.script.names.now }
         ensures session { self.new.answering.script.session ≡ self.old.answering.script.session }
+        ensures forgotten { monitor.new.forgotten ≡ monitor.old.forgotten }
     {
         let Some(line) = last_line(&self.line) else {
             return Ok(());

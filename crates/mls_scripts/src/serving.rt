@@ -58,11 +58,11 @@ fn within(bytes: &[u8], room: usize) -> &[u8]
 }
 
 /// How many entries were added to a journal that had `before`.
-fn added<A: Allocator>(monitor: &Monitor<A>, before: usize) -> u64
+fn added<A: Allocator>(monitor: &Monitor<A>, before: u64) -> u64
     requires { before ≤ length monitor.now.entries }
     ensures { result ≡ length monitor.now.entries - before }
 {
-    (monitor.entries().len() - before) as u64
+    monitor.next_number() - before
 }
 
 /// Serves a script through a buffer.
@@ -75,13 +75,14 @@ fn serve_pieces<R: Read, W: Write, A: Allocator, N: Allocator, V: Allocator + Co
 ) -> Result<u64, ServeFault>
     requires room { 0 < length buffer.old }
     requires line { served.old.line.items ≡ [] }
-    ensures { ScriptEnds served.old.answering.script.names.now served.old.answering.script.session
+    ensures ends { ScriptEnds served.old.answering.script.names.now served.old.answering.script.session
         (R.remaining reader.old) (R.remaining reader.new)
         (W.contents writer.old) (W.contents writer.new)
         (standing_of served.old.answering.vars.bound monitor.old)
         (standing_of served.new.answering.vars.bound monitor.new) result }
+    ensures forgotten { monitor.new.forgotten ≡ monitor.old.forgotten }
 {
-    let before = monitor.entries().len();
+    let before = monitor.next_number();
     let mut room = SCRIPT_LIMIT;
     loop {
         let Ok(count) = reader.read(buffer) else {
@@ -103,7 +104,8 @@ fn serve_pieces<R: Read, W: Write, A: Allocator, N: Allocator, V: Allocator + Co
 /// at most `SCRIPT_LIMIT` bytes.
 ///
 /// # Errors
-/// The monitor is always as after the requests that were asked, each with its entry, and keeps its start.
+/// The monitor is always as after the requests that were asked, each with its entry; it keeps its start, and forgets
+/// nothing.
 /// - `Read`: at most `SCRIPT_LIMIT` bytes were taken; the lines that are complete in them are answered, and no other
 ///   line was asked.
 /// - `Write`: an answer broke off, which was the last that was asked for; or the writer failed when it was flushed, and
@@ -122,6 +124,7 @@ pub fn serve<R: Read, W: Write, A: Allocator, B: Allocator, N: Allocator>(
     ensures served { Serves names.now session (R.remaining reader.old) (R.remaining reader.new)
         (W.contents writer.old) (W.contents writer.new) monitor.old monitor.new result }
     ensures start { monitor.new.start ≡ monitor.old.start }
+    ensures forgotten { monitor.new.forgotten ≡ monitor.old.forgotten }
 {
     let Ok(mut buffer) = Vec::from_elem(&alloc, 0u8, PIECE) else {
         return Err(ServeFault::Memory);

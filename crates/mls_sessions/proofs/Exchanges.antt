@@ -77,7 +77,7 @@ gets_entry k old new r e did = record { since = e ∷ []; grew = did.appended; m
 gets_look : (k : ℕ) (old : Journal) (u v : ℕ) (x : Mode) (held : Bool) → held ≡ set.contains (fold old.start old.entries).accesses (u, v, x) → Gets k old (Check u v x) (told.Held held) old
 gets_look k old u v x held is =
     let still : old.entries ≡ old.entries ++ [] = sym (append-nil old.entries) in
-    record { since = []; grew = ap (λ es. journal old.start es) still; mine = tt; told = (refl, is ∙ ap (λ es. set.contains (fold old.start es).accesses (u, v, x)) still) }
+    record { since = []; grew = ap (λ es. journal old.start old.forgotten es) still; mine = tt; told = (refl, is ∙ ap (λ es. set.contains (fold old.start es).accesses (u, v, x)) still) }
 
 -- the same, kept behind others
 pub keeps_entry : (k : ℕ) (old new : Journal) (r : Request) (e : Entry) (before after : List Told) → Appends old k r e new → after ≡ before ++ told.Entry e ∷ [] → GetsMore k old (Submit r) before after new
@@ -90,7 +90,7 @@ keeps_look k old u v x held before after is kept = record { answer = told.Held h
 -- and what it answers to asks, one after the other
 pub all_get_none : (k : ℕ) (j : Journal) (answers : List Told) → answers ≡ [] → AllGet k j [] answers j
 all_get_none k j answers none =
-    record { exchanges = []; since = []; asked = refl; answered = none; grew = ap (λ es. journal j.start es) (sym (append-nil j.entries)); mine = tt; told = refl }
+    record { exchanges = []; since = []; asked = refl; answered = none; grew = ap (λ es. journal j.start j.forgotten es) (sym (append-nil j.entries)); mine = tt; told = refl }
 
 pub all_get_more : (k : ℕ) (i j m : Journal) (asks : List Ask) (n : ℕ) (a : Ask) (answers said : List Told) → AllGet k i (take n asks) answers j → n < length asks → a ≡ get_or asks n a → GetsMore k j a answers said m
     → AllGet k i (take (n + 1) asks) said m
@@ -102,7 +102,7 @@ all_get_more k i j m asks n a answers said so within here more =
       since = so.since ++ is.since;
       asked = take_more asks n a within ∙ ap (λ b. take n asks ++ b ∷ []) (sym here) ∙ ap (λ xs. xs ++ a ∷ []) so.asked ∙ sym (map-append (λ x. x.0) so.exchanges ((a, t) ∷ []));
       answered = more.kept ∙ ap (λ xs. xs ++ t ∷ []) so.answered ∙ sym (map-append (λ x. x.1) so.exchanges ((a, t) ∷ []));
-      grew = is.grew ∙ ap (λ (b : Journal). journal b.start (b.entries ++ is.since)) so.grew ∙ ap (journal i.start) (append_assoc i.entries so.since is.since);
+      grew = is.grew ∙ ap (λ (b : Journal). journal b.start b.forgotten (b.entries ++ is.since)) so.grew ∙ ap (journal i.start i.forgotten) (append_assoc i.entries so.since is.since);
       mine = all-append k so.since is.since so.mine is.mine;
       told = told_more i.start k i.entries so.since so.exchanges a t is.since so.told (subst (λ (b : Journal). IsTold b.start k b.entries a t is.since) so.grew is.told);
     }

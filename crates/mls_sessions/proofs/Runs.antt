@@ -32,14 +32,15 @@ module _ {F : Type 0} (at : F → Stage) (stage : Stage) where
   at_last (x ∷ feeds) f all = let t = at_last feeds f all.1 in ((all.0, t.0), t.1)
 
 -- a monitor as it was
-pub grew_none : (m : Monitor) (n : ℕ) → Grew m.start m.entries n m
-grew_none m n = record { start = refl; begins = ([], append-nil m.entries); below = subst (AllBelow n) (sym (ap (λ (es : List Entry). drop (length m.entries) es) (sym (append-nil m.entries)) ∙ drop-append_seam m.entries [])) tt }
+pub grew_none : (m : Monitor) (n : ℕ) → Grew m.start m.entries m.forgotten n m
+grew_none m n = record { start = refl; forgotten = refl; begins = ([], append-nil m.entries); below = subst (AllBelow n) (sym (ap (λ (es : List Entry). drop (length m.entries) es) (sym (append-nil m.entries)) ∙ drop-append_seam m.entries [])) tt }
 
 -- the same, of equal starts, journals and numbers of sessions
-pub grew_as : {start first : State} {entries journal : List Entry} {n count : ℕ} {new : Monitor} → first ≡ start → journal ≡ entries → count ≡ n → Grew first journal count new → Grew start entries n new
-grew_as {start} {first} {entries} {journal} {n} {count} {new} p q r old =
-    subst (λ (b : State). Grew b entries n new) p (subst (λ (es : List Entry). Grew first es n new) q (subst (λ (k : ℕ). Grew first journal k new) r old))
+pub grew_as : {start first : State} {entries journal : List Entry} {lost forgotten n count : ℕ} {new : Monitor} → first ≡ start → journal ≡ entries → forgotten ≡ lost → count ≡ n
+    → Grew first journal forgotten count new → Grew start entries lost n new
+grew_as {start} {first} {entries} {journal} {lost} {forgotten} {n} {count} {new} p q l r old =
+    subst (λ (b : State). Grew b entries lost n new) p (subst (λ (es : List Entry). Grew first es lost n new) q (subst (λ (k : ℕ). Grew first journal k n new) l (subst (λ (k : ℕ). Grew first journal forgotten k new) r old)))
 
 -- what a closed office leaves
-pub grew : (o : Office) (ss : List Session) (new : Monitor) → Leaves o ss (journal_of new) → Grew (begun o.charter) (base o.charter) o.charter.count new
-grew o ss new left = record { start = left.start; begins = left.begins; below = left.below }
+pub grew : (o : Office) (ss : List Session) (new : Monitor) → Leaves o ss (journal_of new) → Grew (begun o.charter) (base o.charter) o.charter.forgotten o.charter.count new
+grew o ss new left = record { start = left.start; forgotten = left.forgotten; begins = left.begins; below = left.below }

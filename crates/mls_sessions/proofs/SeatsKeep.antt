@@ -232,6 +232,7 @@ leaves o ss up all id v is ws slots f =
       t.1,
       record {
         start = refl;
+        forgotten = refl;
         begins = (t.0, refl);
         all = has_all o 0 t.0 ss up t.2;
         below = subst (AllBelow o.charter.count) (sym (drop-append_seam (base o.charter) t.0)) t.3;

@@ -306,12 +306,12 @@ module _ (key : Charter) where
         (λ (e : IsFilling key s). let was = ap tag (one_view (Filling key) (Starting key) id (subst (λ (t : St). get_elem? t.views id ≡ some (Starting key)) e at)) in absurd (omega arith))
         (λ (r : Running key s). absurd (r.each_seat id (Starting key) at))) g
 
-    module _ (m : Journal) (is : m ≡ journal (begun key) (base key)) (legal : Stands m.start m.entries) where
+    module _ (m : Journal) (is : m ≡ journal (begun key) key.forgotten (base key)) (legal : Stands m.start m.entries) where
       abbrev home : St
       home = record { words = 0 ∷ []; homes = some (Some m) ∷ []; views = Giving key n ∷ [] }
 
       at_start : m ≡ present key []
-      at_start = is ∙ ap (journal (begun key)) (sym (append-nil (base key)))
+      at_start = is ∙ ap (journal (begun key) key.forgotten) (sym (append-nil (base key)))
 
       home_running : Running key home
       home_running = record {
@@ -358,9 +358,9 @@ module _ (key : Charter) where
     abbrev t : List Entry
     t = taken_of v
 
-    module _ (m' : Journal) (added : List Entry) (adds : m' ≡ journal m.start (m.entries ++ added)) where
+    module _ (m' : Journal) (added : List Entry) (adds : m' ≡ journal m.start m.forgotten (m.entries ++ added)) where
       pub grown_is : m' ≡ present key (t ++ added)
-      grown_is = adds ∙ (ap (λ (b : Journal). journal b.start (b.entries ++ added)) took ∙ ap (journal (begun key)) (append_assoc (base key) t added))
+      grown_is = adds ∙ (ap (λ (b : Journal). journal b.start b.forgotten (b.entries ++ added)) took ∙ ap (journal (begun key) key.forgotten) (append_assoc (base key) t added))
 
       pub grows_at : AllOf i.number added → Stands m'.start m'.entries → Allows (Gated key) slots id (v, (0, Some m') ∷ []) 0 (λ _. 0) (λ _. updated (step slots 0 0 0 maybe.none) (v, (0, Some m') ∷ []) 0)
       grows_at mine legal = subst (λ (w : View). Allows (Gated key) slots id (w, (0, Some m') ∷ []) 0 (λ _. 0) (λ _. updated (step slots 0 0 0 maybe.none) (w, (0, Some m') ∷ []) 0)) (sym is)
@@ -369,7 +369,7 @@ module _ (key : Charter) where
       pub grows_as : (updated_view v ((0, Some m') ∷ []), []) ≡ seated key (member i.number (t ++ added))
       grows_as = ap (λ (w : View). (updated_view w ((0, Some m') ∷ []), [])) is ∙ ap (λ es. seated key (member i.number es)) (ap (news key) grown_is ∙ drop-append_seam (base key) (t ++ added))
 
-    module _ (m' : Journal) (e : Entry) (adds : m' ≡ journal m.start (m.entries ++ e ∷ [])) where
+    module _ (m' : Journal) (e : Entry) (adds : m' ≡ journal m.start m.forgotten (m.entries ++ e ∷ [])) where
       pub longer_is : m' ≡ present key (t ++ e ∷ [])
       longer_is = grown_is m' (e ∷ []) adds
 
@@ -392,6 +392,6 @@ module _ (key : Charter) where
   pub fills_at : (slots id : ℕ) (me : Seat) → me ≡ (Starting key, []) → Allows (Gated key) slots id me 0 (λ y. either (eqb y 0) 2 y) (filled (step slots 0 0 2 maybe.none) me)
   fills_at slots id me is = subst (λ (m : Seat). Allows (Gated key) slots id m 0 (λ y. either (eqb y 0) 2 y) (filled (step slots 0 0 2 maybe.none) m)) (sym is) (fills slots id)
 
-  pub settles_at : (slots id : ℕ) (v : View) (m : Journal) → m ≡ journal (begun key) (base key) → Stands m.start m.entries → v ≡ Filling key
+  pub settles_at : (slots id : ℕ) (v : View) (m : Journal) → m ≡ journal (begun key) key.forgotten (base key) → Stands m.start m.entries → v ≡ Filling key
       → Allows (Gated key) slots id (v, (0, Some m) ∷ []) 0 (λ _. 0) (λ _. settled (step slots 0 0 0 maybe.none) (v, (0, Some m) ∷ []) 0)
   settles_at slots id v m is legal at = subst (λ (w : View). Allows (Gated key) slots id (w, (0, Some m) ∷ []) 0 (λ _. 0) (λ _. settled (step slots 0 0 0 maybe.none) (w, (0, Some m) ∷ []) 0)) (sym at) (settles slots m is legal id)

@@ -22,7 +22,7 @@ use Rattle.mls_monitor.specs.declared.feed.Answer.{Answer as Told}
 -- session. (own)
 pub record Gets (k : ℕ) (old : Journal) (a : Ask) (t : Told) (new : Journal) : Type 0 where
   pub since : List Entry
-  pub grew : new ≡ journal old.start (old.entries ++ since)
+  pub grew : new ≡ journal old.start old.forgotten (old.entries ++ since)
   pub mine : AllOf k since
   pub told : IsTold old.start k old.entries a t since
 
@@ -38,7 +38,7 @@ pub record AllGet (k : ℕ) (old : Journal) (asks : List Ask) (answers : List To
   pub since : List Entry
   pub asked : asks ≡ asks_of exchanges
   pub answered : answers ≡ answers_of exchanges
-  pub grew : new ≡ journal old.start (old.entries ++ since)
+  pub grew : new ≡ journal old.start old.forgotten (old.entries ++ since)
   pub mine : AllOf k since
   pub told : AreTold old.start k old.entries since exchanges
 

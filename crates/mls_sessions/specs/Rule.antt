@@ -28,7 +28,7 @@ base_length c = length (base c)
 
 -- The journal to which these entries were added since the office was opened. (own)
 abbrev pub present : Charter → List Entry → Journal
-present c later = journal (begun c) (base c ++ later)
+present c later = journal (begun c) c.forgotten (base c ++ later)
 
 -- The entries of a journal that were added since the office was opened. (own)
 abbrev pub news : Charter → Journal → List Entry

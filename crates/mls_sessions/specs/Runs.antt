@@ -14,9 +14,10 @@ Returned o [] (t ∷ ts) = ⊥
 Returned o (s ∷ ss) [] = ⊥
 Returned o (s ∷ ss) (t ∷ ts) = IsOf o t × (number_of t.view ≡ number_of s.view) × Returned o ss ts
 
--- A monitor that was handed in with this start and journal: it has that start, and its journal begins with that one and
--- goes on with entries of the first n sessions. (own)
-pub record Grew (begun : State) (journal : List Entry) (n : ℕ) (new : Monitor) : Type 0 where
+-- A monitor that was handed in with this start and journal, of which so much was forgotten: it has that start, its
+-- journal begins with that one and goes on with entries of the first n sessions, and no more of it is forgotten. (own)
+pub record Grew (begun : State) (journal : List Entry) (gone n : ℕ) (new : Monitor) : Type 0 where
   pub start : new.start ≡ begun
+  pub forgotten : new.forgotten ≡ gone
   pub begins : IsPrefix journal new.entries
   pub below : AllBelow n (drop (length journal) new.entries)

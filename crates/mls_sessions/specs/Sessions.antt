@@ -147,9 +147,10 @@ HasAll o j (s ∷ sessions) = IsPrefix (history s.view) j.entries
 
 -- What a closed office leaves: a legal journal from the office's start, which begins with the journal when it was
 -- opened and with every session's history, has for each session just its own part, and whose entries from the base on
--- are of sessions of the office. (own)
+-- are of sessions of the office; no more of it is forgotten than was. (own)
 pub record Leaves (o : Office) (sessions : List Session) (j : Journal) : Type 0 where
   pub start : j.start ≡ begun o.charter
+  pub forgotten : j.forgotten ≡ o.charter.forgotten
   pub begins : IsPrefix (base o.charter) j.entries
   pub all : HasAll o j sessions
   pub below : AllBelow o.charter.count (news o.charter j)

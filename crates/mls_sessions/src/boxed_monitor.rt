@@ -1,5 +1,5 @@
 //! The monitor on the heap, as the slot holds it.
-ghost use Rattle.std.specs.Prelude.{◌≡◌, IfOk, IfErr};
+ghost use Rattle.std.specs.Prelude.{◌≡◌, length, drop, IfOk, IfErr};
 ghost use Rattle.std.specs.FinSet as set;
 ghost use Rattle.mls_monitor.specs.Journal.{fold};
 ghost use Rattle.mls_sessions.specs.Journals.{journal_of, Appends, Stands};
@@ -10,8 +10,8 @@ use mls_tables::{Mode, ObjectId, SubjectId};
 use std::alloc::{AllocError, AllocFailed, Global};
 use std::marker::Model;
 
-/// A monitor in a box, so that a turn at the gate moves a pointer. Contracts see its start and its journal, and not its
-/// room.
+/// A monitor in a box, so that a turn at the gate moves a pointer. Contracts see its start and its journal, with what
+/// is forgotten of it, and not its room.
 #[derive(Drop)]
 pub struct BoxedMonitor {
     monitor: Box<Monitor>,
@@ -66,11 +66,18 @@ impl BoxedMonitor {
         self.monitor.check(s, o, x)
     }
 
-    /// The journal, which is legal.
+    /// The entries that aren't forgotten. The journal is legal.
     pub(crate) fn entries(&self) -> &[Entry]
-        ensures value { result.now ≡ self.now.entries }
+        ensures value { result.now ≡ drop self.now.forgotten self.now.entries }
         ensures legal { Stands self.now.start self.now.entries }
     {
         self.monitor.entries()
+    }
+
+    /// The number of the next entry.
+    pub(crate) fn next_number(&self) -> u64
+        ensures { result ≡ length self.now.entries }
+    {
+        self.monitor.next_number()
     }
 }

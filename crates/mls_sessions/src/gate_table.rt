@@ -27,13 +27,20 @@ impl Model for Charter {
 
     ghost coded = { charter_code };
 
-    ghost view = { λ c. record { start = c.opened.value.start; entries = c.opened.value.entries; count = c.count } };
+    ghost view = { λ c. record {
+      start = c.opened.value.start;
+      forgotten = c.opened.value.forgotten;
+      entries = c.opened.value.entries;
+      count = c.count;
+    } };
 }
 
 impl Charter {
+    ghost use Rattle.mls_sessions.specs.Journals.{charter_of};
+
     /// The monitor, and so many sessions.
     pub(crate) fn of(monitor: &Monitor, count: u64) -> Charter
-        ensures { result ≡ record { start = monitor.now.start; entries = monitor.now.entries; count = count } }
+        ensures { result ≡ charter_of monitor.now count }
     {
         Charter {
             opened: Snapshot::of(monitor),

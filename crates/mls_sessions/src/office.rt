@@ -60,6 +60,7 @@ impl Office {
         ensures many { OnOk result (IsTrue (is_count n)) }
         ensures start { IfOk result (λ r. begun r.0.charter ≡ monitor.start) }
         ensures base { IfOk result (λ r. base r.0.charter ≡ monitor.entries) }
+        ensures forgotten { IfOk result (λ r. r.0.charter.forgotten ≡ monitor.forgotten) }
         ensures count { IfOk result (λ r. r.0.charter.count ≡ n) }
         ensures sessions { IfOk result (λ r. r.1.items ≡ newcomers r.0 n) }
         ensures all { IfOk result (λ r. vec_len r.1 ≡ n) }
@@ -81,7 +82,7 @@ impl Office {
                 monitor,
             });
         };
-        let base = monitor.entries().len() as u64;
+        let base = monitor.next_number();
         let (table, mut seat) = match open_table(alloc, monitor, count) {
             Ok(made) => made,
             Err(fault) => return Err(fault),

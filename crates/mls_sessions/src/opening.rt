@@ -1,7 +1,7 @@
 //! How an office opens: the monitor is put in, and each session gets a seat.
 ghost use Rattle.std.specs.Prelude.{◌≡◌, ◌≤◌, [], vec_len, vec_capacity, IfOk, IfErr};
 ghost use Rattle.mls_sessions.specs.declared.gate_table.View.TheVariants.{Starting, Giving};
-ghost use Rattle.mls_sessions.specs.Journals.{journal};
+ghost use Rattle.mls_sessions.specs.Journals.{journal, charter_of};
 ghost use Rattle.mls_sessions.specs.Rule.{begun, base, base_length};
 ghost use Rattle.mls_sessions.specs.Sessions.{office_at, newcomers};
 
@@ -18,7 +18,7 @@ use std::alloc::Global;
 pub(crate) fn settle(gate: &Gate, seat: &mut GateSeat, monitor: BoxedMonitor)
     requires office { (seat.old.table_id ≡ gate.now.table_id) × (gate.now.table_id.words ≡ 1) }
     requires first { (seat.old.me ≡ (Starting gate.now.key, []))
-        × (monitor ≡ journal (begun gate.now.key) (base gate.now.key)) }
+        × (monitor ≡ journal (begun gate.now.key) gate.now.key.forgotten (base gate.now.key)) }
     ensures seat { (seat.new.table_id ≡ seat.old.table_id) × (seat.new.id ≡ seat.old.id) }
     ensures giving { seat.new.me ≡ (Giving gate.now.key gate.now.key.count, []) }
 {
@@ -37,8 +37,7 @@ pub(crate) fn open_table(
     count: u32,
 ) -> Result<(GateTable, GateSeat), OfficeFault>
     ensures table { IfOk result (λ r. (r.0.shared.table_id.words ≡ 1) × (r.0.shared.table_id.slots ≡ 1)) }
-    ensures charter { IfOk result
-        (λ r. r.0.shared.key ≡ record { start = monitor.start; entries = monitor.entries; count = count }) }
+    ensures charter { IfOk result (λ r. r.0.shared.key ≡ charter_of monitor count) }
     ensures seat { IfOk result
         (λ r. (r.1.table_id ≡ r.0.shared.table_id) × (r.1.me ≡ (Giving r.0.shared.key count, []))) }
     ensures err { IfErr result (λ fault. (fault.kind ≡ OfficeFaultKind.Memory) × (fault.monitor ≡ monitor)) }

@@ -122,7 +122,8 @@ pub(crate) fn run_open<R: Threads + Wait + Sync, F: Feed + Send + Drop>(
     requires counts { (vec_len feeds ≡ vec_len opened.1) × (vec_len opened.1 ≡ opened.0.charter.count)
         × (back.items ≡ []) × (fed.items ≡ []) }
     requires room { (vec_len feeds ≤ vec_capacity back) × (vec_len feeds ≤ vec_capacity fed) }
-    ensures grew { Grew (begun opened.0.charter) (base opened.0.charter) opened.0.charter.count result.0 }
+    ensures grew { Grew (begun opened.0.charter) (base opened.0.charter) opened.0.charter.forgotten
+        opened.0.charter.count result.0 }
     ensures count { vec_len result.1 ≡ vec_len feeds }
     ensures done { result.2 ≡ Asked.ToTheEnd → AllAt F.stands_at Stage.Done result.1.items }
     ensures fed { result.2 ≡ Asked.ToTheEnd
@@ -179,8 +180,10 @@ pub fn run_sessions<R: Threads + Wait + Sync, F: Feed + Send + Drop>(
     requires { AllAt F.stands_at Stage.Ready feeds.items }
     ensures done { IfOk result (λ run. AllAt F.stands_at Stage.Done run.feeds.items) }
     ensures many { OnOk result (IsTrue (is_count (vec_len feeds))) }
-    ensures ok { IfOk result (λ run. Grew monitor.start monitor.entries (vec_len feeds) run.monitor) }
-    ensures err { IfErr result (λ fault. Grew monitor.start monitor.entries (vec_len feeds) fault.monitor) }
+    ensures ok { IfOk result
+        (λ run. Grew monitor.start monitor.entries monitor.forgotten (vec_len feeds) run.monitor) }
+    ensures err { IfErr result
+        (λ fault. Grew monitor.start monitor.entries monitor.forgotten (vec_len feeds) fault.monitor) }
     ensures feeds { IfOk result (λ run. vec_len run.feeds ≡ vec_len feeds) }
     ensures fed { IfOk result
         (λ run. AllFed F.gives F.gives_ahead F.hears monitor.start monitor.entries

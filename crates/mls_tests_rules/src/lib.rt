@@ -9,6 +9,8 @@ mod builders;
 #[cfg(test)]
 mod changes;
 #[cfg(test)]
+mod forgetting;
+#[cfg(test)]
 mod journals;
 #[cfg(test)]
 mod monitors;

@@ -101,7 +101,7 @@ fn ask_all<R: Threads + Wait + Sync>(
     let back = Vec::with_capacity(alloc, feeds.len())?;
     let fed = Vec::with_capacity(alloc, feeds.len())?;
     let (monitor, feeds, asked) = run_open(rt, alloc, opened, feeds, back, fed);
-    let count = monitor.entries().len();
+    let count = monitor.next_number() as usize;
     drop(monitor);
     drop(feeds);
     Ok(if asked == Asked::ToTheEnd { count } else { 0 })

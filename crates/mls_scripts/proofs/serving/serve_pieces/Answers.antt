@@ -6,13 +6,13 @@ use Rattle.mls_scripts.proofs.Progress.{so_far_none, so_far_short, so_far_more, 
 use Rattle.mls_scripts.proofs.serving.serve_pieces.Goals as goal
 
 pub loop-count-init : goal.loop-count-init
-loop-count-init g c = record { so_far = rw c.requires.line (so_far_none _ _ _ _ _); names = refl; session = refl }
+loop-count-init g c = record { so_far = rw c.requires.line (so_far_none _ _ _ _ _); names = refl; session = refl; forgotten = refl }
 
-pub returns-in_default : goal.returns-in_default
-returns-in_default g c = serves_read _ _ _ _ _ _ _ _ _ _ _ c.loop-count.invariant.so_far c.in_default.ensures.bytes
+pub returns-in_default-clause-ends : goal.returns-in_default-clause-ends
+returns-in_default-clause-ends g c = serves_read _ _ _ _ _ _ _ _ _ _ _ c.loop-count.invariant.so_far c.in_default.ensures.bytes
 
-pub returns-in_err-take_end : goal.returns-in_err-take_end
-returns-in_err-take_end g c =
+pub returns-in_err-take_end-clause-ends : goal.returns-in_err-take_end-clause-ends
+returns-in_err-take_end-clause-ends g c =
     let p = err_from_is_err_and c.from_residual.result c.from_residual.ensures.1 in
     let none : c.in-Ok.count ≡ 0 = c.if-count-eq0.true in
     rw (p.1, p.2)
@@ -23,19 +23,19 @@ pub added-requires : goal.added-requires
 added-requires g c =
     omega (
       arith,
-      ap length c.entries-before.ensures.entries,
+      c.next_number-before.ensures.number,
       so_far_grows _ _ _ _ _ _ _ _ _ _ c.loop-count.invariant.so_far,
       end_grows _ _ _ _ _ _ _ _ _ _ _ (standing_of c.take_end.new.self.answering.vars.bound c.take_end.new.monitor) _ _ c.loop-count.invariant.so_far (λ line is_open is. c.in_ok-take_end.ensures.taken line is_open is),
     )
 
-pub returns-then-count-eq0 : goal.returns-then-count-eq0
-returns-then-count-eq0 g c =
+pub returns-then-count-eq0-clause-ends : goal.returns-then-count-eq0-clause-ends
+returns-then-count-eq0-clause-ends g c =
     let none : c.in-Ok.count ≡ 0 = c.if-count-eq0.true in
     let more : length c.take_end.new.monitor.entries ≡ length c.args.monitor.now.entries + c.added.result =
     omega (
       arith,
       c.added.ensures,
-      ap length c.entries-before.ensures.entries,
+      c.next_number-before.ensures.number,
       so_far_grows _ _ _ _ _ _ _ _ _ _ c.loop-count.invariant.so_far,
       end_grows _ _ _ _ _ _ _ _ _ _ _ (standing_of c.take_end.new.self.answering.vars.bound c.take_end.new.monitor) _ _ c.loop-count.invariant.so_far (λ line is_open is. c.in_ok-take_end.ensures.taken line is_open is),
     ) in
@@ -45,15 +45,15 @@ returns-then-count-eq0 g c =
 pub take_piece-requires : goal.take_piece-requires
 take_piece-requires g c = omega (arith, so_far_short _ _ _ _ _ _ _ _ _ _ c.loop-count.invariant.so_far, c.loop-count.served.line.ok.0)
 
-pub returns-in_err-take_piece : goal.returns-in_err-take_piece
-returns-in_err-take_piece g c =
+pub returns-in_err-take_piece-clause-ends : goal.returns-in_err-take_piece-clause-ends
+returns-in_err-take_piece-clause-ends g c =
     let p = err_from_is_err_and c.from_residual-in_err-take_piece.result c.from_residual-in_err-take_piece.ensures.1 in
     rw (p.1, p.2)
     (serves_stop _ _ _ _ _ _ _ _ _ _ _ _ _ _ c.take_piece.new.self.line.items (take c.in-Ok.count c.read.new.buf) c.within.result.now _ _ c.loop-count.invariant.so_far
     c.in-Ok.ensures.bytes.0 c.within.ensures c.loop-count.invariant.names c.loop-count.invariant.session c.in_err-take_piece.ensures.taken)
 
-pub returns-in_err-room : goal.returns-in_err-room
-returns-in_err-room g c =
+pub returns-in_err-room-clause-ends : goal.returns-in_err-room-clause-ends
+returns-in_err-room-clause-ends g c =
     let p = err_from_is_err_and c.from_residual-in_err-room.result c.from_residual-in_err-room.ensures.1 in
     let read : List ℕ = take c.in-Ok.count c.read.new.buf in
     let count : length read ≡ c.in-Ok.count = length-take-le c.in-Ok.count c.read.new.buf c.in-Ok.ensures.bound.0 in
@@ -70,4 +70,5 @@ loop-count-preserved g c =
           c.in-Ok.ensures.bytes.0 count c.in_ok-room.ensures.ok c.within.ensures c.loop-count.invariant.names c.loop-count.invariant.session c.in_ok-take_piece.ensures.taken;
       names = c.in_ok-take_piece.ensures.names ∙ c.loop-count.invariant.names;
       session = c.in_ok-take_piece.ensures.session ∙ c.loop-count.invariant.session;
+      forgotten = c.in_ok-take_piece.ensures.forgotten ∙ c.loop-count.invariant.forgotten;
     }

@@ -10,6 +10,7 @@ invariant-loop-count g l = record {
       (standing_of l.initial.served.answering.vars.bound l.initial.monitor) (standing_of l.served.answering.vars.bound l.monitor) l.served.line.items l.room;
   names : l.served.answering.script.names.now ≡ l.initial.served.answering.script.names.now;
   session : l.served.answering.script.session ≡ l.initial.served.answering.script.session;
+  forgotten : l.monitor.forgotten ≡ l.initial.monitor.forgotten;
 }
 
 abbrev pub decreases-loop-count : goal.decreases-loop-count

@@ -5,7 +5,7 @@ use Rattle.mls_scripts.proofs.Pieces.{cut_none, cut_more, cut_stop, cut_end, cut
 use Rattle.mls_scripts.proofs.answering.Answering.reply_all.Goals as goal
 
 pub loop-line-init : goal.loop-line-init
-loop-line-init g c = record { cut = cut_none _ _ _ _ _; names = refl; session = refl }
+loop-line-init g c = record { cut = cut_none _ _ _ _ _; names = refl; session = refl; forgotten = refl }
 
 pub returns-in_err-reply-clause-answered : goal.returns-in_err-reply-clause-answered
 returns-in_err-reply-clause-answered g c =
@@ -20,6 +20,7 @@ loop-line-preserved g c =
       cut = cut_more _ _ _ _ _ _ _ _ _ c.loop-line.rest.now _ _ _ _ inv.cut c.in-Some.ensures inv.names inv.session c.in_ok-reply.ensures.replied;
       names = c.in_ok-reply.ensures.names ∙ inv.names;
       session = c.in_ok-reply.ensures.session ∙ inv.session;
+      forgotten = c.in_ok-reply.ensures.forgotten ∙ inv.forgotten;
     }
 
 pub loop-line-smaller : goal.loop-line-smaller

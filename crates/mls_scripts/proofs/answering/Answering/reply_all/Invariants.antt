@@ -9,6 +9,7 @@ invariant-loop-line g l = record {
       (standing_of l.initial.self.vars.bound l.initial.monitor) (standing_of l.self.vars.bound l.monitor) l.piece l.rest;
   names : l.self.script.names.now ≡ l.initial.self.script.names.now;
   session : l.self.script.session ≡ l.initial.self.script.session;
+  forgotten : l.monitor.forgotten ≡ l.initial.monitor.forgotten;
 }
 
 abbrev pub decreases-loop-line : goal.decreases-loop-line
