@@ -166,6 +166,8 @@ static void made(void) {
     CHECK(mls_shared_check(&s, ANN, PLANS, MLS_READ) == 1);
     CHECK(mls_shared_entry_text(&s, 0, text, sizeof text, &len) == MLS_OK);
     CHECK(len == strlen(kept) && memcmp(text, kept, len) == 0);
+    CHECK(mls_shared_forget(&s, 1) == MLS_OK && mls_shared_forgotten(&s) == 1);
+    CHECK(mls_shared_entry_text(&s, 0, text, sizeof text, &len) == MLS_ENOTFOUND && mls_shared_entries(&s) == 1);
     CHECK(mls_shared_object(&s, (const uint8_t *)"memo", 4, &memo) == MLS_OK && memo == MEMO);
     CHECK(mls_shared_read_label(&s, MLS_SECURITY_LABEL, (const uint8_t *)"S:A", 3, &l) == MLS_OK && l.level == 2);
     CHECK(mls_shared_write_label(&s, MLS_SECURITY_LABEL, &l, text, sizeof text, &len) == MLS_OK && len == 3);
@@ -219,7 +221,7 @@ static void reasons(void) {
     mls_condition rows[MLS_CONDITIONS];
     mls_remedy remedy;
     size_t count;
-    uint16_t reply;
+    uint16_t reply, numbers[MLS_OBJECTS];
     CHECK(mls_shared_open(&s, start, start_len, &fault) == MLS_OK);
     security = label(&s.monitor, MLS_SECURITY_LABEL, "C");
     integrity = label(&s.monitor, MLS_INTEGRITY_LABEL, "lo");
@@ -229,7 +231,9 @@ static void reasons(void) {
     CHECK(rows[2].reason == MLS_STAR && rows[2].holds == 0 && rows[2].basis == MLS_BY_DOMINANCE);
     CHECK(remedy.there == 1 && mls_dominates(&remedy.label, &security) && mls_dominates(&security, &remedy.label));
     CHECK(mls_shared_explain(&s, &get, NULL, 0, &count, &remedy) == MLS_ERANGE && count == 4);
+    CHECK(mls_shared_state_start(&s, NULL, 0, &count, numbers) == MLS_ERANGE && count > 100);
     mls_shared_close(&s);
+    CHECK(mls_shared_state_start(&s, NULL, 0, &count, numbers) == MLS_ECLOSED);
     CHECK(mls_shared_decide_label(&s, BOB, MLS_READ, &security, &integrity, &reply) == MLS_ECLOSED);
     CHECK(mls_shared_explain(&s, &get, rows, MLS_CONDITIONS, &count, &remedy) == MLS_ECLOSED);
     mls_shared_destroy(&s);

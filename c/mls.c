@@ -28,6 +28,7 @@ int mls_write_label_bytes(mls_monitor *m, uint32_t kind, const mls_label *label,
 int mls_subject_name_bytes(mls_monitor *m, uint16_t subject, char *buf, size_t cap, size_t *len);
 int mls_object_name_bytes(mls_monitor *m, uint16_t object, char *buf, size_t cap, size_t *len);
 int mls_explain_rows(mls_monitor *m, const mls_request *request, mls_condition *rows, size_t cap, size_t *count, mls_remedy *remedy);
+int mls_state_start_bytes(mls_monitor *m, char *buf, size_t cap, size_t *len, uint16_t *numbers, size_t count);
 
 int mls_open(mls_monitor *m, const uint8_t *start, size_t len, mls_fault *fault) {
     return mls_open_bytes(m, bytes(start, len), len, fault);
@@ -67,6 +68,10 @@ int mls_object_name(mls_monitor *m, uint16_t object, char *buf, size_t cap, size
 
 int mls_explain(mls_monitor *m, const mls_request *request, mls_condition *conditions, size_t cap, size_t *count, mls_remedy *remedy) {
     return mls_explain_rows(m, request, conditions || cap ? conditions : &no_condition, cap, count, remedy);
+}
+
+int mls_state_start(mls_monitor *m, char *buf, size_t cap, size_t *len, uint16_t *numbers) {
+    return mls_state_start_bytes(m, room(buf, cap), cap, len, numbers, MLS_OBJECTS);
 }
 
 static const char *word(const char *const *words, size_t count, int number) {

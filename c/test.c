@@ -67,6 +67,7 @@ enum { ROOT, PLANS, MEMO, TOOL };
 
 static uint8_t start[1 << 16];
 static size_t start_len;
+static uint16_t numbers[MLS_OBJECTS];
 static long submits = 1000000;
 
 static const mls_answer_t no_answer = {77, 88, 99};
@@ -121,12 +122,14 @@ static void is_closed(mls_t *m) {
     size_t len = 7;
     char buf[8] = "abcdefg";
     rows[0].reason = 7;
+    numbers[0] = 7;
     CHECK(m->held == 0 && m->monitor == NULL);
     CHECK(mls_check(m, ANN, PLANS, MLS_READ) == 0);
     CHECK(mls_submit(m, 0, &q, &a) == MLS_ECLOSED && mls_submit(m, 0, &bad, &a) == MLS_ECLOSED);
     CHECK(mls_decide(m, &q, &a) == MLS_ECLOSED && mls_decide(m, &bad, &a) == MLS_ECLOSED);
     CHECK(same_answer(&a, &no_answer));
     CHECK(mls_entries(m) == 0 && mls_entry(m, 0, &e) == MLS_ECLOSED);
+    CHECK(mls_forget(m, 1) == MLS_ECLOSED && mls_forgotten(m) == 0);
     CHECK(mls_entry_text(m, 0, buf, sizeof buf, &len) == MLS_ECLOSED);
     CHECK(mls_subject(m, (const uint8_t *)"ann", 3, &n) == MLS_ECLOSED && mls_object(m, (const uint8_t *)"memo", 4, &n) == MLS_ECLOSED);
     CHECK(mls_read_label(m, MLS_SECURITY_LABEL, (const uint8_t *)"S", 1, &l) == MLS_ECLOSED);
@@ -138,7 +141,8 @@ static void is_closed(mls_t *m) {
     CHECK(mls_next_child(m, ROOT, 0, &n) == MLS_ECLOSED);
     CHECK(mls_subject_name(m, ANN, buf, sizeof buf, &len) == MLS_ECLOSED && mls_object_name(m, PLANS, buf, sizeof buf, &len) == MLS_ECLOSED);
     CHECK(mls_explain(m, &q, rows, MLS_CONDITIONS, &len, &r) == MLS_ECLOSED && mls_explain(m, &bad, NULL, 0, &len, &r) == MLS_ECLOSED);
-    CHECK(rows[0].reason == 7 && r.there == 7);
+    CHECK(mls_state_start(m, buf, sizeof buf, &len, numbers) == MLS_ECLOSED && mls_state_start(m, NULL, 0, &len, numbers) == MLS_ECLOSED);
+    CHECK(rows[0].reason == 7 && r.there == 7 && numbers[0] == 7);
     CHECK(n == 7 && len == 7 && strcmp(buf, "abcdefg") == 0);
 }
 
@@ -682,6 +686,154 @@ static void many_submits(void) {
     mls_close(&m);
 }
 
+static void forgotten_entries(void) {
+    mls_t m = MLS_INIT;
+    mls_request_t get = request(MLS_GET, ANN, MLS_READ, PLANS), release = request(MLS_RELEASE, ANN, MLS_READ, PLANS);
+    mls_answer_t a;
+    mls_entry_t e;
+    char buf[64];
+    size_t len;
+    long n, wrong = 0;
+    open_standard(&m);
+    for (n = 0; n < 20000; n++) {
+        wrong += mls_submit(&m, 1, n & 1 ? &release : &get, &a) != MLS_OK || a.number != (uint64_t)n;
+        /* the last hundred are kept */
+        wrong += n >= 100 && mls_forget(&m, (uint64_t)n - 99) != MLS_OK;
+    }
+    CHECK(wrong == 0 && mls_entries(&m) == 20000 && mls_forgotten(&m) == 19900);
+    CHECK(mls_entry(&m, 19899, &e) == MLS_ENOTFOUND && mls_entry_text(&m, 0, buf, sizeof buf, &len) == MLS_ENOTFOUND);
+    CHECK(mls_entry(&m, 19900, &e) == MLS_OK && e.number == 19900 && e.request.action == MLS_GET);
+    CHECK(mls_entry_text(&m, 19901, buf, sizeof buf, &len) == MLS_OK);
+    CHECK(memcmp(buf, "19901 1 0 release read 1 yes\n", len) == 0);
+    CHECK(mls_check(&m, ANN, PLANS, MLS_READ) == 0);
+    /* what is forgotten stays so, and no entry that isn't there is forgotten */
+    CHECK(mls_forget(&m, 5) == MLS_OK && mls_forgotten(&m) == 19900);
+    CHECK(mls_forget(&m, UINT64_MAX) == MLS_OK && mls_forgotten(&m) == 20000);
+    CHECK(mls_submit(&m, 1, &get, &a) == MLS_OK && a.number == 20000);
+    CHECK(mls_entry(&m, 20000, &e) == MLS_OK && e.number == 20000 && mls_entries(&m) == 20001);
+    mls_close(&m);
+}
+
+/* Opens a closed handle with what another one holds and an empty journal. Returns its start file, which the caller frees,
+ * and tells the new numbers of the other's objects; NULL where there is no memory. docs/EMBEDDING.md shows it. */
+static char *rotated(mls_monitor *old, mls_monitor *fresh, size_t *len, uint16_t *numbers) {
+    mls_fault fault;
+    char *text;
+    if (mls_state_start(old, NULL, 0, len, numbers) != MLS_ERANGE || !(text = malloc(*len))) return NULL;
+    if (mls_state_start(old, text, *len, len, numbers) == MLS_OK &&
+        mls_open(fresh, (const uint8_t *)text, *len, &fault) == MLS_OK)
+        return text;
+    free(text);
+    return NULL;
+}
+
+/* Leaves the standard start's handle with these objects: memo is deleted, and below the root stands one that sec made and
+ * has append access to, with another below it. */
+static void leave_changed(mls_t *m) {
+    mls_answer_t a;
+    mls_label l, i, c;
+    open_standard(m);
+    l = label(m, MLS_SECURITY_LABEL, "S:B");
+    i = label(m, MLS_INTEGRITY_LABEL, "lo");
+    c = label(m, MLS_SECURITY_LABEL, "C");
+    CHECK(mls_get(m, 0, ANN, PLANS, MLS_READ, &a) == MLS_OK && a.reply == MLS_YES);
+    CHECK(mls_get(m, 0, SEC, ROOT, MLS_WRITE, &a) == MLS_OK && a.reply == MLS_YES);
+    CHECK(mls_create(m, 0, SEC, ROOT, &l, &i, &a) == MLS_OK && a.object == 4);
+    CHECK(mls_give(m, 0, SEC, SEC, 4, MLS_APPEND, &a) == MLS_OK && a.reply == MLS_YES);
+    CHECK(mls_give(m, 0, SEC, BOB, 4, MLS_READ, &a) == MLS_OK && a.reply == MLS_YES);
+    CHECK(mls_get(m, 0, SEC, 4, MLS_APPEND, &a) == MLS_OK && a.reply == MLS_YES);
+    CHECK(mls_create(m, 0, SEC, 4, &l, &i, &a) == MLS_OK && a.object == 5);
+    CHECK(mls_delete(m, 0, SEC, MEMO, &a) == MLS_OK && a.reply == MLS_YES);
+    CHECK(mls_level(m, 0, BOB, &c, &a) == MLS_OK && a.reply == MLS_YES);
+}
+
+static int same_label(const mls_label *a, const mls_label *b) {
+    return a->level == b->level && memcmp(a->categories, b->categories, sizeof a->categories) == 0;
+}
+
+/* Whether two handles say the same of a subject and an object, which have these numbers in the second one. */
+static void say_the_same(mls_t *m, mls_t *fresh, uint16_t subject, uint16_t object, uint16_t now) {
+    mls_pair_info p, q;
+    uint8_t mode;
+    CHECK(mls_read_pair(m, subject, object, &p) == MLS_OK && mls_read_pair(fresh, subject, now, &q) == MLS_OK);
+    CHECK(p.permitted == q.permitted && p.held == q.held);
+    for (mode = MLS_EXECUTE; mode <= MLS_WRITE; mode++) {
+        mls_request_t get = request(MLS_GET, subject, mode, object), other = request(MLS_GET, subject, mode, now);
+        mls_answer_t a, b;
+        CHECK(mls_check(m, subject, object, mode) == mls_check(fresh, subject, now, mode));
+        CHECK(mls_decide(m, &get, &a) == MLS_OK && mls_decide(fresh, &other, &b) == MLS_OK && a.reply == b.reply);
+    }
+}
+
+static void rotating(void) {
+    static const uint16_t wanted[] = {0, 1, MLS_OBJECTS, 2, 3, 4};
+    mls_t m = MLS_INIT, fresh = MLS_INIT;
+    mls_counts before, after;
+    mls_object_info o, p;
+    mls_subject_info s, t;
+    uint16_t object, subject, n;
+    size_t len = 0, other = 0;
+    char *text, *again, name[8];
+    leave_changed(&m);
+    CHECK(mls_count(&m, &before) == MLS_OK);
+    text = rotated(&m, &fresh, &len, numbers);
+    CHECK(text && mls_count(&m, &after) == MLS_OK && after.entries == before.entries && after.next == 6);
+    CHECK(mls_count(&fresh, &after) == MLS_OK && after.entries == 0 && after.subjects == before.subjects);
+    CHECK(after.objects == before.objects && after.next == before.objects);
+    for (object = 0; object < MLS_OBJECTS; object++) {
+        CHECK(numbers[object] == (object < 6 ? wanted[object] : MLS_OBJECTS));
+        CHECK(mls_is_active(&m, object) == (numbers[object] < MLS_OBJECTS));
+    }
+    for (object = 0; object < 6; object++) {
+        if (!mls_is_active(&m, object)) continue;
+        CHECK(mls_read_object(&m, object, &o) == MLS_OK && mls_read_object(&fresh, numbers[object], &p) == MLS_OK);
+        CHECK(same_label(&o.security, &p.security) && same_label(&o.integrity, &p.integrity) && numbers[o.parent] == p.parent);
+        for (subject = ANN; subject <= AUD; subject++) say_the_same(&m, &fresh, subject, object, numbers[object]);
+    }
+    for (subject = ANN; subject <= AUD; subject++) {
+        CHECK(mls_read_subject(&m, subject, &s) == MLS_OK && mls_read_subject(&fresh, subject, &t) == MLS_OK && s.trusted == t.trusted);
+        CHECK(same_label(&s.maximum, &t.maximum) && same_label(&s.current, &t.current) && same_label(&s.integrity, &t.integrity));
+    }
+    CHECK(mls_object(&fresh, (const uint8_t *)"tool", 4, &n) == MLS_OK && n == 2 && mls_object(&fresh, (const uint8_t *)"memo", 4, &n) == MLS_ENOTFOUND);
+    CHECK(mls_object_name(&fresh, 3, name, sizeof name, &other) == MLS_OK && other == 2 && memcmp(name, "o4", 2) == 0);
+    /* what it opens with is a state, which has the same start file: no number changes */
+    again = malloc(len);
+    CHECK(mls_state_start(&fresh, again, len, &other, numbers) == MLS_OK && other == len && memcmp(again, text, len) == 0);
+    for (object = 0; object < MLS_OBJECTS; object++) CHECK(numbers[object] == (object < 5 ? object : MLS_OBJECTS));
+    /* the buffer is too short by one byte: only the length is told */
+    memset(again, '#', len);
+    numbers[0] = 77;
+    other = 0;
+    CHECK(mls_state_start(&m, again, len - 1, &other, numbers) == MLS_ERANGE && other == len && again[0] == '#' && numbers[0] == 77);
+    free(again);
+    free(text);
+    mls_close(&m);
+    mls_close(&fresh);
+}
+
+/* Each allocation of writing a start is refused in turn: nothing is told, nothing changes and nothing leaks. */
+static void refused_rotations(void) {
+    mls_t m = MLS_INIT;
+    long k, before;
+    int status = MLS_ENOMEM;
+    size_t len;
+    char text[4096];
+    leave_changed(&m);
+    before = live;
+    for (k = 0; status != MLS_OK && k < 100000; k++) {
+        len = 7;
+        numbers[0] = 77;
+        text[0] = '#';
+        left = k;
+        status = mls_state_start(&m, text, sizeof text, &len, numbers);
+        left = -1;
+        CHECK(status == MLS_OK || (status == MLS_ENOMEM && len == 7 && numbers[0] == 77 && text[0] == '#'));
+        CHECK(live == before && mls_entries(&m) == 9);
+    }
+    CHECK(k > 20 && len < sizeof text && numbers[0] == 0 && text[0] == '{');
+    mls_close(&m);
+}
+
 static void words(void) {
     CHECK(strcmp(mls_status_word(MLS_ENOTFOUND), "not found") == 0 && strcmp(mls_status_word(1), "?") == 0 && strcmp(mls_status_word(-10), "?") == 0);
     CHECK(strcmp(mls_action_word(MLS_OBJECT_LEVEL), "relabel") == 0 && strcmp(mls_action_word(8), "?") == 0);
@@ -762,6 +914,9 @@ int main(int argc, char **argv) {
     tell("resuming without memory", refused_resumings);
     tell("submits without memory", refused_submits);
     tell("many submits", many_submits);
+    tell("entries that are forgotten", forgotten_entries);
+    tell("rotating", rotating);
+    tell("rotations without memory", refused_rotations);
     tell("words", words);
     tell("words of lines", words_of_lines);
     printf("%d passed, %d failed\n", passed, failed);

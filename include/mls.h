@@ -14,7 +14,8 @@
  * - One call at a time works on a handle: put a mutex round it where threads share it, as
  *   mls_shared.h does. mls_dominates takes no handle, and is called by any threads at once. No call
  *   is made from a signal handler, nor in the forked child of a process with threads.
- * Memory comes from malloc, realloc and free, and only mls_close frees what the library holds.
+ * Memory comes from malloc, realloc and free. mls_close frees what the library holds, and
+ * mls_forget may free memory of entries.
  */
 #ifndef MLS_H
 #define MLS_H
@@ -245,10 +246,10 @@ int mls_check(mls_monitor *m, uint16_t subject, uint16_t object, uint8_t mode);
  * MLS_EINVAL. */
 int mls_decide(mls_monitor *m, const mls_request *request, mls_answer *answer);
 
-/* How many entries the journal has; 0 where the handle is closed. */
+/* How many entries the journal has, with those that are forgotten; 0 where the handle is closed. */
 uint64_t mls_entries(mls_monitor *m);
 
-/* Copies out entry n, counted from 0. MLS_ECLOSED, MLS_ENOTFOUND. */
+/* Copies out entry n, counted from 0, unless it is forgotten. MLS_ECLOSED, MLS_ENOTFOUND. */
 int mls_entry(mls_monitor *m, uint64_t n, mls_journal_entry *entry);
 
 /* Copies out the line of entry n, counted from 0, with its newline and without a byte of 0 after
@@ -256,6 +257,16 @@ int mls_entry(mls_monitor *m, uint64_t n, mls_journal_entry *entry);
  * is told with MLS_OK and with MLS_ERANGE, which leaves the buffer as it was. MLS_ECLOSED,
  * MLS_ENOTFOUND, MLS_ERANGE, MLS_ENOMEM. */
 int mls_entry_text(mls_monitor *m, uint64_t n, char *buf, size_t cap, size_t *len);
+
+/* Forgets the entries with numbers below n, as far as they are there: mls_entry and mls_entry_text
+ * find them no more. Their place is used again once they are as many as those that are kept, and
+ * memory is given back where much of it is unused. All else stays as it was: the state, and the
+ * numbers of the entries that come. MLS_ECLOSED. */
+int mls_forget(mls_monitor *m, uint64_t n);
+
+/* How many of the first entries are forgotten, which is the number of the first that can be read; 0
+ * where the handle is closed. */
+uint64_t mls_forgotten(mls_monitor *m);
 
 /* The number of a subject's or of an object's name in the start; objects that were made later have
  * no name. It doesn't allocate. MLS_ECLOSED, MLS_ENOTFOUND. */
@@ -308,6 +319,16 @@ int mls_object_name(mls_monitor *m, uint16_t object, char *buf, size_t cap, size
  * is MLS_UNDEFINED; MLS_ERANGE; MLS_ENOMEM. */
 int mls_explain(mls_monitor *m, const mls_request *request, mls_condition *conditions, size_t cap,
                 size_t *count, mls_remedy *remedy);
+
+/* Copies out a start file of the present state, from which mls_open opens a handle that holds what
+ * this one does, and writes the number that each object has there, MLS_OBJECTS where it isn't
+ * active: numbers has MLS_OBJECTS members. The objects of the start are numbered without gaps,
+ * parents before their children; they keep their names, and one without gets a new one. The length
+ * of the text is told with MLS_OK and with MLS_ERANGE, which writes nothing else. It is read back
+ * and compared with the state first. MLS_ECLOSED; MLS_ERANGE; MLS_ENOMEM; MLS_ESTART where what was
+ * written differs, of which no case is known.
+ * With it a handle whose journal has grown is changed for a new one: docs/EMBEDDING.md shows it. */
+int mls_state_start(mls_monitor *m, char *buf, size_t cap, size_t *len, uint16_t *numbers);
 
 /* Closes a handle and frees what it holds. A closed handle stays closed. */
 void mls_close(mls_monitor *m);

@@ -94,6 +94,18 @@ MLS_INLINE int mls_shared_entry_text(mls_shared *s, uint64_t n, char *buf, size_
     return status;
 }
 
+MLS_INLINE int mls_shared_forget(mls_shared *s, uint64_t n) {
+    int status = mls_forget(mls_shared_lock(s), n);
+    mls_shared_unlock(s);
+    return status;
+}
+
+MLS_INLINE uint64_t mls_shared_forgotten(mls_shared *s) {
+    uint64_t count = mls_forgotten(mls_shared_lock(s));
+    mls_shared_unlock(s);
+    return count;
+}
+
 MLS_INLINE int mls_shared_subject(mls_shared *s, const uint8_t *name, size_t len,
                                   uint16_t *subject) {
     int status = mls_subject(mls_shared_lock(s), name, len, subject);
@@ -179,6 +191,13 @@ MLS_INLINE int mls_shared_subject_name(mls_shared *s, uint16_t subject, char *bu
 MLS_INLINE int mls_shared_object_name(mls_shared *s, uint16_t object, char *buf, size_t cap,
                                       size_t *len) {
     int status = mls_object_name(mls_shared_lock(s), object, buf, cap, len);
+    mls_shared_unlock(s);
+    return status;
+}
+
+MLS_INLINE int mls_shared_state_start(mls_shared *s, char *buf, size_t cap, size_t *len,
+                                      uint16_t *numbers) {
+    int status = mls_state_start(mls_shared_lock(s), buf, cap, len, numbers);
     mls_shared_unlock(s);
     return status;
 }

@@ -25,7 +25,7 @@ def label_of(level, bits):
 def loaded(library):
     """The library's calls."""
     calls = ctypes.CDLL(library)
-    calls.mls_entries.restype = ctypes.c_uint64
+    calls.mls_entries.restype = calls.mls_forgotten.restype = ctypes.c_uint64
     return calls
 
 
@@ -92,6 +92,16 @@ class Opened:
         """The text of the journal."""
         lines = (self.text(self.calls.mls_entry_text, ctypes.c_uint64(number)) for number in range(self.entries()))
         return b"".join(lines)
+
+    def forgets(self, number):
+        """Forgets the entries below a number, and returns how many are forgotten, which can't be copied out then."""
+        line, length = ctypes.create_string_buffer(BUFFER), Size()
+        assert self.calls.mls_forget(self.at, ctypes.c_uint64(number)) == OK
+        gone = self.calls.mls_forgotten(self.at)
+        for it in range(gone):
+            status = self.calls.mls_entry_text(self.at, ctypes.c_uint64(it), line, Size(BUFFER), ctypes.byref(length))
+            assert status == NOT_FOUND, f"a forgotten entry is copied out with status {status}"
+        return gone
 
     def decided(self, **request):
         """The reply that a request would have."""

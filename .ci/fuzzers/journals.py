@@ -116,6 +116,8 @@ class Journals(Fuzzer):
                 return False, ["replay 1 Number" if due[0] == 1 else "replay 2 Differs"]
             assert opened.status == OK, f"{found} of a journal"
             assert opened.journal() == text, "another text is written back"
+            half = opened.entries() // 2
+            assert opened.forgets(half) == half, "other entries are forgotten"
             return True, [] if entries else ["no entry"]
 
     def due(self, start, entries):

@@ -29,7 +29,7 @@ from .faults import (
     Undefined,
     UnknownName,
 )
-from .infos import Counts, ObjectInfo, PairInfo, SubjectInfo
+from .infos import Counts, ObjectInfo, PairInfo, StateStart, SubjectInfo
 from .monitor import Monitor
 from .requests import Create, Delete, Get, Give, Level, Relabel, Release, Request, Rescind
 from .values import Answer, Entry, Kind, Label, Mode, Reason, Reply
@@ -72,6 +72,7 @@ __all__ = [
     "Request",
     "Rescind",
     "StartRefused",
+    "StateStart",
     "SubjectInfo",
     "Term",
     "Undefined",

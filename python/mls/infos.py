@@ -2,7 +2,7 @@
 from __future__ import annotations
 
 from dataclasses import dataclass
-from typing import FrozenSet, Optional
+from typing import Dict, FrozenSet, Optional
 
 from .values import Label, Mode
 
@@ -43,3 +43,11 @@ class Counts:
     subjects: int
     objects: int
     next: Optional[int]
+
+
+@dataclass(frozen=True)
+class StateStart:
+    """A start file of a state: its bytes, and the number that each object which is active in the state has there."""
+
+    text: bytes
+    numbers: Dict[int, int]

@@ -10,7 +10,7 @@ from .actions import Actions, Session
 from .explanations import Explanation
 from .faults import NoSuchEntry, Undefined, UnknownName
 from .handle import Handle, is_ok
-from .infos import Counts, ObjectInfo, PairInfo, SubjectInfo
+from .infos import Counts, ObjectInfo, PairInfo, StateStart, SubjectInfo
 from .numbering import (answer_of, counts_of, entry_of, explanation_of, label_of, label_struct, number, object_of,
                         pair_of, subject_of)  # fmt: skip
 from .requests import ACTIONS, Create, Get, Give, Level, Name, Relabel, Release, Request, Rescind
@@ -168,21 +168,39 @@ class Monitor(Handle, Actions):
         deleted one whose number it has."""
         return self._name(self._library.mls_object_name, object)
 
+    def state_start(self) -> StateStart:
+        """A start file of the present state, and the numbers that its objects have there: without gaps, parents before
+        their children. A monitor that is opened from it holds what this one does, with an empty journal."""
+        numbers = (c_uint16 * lib.OBJECTS)()
+        status, text = self._text(lambda *lent: self._library.mls_state_start(*lent, numbers))
+        is_ok(status)
+        return StateStart(text, {old: new for old, new in enumerate(numbers) if new < lib.OBJECTS})
+
     @property
     def entry_count(self) -> int:
-        """How many entries the journal has."""
+        """How many entries the journal has, with those that are forgotten."""
         return self._call(self._library.mls_entries)
 
+    @property
+    def forgotten(self) -> int:
+        """How many of the first entries are forgotten, which is the number of the first that can be read."""
+        return self._call(self._library.mls_forgotten)
+
+    def forget(self, n: int) -> None:
+        """Forgets the entries below n, as far as they are there, so that memory doesn't grow: nobody can read them any
+        more. The state stays, and so do the numbers of the entries that come."""
+        self._call(self._library.mls_forget, number(n, 64))
+
     def entry(self, n: int) -> Entry:
-        """Entry n of the journal, counted from 0."""
+        """Entry n of the journal, counted from 0, unless it is forgotten."""
         struct = lib.Entry()
         if self._call(self._library.mls_entry, number(n, 64), byref(struct)) == lib.NOT_FOUND:
             raise NoSuchEntry(f"no entry {n}")
         return entry_of(struct)
 
     def entries(self, first: int = 0) -> Iterator[Entry]:
-        """The entries from one on, up to the last that there is when they are asked for."""
-        return map(self.entry, range(first, self.entry_count))
+        """The entries from one on that aren't forgotten, up to the last that there is when they are asked for."""
+        return map(self.entry, range(max(first, self.forgotten), self.entry_count))
 
     def line(self, n: int) -> bytes:
         """The line of entry n with its newline, as journals have it."""
@@ -193,5 +211,6 @@ class Monitor(Handle, Actions):
         return text
 
     def journal(self, first: int = 0) -> bytes:
-        """The text of the journal from an entry on, for resume and for `mls replay`."""
+        """The text of the journal from an entry on, for resume and for `mls replay`: NoSuchEntry where that is
+        forgotten."""
         return b"".join(map(self.line, range(first, self.entry_count)))

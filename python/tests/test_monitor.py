@@ -100,6 +100,8 @@ class Monitors(unittest.TestCase):
             lambda: self.monitor.get("ann", "read", "plans", session=2**32),
             lambda: self.monitor.give("sec", "read", -1, "plans"),
             lambda: self.monitor.entry(2**64),
+            lambda: self.monitor.forget(2**64),
+            lambda: self.monitor.forget(-1),
             lambda: self.monitor.object_info(65536),
             lambda: self.monitor.subject_name(65536),
             lambda: self.monitor.decide_label(65536, "read", "S", "lo"),
@@ -114,6 +116,21 @@ class Monitors(unittest.TestCase):
         for call in (self.monitor.entry, self.monitor.line):
             with self.assertRaises(mls.NoSuchEntry):
                 call(0)
+
+    def test_entries_that_are_forgotten(self):
+        m = self.monitor
+        for _ in range(3):
+            m.get("bob", "read", "memo")
+        kept = m.line(2)
+        m.forget(2)
+        self.assertEqual((m.forgotten, m.entry_count, m.line(2)), (2, 3, kept))
+        for call in (m.entry, m.line, m.journal):
+            with self.assertRaises(mls.NoSuchEntry):
+                call(1)
+        self.assertEqual([entry.answer.number for entry in m.entries()], [2])
+        self.assertEqual(m.journal(2), kept)
+        m.forget(2**64 - 1)
+        self.assertEqual((m.forgotten, list(m.entries()), m.get("bob", "read", "memo").number), (3, [], 3))
 
     def test_lines_longer_than_the_first_room(self):
         names = [f"c{n:03}" for n in range(256)]
@@ -162,8 +179,9 @@ class Monitors(unittest.TestCase):
         calls = [
             lambda: m.get(0, "read", 1), lambda: m.decide(mls.Delete(0, 1)), lambda: m.check(0, "read", 1), m.journal,
             lambda: m.entry(0), lambda: m.line(0), lambda: m.entry_count, lambda: m.subject("ann"),
+            lambda: m.forget(0), lambda: m.forgotten,
             lambda: m.label("S"), lambda: m.label_text(mls.Label(0)), lambda: m.decide_label(0, "read", "S", "lo"),
-            lambda: m.decide_label(0, "read", mls.Label(0), mls.Label(0)), lambda: m.explain(mls.Delete(0, 1)),
+            lambda: m.decide_label(0, "read", mls.Label(0), mls.Label(0)), lambda: m.explain(mls.Delete(0, 1)), m.state_start,
             lambda: m.subject_info(0), lambda: m.object_info(0), lambda: m.pair(0, 0), m.counts,
             lambda: list(m.children(0)), lambda: m.subject_name(0), lambda: m.object_name(0),
         ]  # fmt: skip

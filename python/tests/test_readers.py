@@ -107,6 +107,27 @@ class Readers(unittest.TestCase):
             with self.assertRaises(mls.UnknownName):
                 m.pair(*pair)
 
+    def test_a_start_of_the_state(self):
+        m, numbers = self.monitor, {ROOT: 0, PLANS: 1, TOOL: 2, MADE: 3}
+        answers = [
+            m.get("ann", "read", "plans"), m.get("sec", "write", "root"), m.create("sec", "root", "S:B", "lo"),
+            m.give("sec", "append", "bob", MADE), m.get("bob", "append", MADE), m.delete("sec", "memo"),
+        ]  # fmt: skip
+        self.assertTrue(all(answers))
+        told = m.state_start()
+        self.assertEqual((told.numbers, m.entry_count), (numbers, len(answers)))
+        with mls.Monitor.open(told.text) as new:
+            self.assertEqual(new.counts(), mls.Counts(0, 4, 4, 4))
+            for subject, mode, old in itertools.product(range(4), mls.Mode, numbers):
+                self.assertEqual(new.pair(subject, numbers[old]), m.pair(subject, old))
+                gets = mls.Get(subject, mode, old), mls.Get(subject, mode, numbers[old])
+                self.assertEqual(new.decide(gets[1]).reply, m.decide(gets[0]).reply)
+            self.assertEqual([new.subject_info(it) for it in range(4)], [m.subject_info(it) for it in range(4)])
+            self.assertEqual([new.object_name(it) for it in range(4)], ["root", "plans", "tool", "o4"])
+            self.assertTrue(new.check("bob", "append", "o4") and not new.check("ann", "read", "o4"))
+            # what it opens with is a state, whose objects have their numbers already
+            self.assertEqual(new.state_start(), mls.StateStart(told.text, {it: it for it in range(4)}))
+
     def test_names_of_numbers(self):
         m = self.monitor
         self.assertEqual([m.subject_name(it) for it in range(5)], ["ann", "bob", "sec", "aud", None])

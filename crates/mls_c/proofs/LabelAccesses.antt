@@ -1,5 +1,5 @@
 -- Accesses that are decided by labels, beside a get of an object that has them.
-use Rattle.std.specs.Prelude.{◌≡◌, ◌∷◌, ◌&&◌, ℕ, Bool, true, false, cond, List, IsTrue, Some, is_some, refl}
+use Rattle.std.specs.Prelude.{◌≡◌, ◌∷◌, ◌&&◌, ℕ, Bool, true, false, cond, List, IsTrue, is_some, refl}
 use Rattle.std.proofs.Common.{sym, ap, ◌∙◌}
 use Rattle.mls_facts.proofs.Entries.{at_new}
 use Rattle.mls_requests.specs.declared.action.Action.TheVariants.{Get}

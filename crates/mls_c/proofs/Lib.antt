@@ -1,5 +1,6 @@
 pub mod Boxes
 pub mod LabelAccesses
+pub mod NewNumbers
 pub mod Openings
 pub mod Pointers
 pub mod ReadBack

@@ -1,16 +1,8 @@
 -- What is written in numbers is read back.
-use Rattle.std.specs.Prelude.{◌≡◌, ℕ, ◌+◌, ◌-◌, ◌==◌, ◌&&◌, Bool, true, false, cond, nat_eq, nat_lt, IsTrue, Option, Some, if◌then◌else◌, refl}
-use Rattle.std.specs.Ordering.{nat_cmp}
-use Rattle.std.specs.Cmp.{nat_cmp_total}
-use Rattle.std.specs.FinSet.{FinSet, contains, same_set, nat_cmp-IsAntisymmetric}
+use Rattle.std.specs.Prelude.{◌≡◌, ℕ, ◌+◌, ◌-◌, ◌==◌, Option, Some, if◌then◌else◌, refl}
 use Rattle.std.proofs.Common.{sym, ap, ◌∙◌}
 use Rattle.std.proofs.lemmas.Bool.{lt-ltb}
 use Rattle.std.proofs.lemmas.Option.{same_Some}
-use Rattle.mls_facts.specs.Bits.{has_bit}
-use Rattle.mls_facts.specs.Each.{each}
-use Rattle.mls_facts.proofs.Bits.{bit_at-number_of}
-use Rattle.mls_facts.proofs.Each.{each-contains}
-use Rattle.mls_facts.proofs.Passing.{contains-passing}
 use Rattle.mls_labels.specs.Label.{Label}
 use Rattle.mls_labels.proofs.Laws.{categories_back}
 use Rattle.mls_labels.specs.declared.limits.TheConstants.{MAX_LEVELS}

@@ -1,5 +1,5 @@
 -- Replies and entries in numbers, and what calls tell.
-use Rattle.std.specs.Prelude.{◌≡◌, ◌⊎◌, ℕ, ◌+◌, ℤ, pos, length, Option, Some, None, slice_get, IsSomeAnd, MatchOption}
+use Rattle.std.specs.Prelude.{◌≡◌, ◌⊎◌, ℕ, ◌+◌, ℤ, pos, length, Option, Some, None, IsSomeAnd, MatchOption}
 use Rattle.std.specs.Prelude.{if◌then◌else◌}
 use Rattle.std.specs.FinSet as set
 use Rattle.mls_tables.specs.declared.mode.Mode.{Mode}
@@ -10,7 +10,7 @@ use Rattle.mls_requests.specs.declared.reply.Reply.{Reply}
 use Rattle.mls_requests.specs.declared.reply.Reply.TheVariants.{Yes, Created, No, Undefined}
 use Rattle.mls_requests.specs.declared.request.Request.{Request}
 use Rattle.mls_rules.specs.Rules.{reply}
-use Rattle.mls_c.specs.Opened.{Opened, state_of, next_entry, with_entry}
+use Rattle.mls_c.specs.Opened.{Opened, state_of, next_entry, with_entry, kept_entry}
 use Rattle.mls_c.specs.Requests.{numbers_of_request}
 use Rattle.mls_c.specs.declared.answer.Answer.{Answer}
 use Rattle.mls_c.specs.declared.answer.EntryNumbers.{EntryNumbers}
@@ -83,12 +83,22 @@ abbrev pub entry_count : Option Opened → ℕ
 entry_count None = 0
 entry_count (Some v) = length v.entries
 
--- What looking up an entry returns: whether the handle is closed, or the journal has none of this number, or it is
--- there. (own)
+-- What looking up an entry returns: whether the handle is closed, or the journal has none of this number that isn't
+-- forgotten, or it is there. (own)
 abbrev pub EntryStatus : Option Opened → ℕ → ℤ → Type 0
 EntryStatus None n status = status ≡ ECLOSED
-EntryStatus (Some v) n status = MatchOption (slice_get v.entries n) (status ≡ ENOTFOUND) (λ _. status ≡ OK)
+EntryStatus (Some v) n status = MatchOption (kept_entry v n) (status ≡ ENOTFOUND) (λ _. status ≡ OK)
 
--- The entry of this number is there, and these are its numbers. (own)
+-- The entry of this number is there and isn't forgotten, and these are its numbers. (own)
 abbrev pub HasEntry : Option Opened → ℕ → EntryNumbers → Type 0
-HasEntry old n row = IsSomeAnd old (λ v. IsSomeAnd (slice_get v.entries n) (λ e. row ≡ numbers_of_entry e))
+HasEntry old n row = IsSomeAnd old (λ v. IsSomeAnd (kept_entry v n) (λ e. row ≡ numbers_of_entry e))
+
+-- How many of the first entries are forgotten; a closed handle has none. (own)
+abbrev pub forgotten_count : Option Opened → ℕ
+forgotten_count None = 0
+forgotten_count (Some v) = v.forgotten
+
+-- What forgetting returns: whether the handle is closed. (own)
+abbrev pub forget_status : Option Opened → ℤ
+forget_status None = ECLOSED
+forget_status (Some v) = OK

@@ -1,5 +1,5 @@
 -- What is in an open monitor, in numbers: subjects, objects, pairs of both, and how many there are.
-use Rattle.std.specs.Prelude.{◌≡◌, ℕ, ℤ, ◌+◌, Bool, nat_lt, List, length, Option, Some, None, slice_get, unwrap_or}
+use Rattle.std.specs.Prelude.{◌≡◌, ℕ, ℤ, ◌+◌, Bool, nat_lt, List, length, Option, Some, None, unwrap_or}
 use Rattle.std.specs.Prelude.{IsSomeAnd, if◌then◌else◌}
 use Rattle.std.specs.List.{filter, find, range_with_len}
 use Rattle.std.specs.FinMap as map

@@ -2,7 +2,6 @@
 use Rattle.std.specs.Prelude.{◌≡◌, ℕ, ℤ, pos, Bool, ◌&&◌, List, drop, Option, Some, None, IsSomeAnd, if◌then◌else◌}
 use Rattle.std.specs.FinMap as map
 use Rattle.mls_labels.specs.Label.{Label, dominates, has_label}
-use Rattle.mls_tables.specs.declared.mode.Mode.{Mode}
 use Rattle.mls_requests.specs.declared.action.Action.TheVariants.{Get}
 use Rattle.mls_requests.specs.declared.reason.Reason.{Reason}
 use Rattle.mls_requests.specs.declared.reply.Reply.{Reply}

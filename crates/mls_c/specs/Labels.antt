@@ -1,5 +1,5 @@
 -- Labels in numbers.
-use Rattle.std.specs.Prelude.{ℕ, nat_lt, [], ◌∷◌, Option, Some, None, if◌then◌else◌}
+use Rattle.std.specs.Prelude.{nat_lt, [], ◌∷◌, Option, Some, None, if◌then◌else◌}
 use Rattle.mls_labels.specs.Label.{Label}
 use Rattle.mls_labels.specs.CategoryBits.{categories_in, words_in}
 use Rattle.mls_labels.specs.declared.limits.TheConstants.{MAX_LEVELS}

@@ -9,4 +9,5 @@ pub mod Lending
 pub mod Opened
 pub mod Requests
 pub mod Resumed
+pub mod StateStart
 pub mod Texts

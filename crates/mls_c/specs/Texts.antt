@@ -1,5 +1,5 @@
 -- Names and label texts that C lends, and the texts that it is given.
-use Rattle.std.specs.Prelude.{◌≡◌, ◌⊎◌, ℕ, ℤ, ◌++◌, ◌==◌, nat_lt, List, length, drop, Option, Some, None, slice_get}
+use Rattle.std.specs.Prelude.{◌≡◌, ◌⊎◌, ℕ, ℤ, ◌++◌, ◌==◌, nat_lt, List, length, drop, Option, Some, None}
 use Rattle.std.specs.Prelude.{option_map, IsSomeAnd, if◌then◌else◌}
 use Rattle.std.specs.Result.{result_ok}
 use Rattle.std.specs.Str.{is_utf8}
@@ -11,7 +11,7 @@ use Rattle.mls_journal.specs.EntryText.{entry_line}
 use Rattle.mls_lines.specs.Names.{Names}
 use Rattle.mls_start_text.specs.Each.{having}
 use Rattle.mls_c.specs.Labels.{label_of, numbers_of_label}
-use Rattle.mls_c.specs.Opened.{Opened}
+use Rattle.mls_c.specs.Opened.{Opened, kept_entry}
 use Rattle.mls_c.specs.declared.label.LabelNumbers.{LabelNumbers}
 use Rattle.mls_c.specs.declared.status.TheConstants.{OK, ECLOSED, ENOMEM, EINVAL, ERANGE, ENOTFOUND}
 
@@ -62,9 +62,9 @@ text_in_scheme s l = if has_label (bounds_of s) l then Some (written s l) else N
 abbrev pub label_written : Option Scheme → LabelNumbers → Option (List ℕ)
 label_written scheme numbers = having scheme (λ s. having (label_of numbers) (text_in_scheme s))
 
--- The line of an entry of the journal, where it has one of this number. (own)
+-- The line of an entry of the journal, where it has one of this number that isn't forgotten. (own)
 abbrev pub line_of : Opened → ℕ → Option (List ℕ)
-line_of v n = option_map entry_line (slice_get v.entries n)
+line_of v n = option_map entry_line (kept_entry v n)
 
 -- What copying a text into a buffer of so many bytes returns: that it is there, or that the buffer is too short; or
 -- there is no memory. (own)

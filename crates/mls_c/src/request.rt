@@ -1,5 +1,5 @@
 //! Requests in numbers.
-ghost use Rattle.std.specs.Prelude.{◌≡◌};
+ghost use Rattle.std.specs.Prelude.{◌≡◌, ◌<◌, ◌⊎◌, Some};
 ghost use Rattle.mls_c.specs.Requests.{mode_at, number_of_mode, action_of, request_of, blank, numbers_of_request};
 
 use crate::label::LabelNumbers;
@@ -46,25 +46,55 @@ pub(crate) fn number_of_mode(mode: Mode) -> u8
 }
 
 impl RequestNumbers {
-    /// The action of the numbers.
-    fn action(&self) -> Option<Action>
-        ensures { result ≡ action_of self.now }
+    /// The action of the numbers in a mode, where it is one of the four that have one.
+    fn action_in(&self, mode: Mode) -> Action
+        requires { self.now.action < 4 }
+        ensures { mode_at self.now.mode ≡ Some mode → Some result ≡ action_of self.now }
     {
         let object = ObjectId::new(self.object);
         let other = SubjectId::new(self.other);
         match self.action {
-            0 => Some(Action::Get(mode_at(self.mode)?, object)),
-            1 => Some(Action::Release(mode_at(self.mode)?, object)),
-            2 => Some(Action::Give(mode_at(self.mode)?, other, object)),
-            3 => Some(Action::Rescind(mode_at(self.mode)?, other, object)),
-            4 => {
-                let security = SecLabel::of(self.security.label()?);
-                let integrity = IntLabel::of(self.integrity.label()?);
-                Some(Action::Create(object, security, integrity))
-            }
-            5 => Some(Action::Delete(object)),
-            6 => Some(Action::SubjectLevel(SecLabel::of(self.security.label()?))),
-            7 => Some(Action::ObjectLevel(object, SecLabel::of(self.security.label()?))),
+            0 => Action::Get(mode, object),
+            1 => Action::Release(mode, object),
+            2 => Action::Give(mode, other, object),
+            _ => Action::Rescind(mode, other, object),
+        }
+    }
+
+    /// The creation of the numbers.
+    fn creation(&self) -> Option<Action>
+        requires { self.now.action ≡ 4 }
+        ensures { result ≡ action_of self.now }
+    {
+        let security = SecLabel::of(self.security.label()?);
+        let integrity = IntLabel::of(self.integrity.label()?);
+        Some(Action::Create(ObjectId::new(self.object), security, integrity))
+    }
+
+    /// The action of the numbers in one of the two that have a new label.
+    fn level(&self) -> Option<Action>
+        requires { (self.now.action ≡ 6) ⊎ (self.now.action ≡ 7) }
+        ensures { result ≡ action_of self.now }
+    {
+        let label = SecLabel::of(self.security.label()?);
+        if self.action == 6 {
+            return Some(Action::SubjectLevel(label));
+        }
+        Some(Action::ObjectLevel(ObjectId::new(self.object), label))
+    }
+
+    /// The action of the numbers.
+    fn action(&self) -> Option<Action>
+        ensures { result ≡ action_of self.now }
+    {
+        match self.action {
+            0..=3 => match mode_at(self.mode) {
+                Some(mode) => Some(self.action_in(mode)),
+                None => None,
+            },
+            4 => self.creation(),
+            5 => Some(Action::Delete(ObjectId::new(self.object))),
+            6 | 7 => self.level(),
             _ => None,
         }
     }

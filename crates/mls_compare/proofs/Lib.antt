@@ -2,4 +2,5 @@ mod Followed
 mod Growing
 mod Labels
 mod Refusals
+pub mod Replayed
 mod Tables

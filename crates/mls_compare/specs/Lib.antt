@@ -5,3 +5,4 @@ pub mod Counterparts
 pub mod Differences
 pub mod Following
 pub mod Replying
+pub mod Snapshots

@@ -53,6 +53,7 @@ fn compare_openings(
 /// `Journal` where the journal is refused or an allocation failed.
 fn replayed(alloc: Global, start: Start, journal: &[u8]) -> Result<Monitor, CompareFault>
     ensures start { IfOk result (λ monitor. monitor.start ≡ start) }
+    ensures forgotten { IfOk result (λ monitor. monitor.forgotten ≡ 0) }
     ensures text { IfOk result (λ monitor. journal.now ≡ journal_text monitor.entries) }
     ensures fault { IfErr result (λ fault. RefusesReplies start journal.now fault) }
 {

@@ -1,4 +1,4 @@
-//! How one start differs from another.
+//! Starts beside each other: how one differs from another, and the start that the state of a journal is.
 #![tactic(auto)]
 
 mod actions;
@@ -12,7 +12,11 @@ mod object_table;
 mod only;
 mod replying;
 mod shared;
+mod snapshot_fault;
+mod snapshots;
 mod starts;
 
 pub use compare_fault::CompareFault;
 pub use comparing::compare;
+pub use snapshot_fault::SnapshotFault;
+pub use snapshots::snapshot;

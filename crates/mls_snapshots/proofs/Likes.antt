@@ -1,6 +1,6 @@
 -- Names, schemes and states that are compared, and what their comparison is of.
-use Rattle.std.proofs.Common.{◌≡◌, ℕ, ◌<◌, Bool, true, false, Bor, List, Option, Some, None, Result, Ok, Err, refl, sym, ap, subst, ◌∙◌, String, string_bytes, Global}
-use Rattle.std.specs.Prelude.{nat_lt, is_some, option_map, slice_get, IfOk, IfErr, IsTrue}
+use Rattle.std.proofs.Common.{◌≡◌, ℕ, ◌<◌, Bool, true, false, Bor, List, Option, Some, None, Result, Ok, Err, refl, sym, ap, subst, ◌∙◌}
+use Rattle.std.specs.Prelude.{nat_lt, is_some, option_map, slice_get, IfOk, IsTrue}
 use Rattle.std.specs.declared.alloc.AllocError.{AllocError}
 use Rattle.mls_labels.specs.declared.limits.TheConstants.{MAX_LEVELS, MAX_CATEGORIES}
 use Rattle.mls_labels.specs.Scheme.{Scheme, IsScheme, bounds_of}
@@ -8,17 +8,11 @@ use Rattle.mls_lines.specs.Names.{Names}
 use Rattle.mls_start_file.specs.Says.{SaysStart}
 use Rattle.mls_start_file.specs.Ties.{AreTied, Loaded}
 use Rattle.mls_state.specs.State.{State, is_active}
-use Rattle.mls_replay.specs.declared.command.CommandFault.TheVariants as refused
-use Rattle.mls_replay.specs.Replays.{Replayed, ReplaysAt, RefusesAt}
-use Rattle.mls_replay.specs.declared.question_fault.QuestionFault.{QuestionFault}
-use Rattle.mls_replay.specs.declared.question_fault.QuestionFault.TheVariants.{Files}
 use Rattle.mls_snapshots.specs.Orders.{IsOrder}
 use Rattle.mls_snapshots.specs.Renaming.{AreRenamed, IsFirstFree, IsNameOf, IsNamed}
 use Rattle.mls_snapshots.specs.Renumbering.{IsSameBy}
+use Rattle.mls_snapshots.specs.Starts.{IsStartBy}
 use Rattle.mls_snapshots.specs.Schemes.{level_alone, lowest_with, IsWrittenAlike}
-use Rattle.mls_snapshots.specs.Snapshots.{IsSnapshotOf, SnapshotsAt, RefusesSnapshot, IsOwnFault}
-use Rattle.mls_snapshots.specs.declared.snapshot_fault.SnapshotFault.{SnapshotFault}
-use Rattle.mls_snapshots.specs.declared.snapshot_fault.SnapshotFault.TheVariants.{Question, TooLong, Differs}
 use Rattle.mls_snapshots.proofs.Gets.{same_until}
 use Rattle.mls_snapshots.proofs.SchemeTexts.{schemes_same}
 
@@ -57,38 +51,16 @@ schemes_alike a b (Err fault) sound bounds levels categories = tt
 pub active_of : (names : Names) (start opening : State) (n : ℕ) → AreTied names start → opening ≡ start → start.next ≡ n → (k : ℕ) → is_active opening k ≡ nat_lt k n
 active_of names start opening n tied same next k = ap (λ (v : State). is_active v k) same ∙ tied.active k ∙ ap (nat_lt k) (sym tied.next ∙ next)
 
--- a text whose start is compared with a replay's state
-pub snapshot_is : (replay : Replayed) (text bytes order : List ℕ) (loaded : Loaded) (names : Names) (state : State) (r : Result Bool AllocError)
-    → bytes ≡ text → names ≡ replay.names → state ≡ replay.state → SaysStart bytes loaded
-    → IfOk r (λ like. IsTrue like → IsOrder state order) → IfOk r (λ like. IsTrue like → IsSameBy state loaded.start order)
-    → IfOk r (λ like. IsTrue like → AreRenamed names loaded.names order) → IfOk r (λ alike. IsTrue alike → IsSnapshotOf replay text)
-snapshot_is replay text bytes order loaded names state (Ok like) same named seen says ordered numbered renamed = λ is. record {
-  order = order;
+-- a text whose start is compared with a state
+pub start_is : (named : Names) (v : State) (text bytes order : List ℕ) (loaded : Loaded) (r : Result Bool AllocError)
+    → bytes ≡ text → SaysStart bytes loaded
+    → IfOk r (λ like. IsTrue like → IsOrder v order) → IfOk r (λ like. IsTrue like → IsSameBy v loaded.start order)
+    → IfOk r (λ like. IsTrue like → AreRenamed named loaded.names order) → IfOk r (λ alike. IsTrue alike → IsStartBy named v order text)
+start_is named v text bytes order loaded (Ok like) same says ordered numbered renamed = λ is. record {
   opened = loaded;
   says = subst (λ b. SaysStart b loaded) same says;
-  ordered = subst (λ (v : State). IsOrder v order) seen (ordered is);
-  state = subst (λ (v : State). IsSameBy v loaded.start order) seen (numbered is);
-  names = subst (λ (n : Names). AreRenamed n loaded.names order) named (renamed is);
+  ordered = ordered is;
+  state = numbered is;
+  renamed = renamed is;
 }
-snapshot_is replay text bytes order loaded names state (Err fault) same named seen says ordered numbered renamed = tt
-
--- the text of a replay is one of its files
-pub snapshots_at : (bytes journal : List ℕ) (at : Option ℕ) (r : Replayed) (result : Result (String Global) SnapshotFault) → ReplaysAt bytes journal at r
-    → IfOk result (λ text. IsSnapshotOf r (string_bytes text)) → IfOk result (λ text. SnapshotsAt bytes journal at (string_bytes text))
-snapshots_at bytes journal at r (Ok text) replays is = (r, replays, is)
-snapshots_at bytes journal at r (Err fault) replays is = tt
-
--- a replay's own fault is one of its files
-own_refuses : (bytes journal : List ℕ) (at : Option ℕ) (r : Replayed) (fault : SnapshotFault) → ReplaysAt bytes journal at r → IsOwnFault r fault
-    → RefusesSnapshot bytes journal at fault
-own_refuses bytes journal at r (Question cause) replays own =
-    let P : QuestionFault → Type 0 = λ f. RefusesAt bytes journal at f in
-    let memory : RefusesAt bytes journal at (Files refused.Memory) = tt in
-    subst P (sym own) memory
-own_refuses bytes journal at r TooLong replays own = (r, replays, own)
-own_refuses bytes journal at r Differs replays own = (r, replays)
-
-pub refuses_snapshot : (bytes journal : List ℕ) (at : Option ℕ) (r : Replayed) (result : Result (String Global) SnapshotFault) → ReplaysAt bytes journal at r
-    → IfErr result (λ fault. IsOwnFault r fault) → IfErr result (λ fault. RefusesSnapshot bytes journal at fault)
-refuses_snapshot bytes journal at r (Ok text) replays own = tt
-refuses_snapshot bytes journal at r (Err fault) replays own = own_refuses bytes journal at r fault replays own
+start_is named v text bytes order loaded (Err fault) same says ordered numbered renamed = tt

@@ -2,7 +2,7 @@
 use Rattle.std.proofs.Common.{◌≡◌, ℕ, ◌<◌, ◌≤◌, Bool, true, false, ◌⊎◌, inl, inr, List, length, get_or, Some, None, refl, sym, ap, ◌∙◌, arith}
 use Rattle.std.proofs.lemmas.Bool.Decides.{nat_tests}
 use Rattle.std.proofs.lemmas.Option.{slice_get_cases}
-use Rattle.std.specs.Prelude.{◌&&◌, nat_lt, slice_get}
+use Rattle.std.specs.Prelude.{nat_lt, slice_get}
 use Rattle.std.specs.FinSet as set
 use Rattle.mls_facts.specs.Numbered.{holds_of}
 use Rattle.mls_state.specs.State.{State, is_subject, is_active}
@@ -10,7 +10,7 @@ use Rattle.mls_state.specs.Properties.{HasTree}
 use Rattle.mls_state.specs.Tables.{triples_of}
 use Rattle.mls_state.specs.declared.table.Table.{Table}
 use Rattle.mls_state.proofs.Laws.{unknown_subject, inactive_object}
-use Rattle.mls_tables.specs.Mode.{ModeSet, mode_cmp}
+use Rattle.mls_tables.specs.Mode.{ModeSet}
 use Rattle.mls_tables.specs.declared.mode.Mode.{Mode}
 use Rattle.mls_tables.specs.declared.mode.Mode.TheVariants.{Execute, Read, Append, Write}
 use Rattle.mls_snapshots.specs.Renumbering.{IsCarriedOver}

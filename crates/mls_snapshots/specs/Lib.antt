@@ -2,4 +2,4 @@ pub mod Orders
 pub mod Renaming
 pub mod Renumbering
 pub mod Schemes
-pub mod Snapshots
+pub mod Starts

@@ -1,4 +1,4 @@
-//! The state that a journal leads to, as a start file that opens with it.
+//! A state as a start file that opens with it, read back and compared with the state before it is given.
 #![tactic(auto)]
 
 mod cells;
@@ -8,11 +8,9 @@ mod objects;
 mod order;
 mod same;
 mod schemes;
-mod snapshot_fault;
-mod snapshots;
 mod start_text;
+mod state_start;
 mod subjects;
 mod text_lists;
 
-pub use snapshot_fault::SnapshotFault;
-pub use snapshots::snapshot;
+pub use state_start::{StateStart, StateStartFault, start_of_state};

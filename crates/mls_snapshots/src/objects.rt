@@ -4,8 +4,7 @@ ghost use Rattle.mls_snapshots.specs.Orders.{new_parent};
 ghost use Rattle.mls_snapshots.specs.Renumbering.{IsRenumbered};
 
 use crate::order::place_in;
-use mls_rules::State;
-use mls_state::ObjectLabels;
+use mls_state::{ObjectLabels, State};
 use mls_tables::ObjectId;
 
 /// Whether two objects have the same labels.

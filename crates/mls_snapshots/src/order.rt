@@ -1,9 +1,10 @@
 //! The order in which the active objects of a state are numbered anew.
-ghost use Rattle.std.specs.Prelude.{◌≡◌, ◌<◌, ◌≤◌, ℕ, IsTrue, IsSome, Some, slice_get};
+ghost use Rattle.std.specs.Prelude.{◌≡◌, ◌<◌, ◌≤◌, ℕ, IsTrue, IsSome, IfOk, Some, length, slice_get};
+ghost use Rattle.mls_tables.specs.declared.limits.TheConstants.{MAX_OBJECTS};
 ghost use Rattle.mls_state.specs.State.{is_active};
 ghost use Rattle.mls_snapshots.specs.Orders.{place_in, new_parent, IsBefore, IsPast, IsPlaced, IsOrder};
 
-use mls_rules::State;
+use mls_state::State;
 use mls_tables::{MAX_OBJECTS, ObjectId};
 use std::alloc::{AllocError, Global};
 
@@ -34,10 +35,12 @@ fn next_object(state: &State, placed: &[bool]) -> Option<ObjectId> {
 
 /// The active objects of a state, each once: parents before their children, and of those whose parents are placed the
 /// one of the least number next. No clause says so: `is_order` looks at what this gives.
-pub(crate) fn object_order(alloc: Global, state: &State) -> Result<Vec<ObjectId>, AllocError> {
+pub(crate) fn object_order(alloc: Global, state: &State) -> Result<Vec<ObjectId>, AllocError>
+    ensures { IfOk result (λ order. length order.items ≤ MAX_OBJECTS) }
+{
     let mut placed = vec![in alloc; false; MAX_OBJECTS as usize]?;
     let mut order = Vec::new(alloc);
-    for _ in 0..MAX_OBJECTS {
+    for _n in 0..MAX_OBJECTS {
         let Some(o) = next_object(state, &placed) else {
             break;
         };

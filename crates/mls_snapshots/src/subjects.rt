@@ -2,7 +2,7 @@
 ghost use Rattle.std.specs.Prelude.{IsTrue};
 ghost use Rattle.mls_snapshots.specs.Renumbering.{IsSameSubject, HasSameSubjects};
 
-use mls_rules::State;
+use mls_state::State;
 use mls_tables::SubjectId;
 
 /// Whether a subject is known in two states, with the same labels, and is trusted in both or in neither.

@@ -252,6 +252,8 @@ extern "C" {
     pub fn mls_entries(m: *mut mls_monitor) -> u64;
     pub fn mls_entry(m: *mut mls_monitor, n: u64, entry: *mut mls_journal_entry) -> c_int;
     pub fn mls_entry_text(m: *mut mls_monitor, n: u64, buf: *mut c_char, cap: usize, len: *mut usize) -> c_int;
+    pub fn mls_forget(m: *mut mls_monitor, n: u64) -> c_int;
+    pub fn mls_forgotten(m: *mut mls_monitor) -> u64;
     pub fn mls_subject(m: *mut mls_monitor, name: *const u8, len: usize, subject: *mut u16) -> c_int;
     pub fn mls_object(m: *mut mls_monitor, name: *const u8, len: usize, object: *mut u16) -> c_int;
     pub fn mls_read_label(
@@ -292,6 +294,13 @@ extern "C" {
         cap: usize,
         count: *mut usize,
         remedy: *mut mls_remedy,
+    ) -> c_int;
+    pub fn mls_state_start(
+        m: *mut mls_monitor,
+        buf: *mut c_char,
+        cap: usize,
+        len: *mut usize,
+        numbers: *mut u16,
     ) -> c_int;
     pub fn mls_close(m: *mut mls_monitor);
     pub fn mls_version() -> *const c_char;

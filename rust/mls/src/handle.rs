@@ -76,6 +76,17 @@ impl Handle {
         copied(|room, cap, len| unsafe { mls_entry_text(self.0.get(), n, room, cap, len) })
     }
 
+    /// Has `mls_forget` forget the entries below a number.
+    pub fn forget(&mut self, n: u64) -> Result<(), c_int> {
+        // SAFETY: this call is the only one.
+        told(unsafe { mls_forget(self.0.get(), n) }, ())
+    }
+
+    pub fn forgotten(&self) -> u64 {
+        // SAFETY: this call is the only one.
+        unsafe { mls_forgotten(self.0.get()) }
+    }
+
     /// The number of `mls_subject`, or its status.
     pub fn subject(&self, name: &[u8]) -> Result<u16, c_int> {
         let mut subject = 0;

@@ -19,19 +19,32 @@ pub struct Entry {
 #[derive(Clone, Copy, Debug, PartialEq, Eq, Hash)]
 #[non_exhaustive]
 pub enum EntryError {
-    /// The journal has no such entry.
+    /// The journal has no such entry, or it is forgotten.
     NoSuchEntry,
     /// An allocation failed.
     OutOfMemory,
 }
 
 impl Monitor {
-    /// How many entries the journal has.
+    /// How many entries the journal has, with those that are forgotten.
     pub fn entry_count(&self) -> u64 {
         self.handle.entries()
     }
 
-    /// Entry n, counted from 0.
+    /// How many of the first entries are forgotten, which is the number of the first that can be read.
+    pub fn forgotten(&self) -> u64 {
+        self.handle.forgotten()
+    }
+
+    /// Forgets the entries below n, as far as they are there, so that memory doesn't grow: nobody can read them any
+    /// more. The state stays, and so do the numbers of the entries that come.
+    pub fn forget(&mut self, n: u64) {
+        if let Err(status) = self.handle.forget(n) {
+            unknown("mls_forget", status)
+        }
+    }
+
+    /// Entry n, counted from 0, unless it is forgotten.
     ///
     /// # Panics
     ///
@@ -43,9 +56,9 @@ impl Monitor {
         Some(Entry { session: it.session, request, answer: Answer::told(it.number, it.reply, it.object) })
     }
 
-    /// The entries from one on.
+    /// The entries from one on, without those that are forgotten.
     pub fn entries(&self, first: u64) -> impl Iterator<Item = Entry> + '_ {
-        (first..self.entry_count()).filter_map(move |n| self.entry(n))
+        (first.max(self.forgotten())..self.entry_count()).filter_map(move |n| self.entry(n))
     }
 
     /// The line of entry n, counted from 0, with its newline.
@@ -59,7 +72,7 @@ impl Monitor {
     }
 
     /// The text of the journal from an entry on: for [`resume`](Monitor::resume), and for `mls replay`. Beyond its end
-    /// there is none.
+    /// there is none; from one that is forgotten on it is `NoSuchEntry`.
     pub fn journal(&self, first: u64) -> Result<String, EntryError> {
         (first..self.entry_count()).map(|n| self.line(n)).collect()
     }

@@ -14,6 +14,7 @@ mod modes;
 mod monitor;
 mod refusals;
 mod request;
+mod state_start;
 
 pub use answer::{Answer, Reason, Reply};
 pub use basis::{Basis, Compared, Term};
@@ -26,3 +27,4 @@ pub use modes::Modes;
 pub use monitor::{Monitor, SubmitError};
 pub use refusals::{OpenError, ReplayFault};
 pub use request::{Mode, Object, Request, Subject};
+pub use state_start::{StateStart, StateStartError};

@@ -152,6 +152,23 @@ fn entries_that_there_are_none_of() {
 }
 
 #[test]
+fn entries_that_are_forgotten() {
+    let mut m = opened();
+    for _ in 0..3 {
+        let _ = m.get(0, BOB, MEMO, Mode::Read).unwrap();
+    }
+    let kept = m.line(2).unwrap();
+    m.forget(2);
+    assert_eq!((m.forgotten(), m.entry_count(), m.line(2)), (2, 3, Ok(kept.clone())));
+    assert!(m.entry(1).is_none() && m.line(1) == Err(EntryError::NoSuchEntry));
+    assert_eq!(m.entries(0).map(|it| it.answer.number).collect::<Vec<_>>(), [2]);
+    assert_eq!((m.journal(2), m.journal(1)), (Ok(kept), Err(EntryError::NoSuchEntry)));
+    m.forget(u64::MAX);
+    assert_eq!((m.forgotten(), m.entries(0).count()), (3, 0));
+    assert_eq!(m.get(0, BOB, MEMO, Mode::Read).unwrap().number, 3);
+}
+
+#[test]
 fn a_journal_is_resumed() {
     let mut m = Monitor::resume(START, KEPT.as_bytes()).unwrap();
     assert_eq!((m.entry_count(), m.check(ANN, PLANS, Mode::Read), m.journal(0).unwrap()), (2, true, KEPT.into()));

@@ -136,6 +136,42 @@ fn pairs_of_subjects_and_objects() {
 }
 
 #[test]
+fn a_start_of_the_state() {
+    let mut m = opened();
+    let (security, integrity) = (label(2, &[1]), label(0, &[]));
+    assert!(m.get(0, ANN, PLANS, Mode::Read).unwrap().is_granted());
+    assert!(m.get(0, SEC, ROOT, Mode::Write).unwrap().is_granted());
+    assert_eq!(m.create(0, SEC, ROOT, security, integrity).unwrap().object, Some(MADE));
+    assert!(m.give(0, SEC, BOB, MADE, Mode::Append).unwrap().is_granted());
+    assert!(m.get(0, BOB, MADE, Mode::Append).unwrap().is_granted());
+    assert!(m.delete(0, SEC, MEMO).unwrap().is_granted());
+    let told = m.state_start().unwrap();
+    let now = [(ROOT, ROOT), (PLANS, PLANS), (TOOL, Object(2)), (MADE, Object(3))];
+    for (old, new) in now {
+        assert_eq!(told.object(old), Some(new));
+    }
+    for gone in [MEMO, Object(5), Object(4095), Object(4096), Object(u16::MAX)] {
+        assert_eq!(told.object(gone), None, "{gone:?}");
+    }
+    let new = Monitor::open(&told.text).unwrap();
+    assert_eq!((m.entry_count(), new.entry_count(), new.counts().next), (6, 0, Some(Object(4))));
+    for (subject, (old, object)) in [ANN, BOB, SEC, AUD].into_iter().flat_map(|s| now.map(|o| (s, o))) {
+        assert_eq!(new.subject_info(subject), m.subject_info(subject));
+        assert_eq!(new.pair(subject, object), m.pair(subject, old));
+        for mode in Mode::ALL {
+            let replies = [(&m, old), (&new, object)]
+                .map(|(it, object)| it.decide(&Request::Get { subject, object, mode }).reply);
+            assert_eq!(replies[0], replies[1], "{subject:?} {old:?} {mode:?}");
+        }
+    }
+    assert_eq!(now.map(|it| new.object_name(it.1).unwrap()), ["root", "plans", "tool", "o4"]);
+    // what it opens with is a state, whose objects have their numbers already
+    let again = new.state_start().unwrap();
+    assert_eq!((&again.text, again.object(MADE)), (&told.text, None));
+    assert!(now.iter().all(|it| again.object(it.1) == Some(it.1)));
+}
+
+#[test]
 fn names_of_numbers() {
     let long = "n".repeat(32);
     let text = std::str::from_utf8(START).unwrap().replace("\"tool\"", &format!("\"{long}\""));

@@ -75,4 +75,14 @@ impl Handle {
         })?;
         Ok((rows, remedy))
     }
+
+    /// The text of `mls_state_start` with the new numbers of objects, or its status.
+    pub fn state_start(&self) -> Result<(Vec<u8>, Vec<u16>), c_int> {
+        let mut numbers = vec![0; usize::from(MLS_OBJECTS)];
+        let at = numbers.as_mut_ptr();
+        // SAFETY: this call is the only one; `copied` lends room and a length that are its own, and the numbers are new
+        // and as many as the call writes.
+        let text = copied(|room, cap, len| unsafe { mls_state_start(self.0.get(), room, cap, len, at) })?;
+        Ok((text, numbers))
+    }
 }

@@ -1,4 +1,4 @@
-use Rattle.std.proofs.Common.{◌≡◌, ◌+◌, ◌≤◌, true, false, cond, sym, ap, subst, ◌∙◌, arith}
+use Rattle.std.proofs.Common.{◌≡◌, ◌+◌, ◌≤◌, false, cond, sym, ap, subst, ◌∙◌, arith}
 use Rattle.mls_state.specs.State.{is_active}
 use Rattle.mls_c.specs.Infos.{active_count}
 use Rattle.mls_c.proofs.Rows.{count_few, count_more}

@@ -5,4 +5,4 @@ pub returns-clause-ok : goal.returns-clause-ok
 returns-clause-ok c =
     follows c.args.names.now c.args.start c.in_ok-monitor.monitor.start c.args.second.now c.args.journal.now c.in_ok-monitor.monitor.entries
     c.entries.result.now c.in_ok-answer.field-0 c.in_ok-monitor.ensures.start c.in_ok-monitor.ensures.text c.entries.ensures.legal
-    c.entries.ensures.entries c.in_ok-answer.ensures
+    (c.entries.ensures.whole c.in_ok-monitor.ensures.forgotten) c.in_ok-answer.ensures

@@ -1,56 +1,38 @@
 //! The state that a journal leads to, as a start file.
-ghost use Rattle.std.specs.Prelude.{◌≡◌, ◌≤◌, IsTrue, IfOk, IfErr, OnOk, string_bytes, string_len};
-ghost use Rattle.mls_snapshots.specs.Snapshots.{IsSnapshotOf, SnapshotsAt, RefusesSnapshot, IsOwnFault};
+ghost use Rattle.std.specs.Prelude.{◌≡◌, ◌≤◌, IfOk, IfErr, string_bytes, string_len};
+ghost use Rattle.mls_compare.specs.Snapshots.{IsSnapshotOf, SnapshotsAt, RefusesSnapshot, IsOwnFault};
 ghost use Rattle.mls_replay.specs.declared.checking.TheConstants.{START_LIMIT};
 
-use crate::order::object_order;
-use crate::same::is_like;
 use crate::snapshot_fault::SnapshotFault;
-use crate::start_text::start_text;
-use mls_replay::{Replay, START_LIMIT, replay_at};
-use mls_start_file::{LoadFault, read_start};
-use mls_tables::ObjectId;
-use std::alloc::{AllocError, Global};
-
-/// Whether a text opens with a replay's state, but that its objects are numbered by an order.
-fn opens_alike(
-    alloc: Global,
-    replay: &Replay,
-    order: &[ObjectId],
-    text: &str,
-) -> Result<bool, AllocError>
-    ensures { IfOk result (λ alike. IsTrue alike → IsSnapshotOf replay.now text.now) }
-{
-    match read_start(alloc, text.as_bytes()) {
-        Ok(loaded) => {
-            let alike = is_like(alloc, replay.names(), replay.state(), order, &loaded);
-            drop(loaded);
-            alike
-        }
-        Err(LoadFault::Memory) => Err(AllocError),
-        Err(_) => Ok(false),
-    }
-}
+use mls_replay::{CommandFault, QuestionFault, Replay, START_LIMIT, replay_at};
+use mls_snapshots::{StateStart, StateStartFault, start_of_state};
+use std::alloc::Global;
 
 /// The start file of a replay's state.
 ///
 /// # Errors
 /// `TooLong` where it has too many bytes, `Differs` where it doesn't open with that state, `Question` where an
 /// allocation failed.
+#[tactic(auto, using(crate::proofs::Replayed::snapshot_is))]
 fn snapshot_of(alloc: Global, replay: &Replay) -> Result<String, SnapshotFault>
     ensures ok { IfOk result (λ text. IsSnapshotOf replay.now (string_bytes text)) }
     ensures few { IfOk result (λ text. string_len text ≤ START_LIMIT) }
     ensures fault { IfErr result (λ fault. IsOwnFault replay.now fault) }
 {
-    let order = object_order(alloc, replay.state())?;
-    let text = start_text(alloc, replay.names(), replay.state(), &order)?;
-    if !opens_alike(alloc, replay, &order, text.as_str())? {
-        return Err(SnapshotFault::Differs);
+    match start_of_state(alloc, replay.names(), replay.state()) {
+        Ok(made) => {
+            let StateStart { text, order } = made;
+            drop(order);
+            if text.len() > START_LIMIT {
+                return Err(SnapshotFault::TooLong);
+            }
+            Ok(text)
+        }
+        Err(StateStartFault::Memory) => Err(SnapshotFault::Question(QuestionFault::Files(
+            CommandFault::Memory,
+        ))),
+        Err(StateStartFault::Differs) => Err(SnapshotFault::Differs),
     }
-    if text.len() > START_LIMIT {
-        return Err(SnapshotFault::TooLong);
-    }
-    Ok(text)
 }
 
 /// The state that a journal leads to from a start file, or the one before the entry of a number, as a start file that

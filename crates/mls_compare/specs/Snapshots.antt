@@ -4,23 +4,14 @@ use Rattle.mls_replay.specs.declared.checking.TheConstants.{START_LIMIT}
 use Rattle.mls_replay.specs.declared.command.CommandFault.TheVariants.{Memory}
 use Rattle.mls_replay.specs.Replays.{Replayed, ReplaysAt, RefusesAt}
 use Rattle.mls_replay.specs.declared.question_fault.QuestionFault.TheVariants.{Files}
-use Rattle.mls_start_file.specs.Says.{SaysStart}
-use Rattle.mls_start_file.specs.Ties.{Loaded}
-use Rattle.mls_snapshots.specs.Orders.{IsOrder}
-use Rattle.mls_snapshots.specs.Renaming.{AreRenamed}
-use Rattle.mls_snapshots.specs.Renumbering.{IsSameBy}
-use Rattle.mls_snapshots.specs.declared.snapshot_fault.SnapshotFault.{SnapshotFault}
-use Rattle.mls_snapshots.specs.declared.snapshot_fault.SnapshotFault.TheVariants.{Question, TooLong, Differs}
+use Rattle.mls_snapshots.specs.Starts.{IsStartBy}
+use Rattle.mls_compare.specs.declared.snapshot_fault.SnapshotFault.{SnapshotFault}
+use Rattle.mls_compare.specs.declared.snapshot_fault.SnapshotFault.TheVariants.{Question, TooLong, Differs}
 
--- A text says a start and names that are a replay's state and names, but that the objects are numbered by their places
--- in an order of the active ones. (own)
-pub record IsSnapshotOf (r : Replayed) (text : List ℕ) : Type 0 where
-  pub order : List ℕ
-  pub opened : Loaded
-  pub says : SaysStart text opened
-  pub ordered : IsOrder r.state order
-  pub state : IsSameBy r.state opened.start order
-  pub names : AreRenamed r.names opened.names order
+-- A text says a start of a replay's state and names, but that the objects are numbered by their places in an order of
+-- the active ones. (own)
+abbrev pub IsSnapshotOf : Replayed → List ℕ → Type 0
+IsSnapshotOf r text = (order : List ℕ) × IsStartBy r.names r.state order text
 
 -- A start file and a journal are replayed, and the state before the entry of a number, or the last, is the one that the
 -- text says a start of. (own)

@@ -1,7 +1,6 @@
 //! Why there is no start file of a state.
 
-use mls_replay::{CommandFault, QuestionFault};
-use std::alloc::AllocError;
+use mls_replay::QuestionFault;
 use thiserror::Error;
 
 /// Why there is no start file of the state that a journal leads to.
@@ -20,24 +19,11 @@ pub enum SnapshotFault {
 
 impl From<QuestionFault> for SnapshotFault {
     ghost use Rattle.std.specs.Prelude.{◌≡◌};
-    ghost use Rattle.mls_snapshots.specs.declared.snapshot_fault.SnapshotFault.TheVariants.{Question};
+    ghost use Rattle.mls_compare.specs.declared.snapshot_fault.SnapshotFault.TheVariants.{Question};
 
     ghost from_gives = { λ cause fault. fault ≡ Question cause };
 
     fn from(cause: QuestionFault) -> SnapshotFault {
         SnapshotFault::Question(cause)
-    }
-}
-
-impl From<AllocError> for SnapshotFault {
-    ghost use Rattle.std.specs.Prelude.{◌≡◌};
-    ghost use Rattle.mls_replay.specs.declared.command.CommandFault.TheVariants.{Memory};
-    ghost use Rattle.mls_replay.specs.declared.question_fault.QuestionFault.TheVariants.{Files};
-    ghost use Rattle.mls_snapshots.specs.declared.snapshot_fault.SnapshotFault.TheVariants.{Question};
-
-    ghost from_gives = { λ _ fault. fault ≡ Question (Files Memory) };
-
-    fn from(_: AllocError) -> SnapshotFault {
-        SnapshotFault::Question(QuestionFault::Files(CommandFault::Memory))
     }
 }
