@@ -113,7 +113,8 @@ UNKNOWN = [
 ]
 
 STARTS = [
-    "/subjects: no subject", *times(2, "/objects/1/parent: not before it"), "/subjects/0/current: maximum does not dominate it",
+    "/subjects: no subject", "/objects/1/parent: not before it, in a cycle", "/objects/1/parent: not before it",
+    "/subjects/0/current: maximum does not dominate it",
     "/objects/1/security: does not dominate the parent's", "/objects/1/integrity: the parent's does not dominate it",
 ]
 
@@ -167,7 +168,9 @@ SEVERAL = [
       "/matrix/0/modes/2: no such mode", "/accesses/0/subject: no such subject", "/accesses/0/object: no such object",
       "/accesses/0/modes/0: no such mode"]),
     ([(rows.CHILD, ",".join(rows.CHILD.replace('"o"', f'"{it}"').replace('"r"', f'"{above}"') for it, above in ("op", "pr", "qq", "xo")))],
-     ["/objects/1/parent: not before it", "/objects/3/parent: not before it"]),
+     ["/objects/1/parent: not before it", "/objects/3/parent: not before it, in a cycle"]),
+    ([(rows.CHILD, ",".join(rows.CHILD.replace('"o"', f'"{it}"').replace('"r"', f'"{above}"') for it, above in ("ao", "oq", "po", "qp")))],
+     ["/objects/1/parent: not before it", "/objects/2/parent: not before it, in a cycle"]),
     ([(rows.LEVELS, '["U","C"]'), (rows.SUBJECT, TWO_SUBJECTS.replace('"current":"U"', '"current":"C"'))],
      ["/subjects/0/current: maximum does not dominate it", "/subjects/1/current: maximum does not dominate it"]),
     ([(rows.LEVELS, '["U","C"]'), ('null,"security":"U"', 'null,"security":"C"'),
@@ -305,7 +308,7 @@ def changes_of_the_standard_file():
         (text.replace(b'"name": "bob"', b'"name": "ann"'), "/subjects/1/name: repeated name"),
         (text.replace(b'"T:A,B"', b'"T:A,A"'), "/subjects/2/maximum: repeated category"),
         (text.replace(plans, plans.replace(b"root", b"roof")), "/objects/1/parent: no such object"),
-        (text.replace(plans, plans.replace(b"root", b"plans")), "/objects/1/parent: not before it"),
+        (text.replace(plans, plans.replace(b"root", b"plans")), "/objects/1/parent: not before it, in a cycle"),
     ):
         same(places(refused), [place])
 
@@ -335,6 +338,15 @@ def files_of_one_name_or_of_many_cells():
     cells[100] = rows.CELL.replace("read", "reed")
     cells[-1] = rows.CELL.replace('"s"', '"z"')
     same(places(changed([(rows.CELL, ",".join(cells))])), ["/matrix/100/modes/0: no such mode", "/matrix/59999/subject: no such subject"])
+
+
+def is_below_itself(name, above):
+    """Whether the parents from an object on lead back to it."""
+    seen, at = [], above[name]
+    while at is not None and at not in seen:
+        seen.append(at)
+        at = above[at]
+    return name in seen
 
 
 class Damage:
@@ -436,8 +448,9 @@ class Damage:
         for n, row in enumerate(objects[1:], 1):
             if self.rnd.random() < 0.5:
                 row["parent"] = objects[self.rnd.randrange(n, len(objects))]["name"]
-                found.append(f"/objects/{n}/parent: not before it")
-        return found
+                found.append(n)
+        above = {row["name"]: row["parent"] for row in objects}
+        return [f"/objects/{n}/parent: not before it{', in a cycle' * is_below_itself(objects[n]['name'], above)}" for n in found]
 
     def current(self):
         """Subjects whose maximum lacks a level or a category that their current label has."""

@@ -1,5 +1,9 @@
 """Questions about the examples, with answers that were worked out by hand from docs/POLICY.md and docs/FORMATS.md."""
-from outside import EXAMPLES, put, ran_program, same
+import os
+import pty
+import subprocess
+
+from outside import EXAMPLES, PROGRAM, SECONDS, put, ran_program, same
 
 STANDARD, OFFICE, HELD = (f"{EXAMPLES}/{it}.json" for it in ("standard", "office", "held"))
 # The journal of examples/standard.script.
@@ -86,8 +90,24 @@ HELD_EXPLAINED = [
 BAD_LINES = [
     ("", "form"), ("   ", "form"), ("; ann get-read plans", "form"), ("ann get-read", "form"), ("ann get-read plans\n", "form"),
     ("ann get-read plans\nbob get-read memo", "form"), ("ann get-read $x", "form"), ("$x = sec create root U hi", "form"),
-    ("ann frob plans", "form"), ("ann get-read #01", "form"), ("zoe get-read plans", "name"), ("ann get-read plan", "name"),
-    ("sec create root Q hi", "label"), ("bob level S:A,A", "label"),
+    ("ann frob plans", "form"), ("ann get-read #01", "form"), ("zoe get-reads plan", "form"), ("zoe get-read plan extra", "form"),
+]
+
+# Lines of which a word names nothing, with what is told of it: the first such word, and the nearest name that can stand there.
+WRONG_WORDS = [
+    ("zoe get-read plans", "name: zoe (bob?)"), ("ann get-read plan", "name: plan (plans?)"), ("boob get-read memmo", "name: boob (bob?)"),
+    ("  sec  delete   memmo ", "name: memmo (memo?)"), ("#7 get-read pan", "name: pan (plans?)"), ("ann check read emo", "name: emo (memo?)"),
+    ("ann release write rooot", "name: rooot (root?)"), ("sec give read anna memo", "name: anna (ann?)"),
+    ("sec rescind read bob tooled", "name: tooled (tool?)"), ("sec give read xx yy", "name: xx"), ("sec get-read sec", "name: sec"),
+    ("a get-read plans", "name: a"), ("an get-read plans", "name: an (ann?)"), ("nn get-read plans", "name: nn (ann?)"),
+    ("sub get-read plans", "name: sub (bob?)"), ("ann get-read " + 32 * "x", "name: " + 32 * "x"), ("ann get-read mo", "name: mo"),
+    ("zoe level Q", "name: zoe (bob?)"), ("ann create memmo Q low", "name: memmo (memo?)"), ("ann relabel memmo Q", "name: memmo (memo?)"),
+    ("sec create root Q hi", "label: Q"), ("sec create root U low", "label: low (lo?)"), ("sec create root U:AB low", "label: U:AB (A?)"),
+    ("sec create root Us hii", "label: Us (U?)"), ("bob level S:A,A", "label: S:A,A"), ("bob level UC", "label: UC (U?)"),
+    ("bob level C:BB,AA", "label: C:BB,AA (B?)"), ("bob level C:A,BA", "label: C:A,BA (A?)"), ("bob level C:", "label: C:"),
+    ("bob level :A", "label: :A"), ("bob level S:AA:A", "label: S:AA:A (A?)"), ("bob level SA:AA", "label: SA:AA (S?)"),
+    ("bob level S,A", "label: S,A (S?)"), ("sec relabel memo CC", "label: CC (C?)"), ("sec relabel #9 CC", "label: CC (C?)"),
+    ("sec create root " + 9000 * "x" + " hi", "label: " + 9000 * "x"),
 ]
 
 WHO = [
@@ -237,6 +257,16 @@ def refused(words, told, status=1):
     same((words, *ran_program(words)), (words, status, b"", told.encode()))
 
 
+def on_terminal(words):
+    """The status, and what the program writes where its standard error is a terminal."""
+    ours, theirs = pty.openpty()
+    done = subprocess.run([PROGRAM, *words], timeout=SECONDS, stdin=subprocess.DEVNULL, stdout=subprocess.DEVNULL, stderr=theirs)
+    os.close(theirs)
+    told = os.read(ours, 65536).decode()
+    os.close(ours)
+    return done.returncode, told
+
+
 def lines_that_are_asked():
     for line, text, status in ASKED:
         answered(["ask", STANDARD, line], text, status)
@@ -254,6 +284,27 @@ def lines_that_ask_nothing():
         for command in ("ask", "explain"):
             refused([command, STANDARD, line], f"mls: line: bad {fault}\n")
     refused(["ask", STANDARD, "a" * 20001], "mls: line: bad form\n")
+
+
+def words_that_name_nothing():
+    for line, told in WRONG_WORDS:
+        for command in ("ask", "explain"):
+            refused([command, STANDARD, line], f"mls: line: bad {told}\n")
+    for word, told in (("memmo", " (memo?)"), ("memo ", " (memo?)"), ("pl\u00e4n", " (plans?)"), ("mo", ""), ("ann", ""), ("#01", ""), ("", ""),
+                       (34 * "p", ""), ("plans" + 30 * "s", "")):
+        refused(["who", STANDARD, word], f"mls: {word}: bad name{told}\n")
+    put("memo.journal", MEMO)
+    refused(["ask", "--journal", "memo.journal", STANDARD, "ann get-red plans"], "mls: line: bad form\n")
+    refused(["ask", "--journal", "memo.journal", STANDARD, "ann get-read plns"], "mls: line: bad name: plns (plans?)\n")
+
+
+def where_a_check_points():
+    """On a terminal the line of a refused start is followed by the command that tells where its fault applies."""
+    put("empty.json", b"")
+    refused(["check", "empty.json"], "mls: empty.json: start 1 Json\n")
+    for words, told in ((["check", "empty.json"], "mls: empty.json: start 1 Json\r\nmls lint empty.json tells where\r\n"),
+                        (["check", "none.json"], "mls: none.json: file\r\n"), (["lattice", "empty.json"], "mls: empty.json: start 1 Json\r\n")):
+        same((words, *on_terminal(words)), (words, 1, told))
 
 
 def subjects_who_may():
@@ -307,11 +358,11 @@ def listed_entries():
     put("strange.journal", STRANGE)
     for words, text, status in LISTED:
         answered(["journal", *words, STANDARD, "strange.journal"], text, status)
-    refused(["journal", "--subject", "zoe", STANDARD, "strange.journal"], "mls: zoe: bad name\n")
+    refused(["journal", "--subject", "zoe", STANDARD, "strange.journal"], "mls: zoe: bad name (bob?)\n")
     refused(["journal", "--object", "file", STANDARD, "strange.journal"], "mls: file: bad name\n")
-    refused(["journal", "--by", "zoe", STANDARD, "strange.journal"], "mls: zoe: bad name\n")
-    refused(["journal", "--object", "file", "--by", "yan", "--subject", "zoe", STANDARD, "strange.journal"], "mls: zoe: bad name\n")
-    refused(["journal", "--object", "file", "--by", "yan", "--subject", "ann", STANDARD, "strange.journal"], "mls: yan: bad name\n")
+    refused(["journal", "--by", "zoe", STANDARD, "strange.journal"], "mls: zoe: bad name (bob?)\n")
+    refused(["journal", "--object", "file", "--by", "yan", "--subject", "zoe", STANDARD, "strange.journal"], "mls: zoe: bad name (bob?)\n")
+    refused(["journal", "--object", "file", "--by", "yan", "--subject", "ann", STANDARD, "strange.journal"], "mls: yan: bad name (ann?)\n")
 
 
 def entries_about_a_subject():
@@ -379,8 +430,8 @@ def one_repeat_and_nothing_else():
 
 
 CHECKS = [
-    lines_that_are_asked, lines_that_are_explained, lines_that_ask_nothing, subjects_who_may, entries_that_are_explained, states_before_entries,
-    faults_in_their_order, words_that_no_question_has, listed_entries, states_of_a_journal, suspicious_examples, powers_of_subjects,
-    drawing_of_the_standard_start,
-    entries_about_a_subject, words_that_begin_no_reply, members_that_are_repeated, one_repeat_and_nothing_else,
+    lines_that_are_asked, lines_that_are_explained, lines_that_ask_nothing, words_that_name_nothing, where_a_check_points, subjects_who_may,
+    entries_that_are_explained, states_before_entries, faults_in_their_order, words_that_no_question_has, listed_entries, states_of_a_journal,
+    suspicious_examples, powers_of_subjects, drawing_of_the_standard_start, entries_about_a_subject, words_that_begin_no_reply,
+    members_that_are_repeated, one_repeat_and_nothing_else,
 ]

@@ -128,11 +128,11 @@ def faults_of_spans_in_their_order():
     refused([*names, HELD, "forged.journal"], "mls: forged.journal: replay 2 Differs at 1 expected no star\n", 3)
     for option in ("--at", "--from"):
         refused([*names, option, "6", HELD, "opened.journal"], "mls: opened.journal: at most 5\n")
-    refused([*names, "--at", "5", HELD, "opened.journal"], "mls: zoe: bad name\n")
-    refused([*names, "--to", "6", HELD, "opened.journal"], "mls: zoe: bad name\n")
+    refused([*names, "--at", "5", HELD, "opened.journal"], "mls: zoe: bad name (bob?)\n")
+    refused([*names, "--to", "6", HELD, "opened.journal"], "mls: zoe: bad name (bob?)\n")
     refused([*names[2:], "--subject", "ann", HELD, "opened.journal"], "mls: file: bad name\n")
-    for word in ("", "#", "#01", "#65536", "$x", "Plans", "plans "):
-        refused([f"--object={word}", HELD, "opened.journal"], f"mls: {word}: bad name\n")
+    for word, meant in (("", ""), ("#", ""), ("#01", ""), ("#65536", ""), ("$x", ""), ("Plans", " (plans?)"), ("plans ", " (plans?)"), ("ann", "")):
+        refused([f"--object={word}", HELD, "opened.journal"], f"mls: {word}: bad name{meant}\n")
     refused(["--from", "3", "--to", "2", "no.json", "no.journal"], "mls: --from 3: above --to 2\n", 2)
 
 

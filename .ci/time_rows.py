@@ -309,7 +309,7 @@ def faults_of_times_in_their_order():
     refused(asked(STANDARD, "back.marks", "back.journal", *when), "mls: back.marks: no mark by then\n")
     refused(asked(STANDARD, "back.marks", "back.journal", "--at", "4"), "mls: back.journal: at most 3\n")
     refused(["journal", "--subject", "zoe", *files[:1], "none.marks", *files[2:]], "mls: none.marks: line 1: mark\n")
-    refused(["journal", "--subject", "zoe", *files], "mls: zoe: bad name\n")
+    refused(["journal", "--subject", "zoe", *files], "mls: zoe: bad name (bob?)\n")
     os.mkdir("folder.marks")
     refused(asked(STANDARD, "folder.marks", "back.journal"), "mls: folder.marks: file\n")
 

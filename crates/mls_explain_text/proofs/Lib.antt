@@ -1,1 +1,4 @@
+mod Kept
+mod PartsLaw
 mod Seeing
+mod Words

@@ -1,8 +1,13 @@
 pub mod Bases
+pub mod Culprit
 pub mod Explained
+pub mod FaultLines
+pub mod Files
+pub mod Nearest
 pub mod Obstacles
+pub mod Parts
 pub mod Question
 pub mod Responses
+pub mod Sorts
 pub mod Terms
 pub mod Who
-pub mod Files

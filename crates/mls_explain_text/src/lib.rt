@@ -1,4 +1,5 @@
-//! The text behind the questions ask, explain and who.
+//! The text behind the questions ask, explain and who, and for all questions the lines that tell which word names
+//! nothing.
 #![tactic(auto)]
 
 mod asked;
@@ -6,9 +7,13 @@ mod asking;
 mod basis;
 mod condition_line;
 mod controls;
+mod culprit;
+mod cutting;
 mod explained;
 mod explaining;
+mod fault_lines;
 mod level_changes;
+mod nearest;
 mod obstacles;
 mod parts;
 mod permitted;
@@ -16,18 +21,24 @@ mod prospect_line;
 mod question;
 mod remedy_line;
 mod response;
+mod sort;
 mod sources;
 mod term;
+mod theorems;
 mod told;
 mod undefined;
 mod worded;
+mod wrong;
 
 pub use asked::ask;
 pub use asking::answer_in;
 pub use explained::explain;
 pub use explaining::explain_in;
+pub use fault_lines::{fault_line, word_line};
 pub use mls_wording::Answer;
 pub use permitted::who_in;
 pub use question::read_question;
 pub use response::{Response, answer_to};
+pub use sort::Sort;
+pub use theorems::words_are_parts;
 pub use told::who;

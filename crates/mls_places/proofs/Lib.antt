@@ -1,3 +1,4 @@
+pub mod Cycles
 pub mod Each
 pub mod NameLists
 pub mod Known

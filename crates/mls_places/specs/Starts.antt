@@ -1,6 +1,6 @@
 -- Where the start that a file says is refused.
-use Rattle.std.specs.Prelude.{ℕ, List, [], ◌∷◌, codes, nat_lt, map, slice_get, Option, option_map, unwrap_or}
-use Rattle.std.specs.Prelude.{if◌then◌else◌}
+use Rattle.std.specs.Prelude.{ℕ, zero, suc, Bool, false, ◌||◌, ◌==◌, ◌-◌, List, [], ◌∷◌, codes, length, nat_lt, map}
+use Rattle.std.specs.Prelude.{slice_get, Option, Some, None, option_map, unwrap_or, if◌then◌else◌}
 use Rattle.mls_facts.specs.Numbered.{holds_of}
 use Rattle.mls_labels.specs.Label.{dominates}
 use Rattle.mls_state.specs.declared.subject.ObjectLabels.{ObjectLabels}
@@ -20,15 +20,34 @@ use Rattle.mls_places.specs.Accesses.{accesses_text}
 use Rattle.mls_places.specs.Each.{at_each}
 use Rattle.mls_places.specs.Places.{line, on_list, on_member}
 
+-- The place of the parent of the object of a number, the root's being none, where its parent's name is an object's; of
+-- the objects below the root in the file's order. (own)
+abbrev pub parent_of : List LabelledChild → ℕ → Option ℕ
+parent_of children n = if n == 0 then None else having (slice_get children (n - 1)) (λ c. c.parent)
+
+-- Parents lead from a place to this one, in at most so many steps. (own)
+unfoldable pub leads_to : List LabelledChild → ℕ → ℕ → Option ℕ → Bool
+leads_to children n zero next = false
+leads_to children n (suc steps) None = false
+leads_to children n (suc steps) (Some p) = p == n || leads_to children n steps (parent_of children p)
+
+-- The parents from an object on lead back to it: a cycle has no more objects than there are below the root. (own)
+abbrev pub is_in_cycle : List LabelledChild → ℕ → Bool
+is_in_cycle children n = leads_to children n (length children) (parent_of children n)
+
+-- What is wrong with a parent that isn't before an object. (own)
+abbrev pub before_words : Bool → List ℕ
+before_words in_cycle = if in_cycle then codes "not before it, in a cycle" else codes "not before it"
+
 -- The line of an object that doesn't stand behind its parent. (own)
-abbrev pub before_line : ℕ → LabelledChild → List ℕ
-before_line n c =
+abbrev pub before_line : List LabelledChild → ℕ → LabelledChild → List ℕ
+before_line children n c =
     if holds_of (λ p. nat_lt p n) c.parent then []
-    else line (on_member (codes "objects") n (codes "parent") (codes "not before it"))
+    else line (on_member (codes "objects") n (codes "parent") (before_words (is_in_cycle children n)))
 
 -- The lines of such objects. (own)
 abbrev pub before_lines : Labelled → List ℕ
-before_lines labelled = at_each before_line 1 labelled.children
+before_lines labelled = at_each (before_line labelled.children) 1 labelled.children
 
 -- The line of a subject whose maximum label doesn't dominate its current label. (own)
 abbrev pub current_line : ℕ → Subject → List ℕ

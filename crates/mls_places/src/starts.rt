@@ -6,7 +6,8 @@ ghost use Rattle.mls_start_text.specs.Labelling.{labels_of};
 ghost use Rattle.mls_start_text.specs.LabelViews.{labels_view};
 ghost use Rattle.mls_start_text.specs.Naming.{names_of};
 ghost use Rattle.mls_start_text.specs.Views.{file_view};
-ghost use Rattle.mls_places.specs.Starts.{before_line, before_lines, current_line, current_lines, object_labels};
+ghost use Rattle.mls_places.specs.Starts.{parent_of, is_in_cycle, before_words, before_line, before_lines};
+ghost use Rattle.mls_places.specs.Starts.{current_line, current_lines, object_labels};
 ghost use Rattle.mls_places.specs.Starts.{parent_labels, security_line, security_lines, integrity_line};
 ghost use Rattle.mls_places.specs.Starts.{integrity_lines, labelled_lines, by_labels, start_text};
 ghost use Rattle.mls_places.specs.Places.{line, on_list, place_view};
@@ -43,12 +44,63 @@ fn is_before(parent: Option<usize>, n: usize) -> bool
     }
 }
 
-/// Appends the line of an object that doesn't stand behind its parent.
-fn push_parent(text: &mut String, n: usize, child: &LabelledChild) -> Result<(), AllocError>
-    ensures { OnOk result (string_bytes text.new ≡ string_bytes text.old ++ before_line n child.now) }
+/// The place of the parent of the object of a number.
+fn parent_of(labels: &FileLabels, n: usize) -> Option<usize>
+    ensures { result ≡ parent_of (labels_view labels.now).children n }
 {
-    let place = Place::member("objects", n, "parent", "not before it");
-    push_unless(text, is_before(child.parent, n), place)
+    if n == 0 {
+        return None;
+    }
+    let child = labels.children.get(n - 1)?;
+    child.parent
+}
+
+/// Whether the parents from an object on lead back to it.
+fn is_in_cycle(labels: &FileLabels, n: usize) -> bool
+    ensures { result ≡ is_in_cycle (labels_view labels.now).children n }
+{
+    let mut next = parent_of(labels, n);
+    let mut left = labels.children.len();
+    while left > 0 {
+        let Some(parent) = next else {
+            return false;
+        };
+        if parent == n {
+            return true;
+        }
+        next = parent_of(labels, parent);
+        left -= 1;
+    }
+    false
+}
+
+/// What is wrong with a parent that isn't before an object.
+fn before_words(is_in_cycle: bool) -> &'static str
+    ensures { result.now ≡ before_words is_in_cycle }
+{
+    if is_in_cycle {
+        "not before it, in a cycle"
+    } else {
+        "not before it"
+    }
+}
+
+/// Appends the line of an object that doesn't stand behind its parent.
+fn push_parent(
+    text: &mut String,
+    labels: &FileLabels,
+    n: usize,
+    child: &LabelledChild,
+) -> Result<(), AllocError>
+    ensures { OnOk result
+        (string_bytes text.new
+        ≡ string_bytes text.old ++ before_line (labels_view labels.now).children n child.now) }
+{
+    if is_before(child.parent, n) {
+        return Ok(());
+    }
+    let words = before_words(is_in_cycle(labels, n));
+    push_place(text, Place::member("objects", n, "parent", words))
 }
 
 /// Appends the lines of objects that don't stand behind their parents.
@@ -57,7 +109,7 @@ fn push_before(text: &mut String, labels: &FileLabels) -> Result<(), AllocError>
         (string_bytes text.new ≡ string_bytes text.old ++ before_lines (labels_view labels.now)) }
 {
     for (n, child) in labels.children.iter().enumerate() {
-        push_parent(text, n + 1, child)?;
+        push_parent(text, labels, n + 1, child)?;
     }
     Ok(())
 }

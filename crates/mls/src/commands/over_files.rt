@@ -3,6 +3,7 @@ use crate::commands::output::command_refused;
 use mls_replay::{CommandFault, JOURNAL_LIMIT, START_LIMIT, check_start, replay_journal};
 use mls_start_file::{Loaded, read_start};
 use mls_terminal::{Input, Progress, file_refused, print};
+use std::io::IsTerminal;
 use std::process::ExitCode;
 
 /// A start file.
@@ -62,6 +63,13 @@ pub fn fault_file<'a>(fault: &CommandFault, start: &'a str, journal: &'a str) ->
     }
 }
 
+/// Says which command tells where the fault of a start file applies, where standard error is a terminal.
+fn point_to_lint(rt: &HostRuntime, start: &str) {
+    if rt.stderr().is_terminal() {
+        let _ = eprintln!(rt; "mls lint {start} tells where");
+    }
+}
+
 /// Checks a start file.
 pub fn check(progress: &mut Progress<'_>, start: &str) -> ExitCode {
     let bytes = match start_file(start).read(progress) {
@@ -71,7 +79,12 @@ pub fn check(progress: &mut Progress<'_>, start: &str) -> ExitCode {
     progress.begin("checking");
     let checked = check_start(progress.rt().alloc(), &bytes);
     drop(bytes);
-    ended(progress, checked, start, start)
+    let is_refused = matches!(&checked, Err(CommandFault::Load(_)));
+    let status = ended(progress, checked, start, start);
+    if is_refused {
+        point_to_lint(progress.rt(), start);
+    }
+    status
 }
 
 /// Replays a journal whose start file was read.

@@ -7,10 +7,12 @@ use crate::questions::listing::{journal, state};
 use crate::questions::snapshots::start_of_state;
 use crate::questions::spans::held;
 use crate::questions::starts::{lattice, lint};
+use mls_explain_text::{Sort, fault_line, word_line};
 use mls_lines::LineFault;
 use mls_replay::QuestionFault;
-use mls_terminal::{Progress, Question, print, refused};
+use mls_terminal::{NO_MEMORY, Progress, Question, print, refused};
 use mls_wording::Answer;
+use std::alloc::AllocError;
 use std::process::ExitCode;
 
 /// The status of a command whose answer is a negative one.
@@ -25,33 +27,43 @@ pub(crate) struct Named<'a> {
     pub subject: &'a str,
     /// The word that is to name an object.
     pub object: &'a str,
+    /// The line that is asked about.
+    pub line: &'a str,
 }
 
 impl<'a> Named<'a> {
-    /// The files of a question that names neither a subject nor an object by a word.
+    /// The files of a question that names neither a subject nor an object by a word, and is about no line.
     pub(crate) fn files(start: &'a str, journal: &'a str) -> Named<'a> {
         Named {
             start,
             journal,
             subject: "",
             object: "",
+            line: "",
         }
     }
 }
 
-/// The text of a line's fault.
-fn line_words(fault: LineFault) -> &'static str {
-    match fault {
-        LineFault::BadForm => "mls: line: bad form",
-        LineFault::UnknownName => "mls: line: bad name",
-        LineFault::BadLabel => "mls: line: bad label",
+/// Writes the line of a fault to standard error.
+fn told(rt: &HostRuntime, line: Result<String, AllocError>) -> ExitCode {
+    match line {
+        Ok(text) => {
+            let status = refused(rt, text.as_str(), 1);
+            drop(text);
+            status
+        }
+        Err(_) => refused(rt, NO_MEMORY, 1),
     }
 }
 
-/// Tells that a word names nothing.
-pub(crate) fn name_refused(rt: &HostRuntime, word: &str) -> ExitCode {
-    let _ = eprintln!(rt; "mls: {word}: bad name");
-    ExitCode::from(1)
+/// Tells for which fault a line is refused, by the bytes of the start file.
+fn line_refused(rt: &HostRuntime, start: &[u8], line: &str, fault: LineFault) -> ExitCode {
+    told(rt, fault_line(rt.alloc(), start, line, fault))
+}
+
+/// Tells that a word names no subject, or no object, of the bytes of a start file.
+pub(crate) fn name_refused(rt: &HostRuntime, start: &[u8], sort: Sort, word: &str) -> ExitCode {
+    told(rt, word_line(rt.alloc(), start, sort, word))
 }
 
 /// Tells that a journal has no entry of a number.
@@ -60,10 +72,11 @@ fn entry_refused(rt: &HostRuntime, journal: &str, what: &str, number: u64) -> Ex
     ExitCode::from(1)
 }
 
-/// Tells why a question has no answer.
+/// Tells why a question has no answer, by the bytes of the start file.
 pub(crate) fn question_refused(
     rt: &HostRuntime,
     named: Named<'_>,
+    start: &[u8],
     fault: QuestionFault,
 ) -> ExitCode {
     match fault {
@@ -72,9 +85,9 @@ pub(crate) fn question_refused(
         }
         QuestionFault::AtMost(entries) => entry_refused(rt, named.journal, "at most", entries),
         QuestionFault::NoEntry(entry) => entry_refused(rt, named.journal, "no entry", entry),
-        QuestionFault::Line(fault) => refused(rt, line_words(fault), 1),
-        QuestionFault::Subject => name_refused(rt, named.subject),
-        QuestionFault::Object => name_refused(rt, named.object),
+        QuestionFault::Line(fault) => line_refused(rt, start, named.line, fault),
+        QuestionFault::Subject => name_refused(rt, start, Sort::Subject, named.subject),
+        QuestionFault::Object => name_refused(rt, start, Sort::Object, named.object),
     }
 }
 
@@ -90,16 +103,17 @@ pub(crate) fn answered(rt: &HostRuntime, answer: Answer) -> ExitCode {
     }
 }
 
-/// Ends a command: prints the answer, or tells why there is none.
+/// Ends a command over the bytes of a start file: prints the answer, or tells why there is none.
 pub(crate) fn ended(
     progress: &mut Progress<'_>,
     named: Named<'_>,
+    start: &[u8],
     done: Result<Answer, QuestionFault>,
 ) -> ExitCode {
     progress.end();
     match done {
         Ok(answer) => answered(progress.rt(), answer),
-        Err(fault) => question_refused(progress.rt(), named, fault),
+        Err(fault) => question_refused(progress.rt(), named, start, fault),
     }
 }
 

@@ -7,12 +7,13 @@ use mls_terminal::{Progress, Source};
 use std::process::ExitCode;
 
 /// The words that fault lines name.
-fn named<'a>(source: &Source<'a>, object: &'a str) -> Named<'a> {
+fn named<'a>(source: &Source<'a>, object: &'a str, line: &'a str) -> Named<'a> {
     Named {
         start: source.start,
         journal: source.journal.unwrap_or(""),
         subject: "",
         object,
+        line,
     }
 }
 
@@ -36,15 +37,16 @@ pub(crate) fn ask(progress: &mut Progress<'_>, source: &Source<'_>, line: &str) 
         *at,
         line.as_bytes(),
     );
+    let status = ended(progress, named(source, "", line), start, done);
     drop(bytes);
-    ended(progress, named(source, ""), done)
+    status
 }
 
 /// Prints why a line, or an entry, is answered as it is.
-pub(crate) fn explain(
+pub(crate) fn explain<'x>(
     progress: &mut Progress<'_>,
-    source: &Source<'_>,
-    line: Option<&str>,
+    source: &Source<'x>,
+    line: Option<&'x str>,
 ) -> ExitCode {
     let bytes = match read_source(progress, source) {
         Ok(bytes) => bytes,
@@ -56,11 +58,13 @@ pub(crate) fn explain(
         at,
         ..
     } = &bytes;
-    let line = line.map(|line| line.as_bytes());
+    let text = line.map(|line| line.as_bytes());
     progress.begin("explaining");
-    let done = explained(progress.rt().alloc(), start, journal.as_deref(), *at, line);
+    let done = explained(progress.rt().alloc(), start, journal.as_deref(), *at, text);
+    let about = named(source, "", line.unwrap_or(""));
+    let status = ended(progress, about, start, done);
     drop(bytes);
-    ended(progress, named(source, ""), done)
+    status
 }
 
 /// Prints who may get an object.
@@ -90,6 +94,7 @@ pub(crate) fn who(
         object,
         mode,
     );
+    let status = ended(progress, named(source, object, ""), start, done);
     drop(bytes);
-    ended(progress, named(source, object), done)
+    status
 }

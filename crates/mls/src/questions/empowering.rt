@@ -62,12 +62,14 @@ pub(crate) fn powers(
     };
     progress.begin("looking");
     let done = tell_of(progress.rt().alloc(), &bytes, subject, downgrades);
-    drop(bytes);
     let named = Named {
         start: source.start,
         journal: source.journal.unwrap_or(""),
         subject: subject.unwrap_or(""),
         object: "",
+        line: "",
     };
-    ended(progress, named, done)
+    let status = ended(progress, named, &bytes.start, done);
+    drop(bytes);
+    status
 }

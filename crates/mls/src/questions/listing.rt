@@ -1,13 +1,19 @@
 //! The commands that list what a journal has, and the state that it leads to.
 use crate::questions::answering::{Named, answered, ended, name_refused, question_refused};
 use crate::questions::sources::{Bytes, read_source};
+use mls_explain_text::Sort;
 use mls_marks::Marks;
 use mls_reports::{Filter, ListFault, Words, list_journal, list_state};
 use mls_terminal::{JournalWords, Progress, Source};
 use std::process::ExitCode;
 
-/// Tells why the entries of a journal aren't listed.
-fn list_refused(rt: &HostRuntime, words: &JournalWords<'_>, fault: ListFault) -> ExitCode {
+/// Tells why the entries of a journal aren't listed, by the bytes of the start file.
+fn list_refused(
+    rt: &HostRuntime,
+    words: &JournalWords<'_>,
+    start: &[u8],
+    fault: ListFault,
+) -> ExitCode {
     let filter = &words.filter;
     match fault {
         ListFault::Question(fault) => {
@@ -16,10 +22,11 @@ fn list_refused(rt: &HostRuntime, words: &JournalWords<'_>, fault: ListFault) ->
                 journal: words.journal,
                 subject: filter.subject.unwrap_or(""),
                 object: filter.object.unwrap_or(""),
+                line: "",
             };
-            question_refused(rt, named, fault)
+            question_refused(rt, named, start, fault)
         }
-        ListFault::By => name_refused(rt, filter.by.unwrap_or("")),
+        ListFault::By => name_refused(rt, start, Sort::Subject, filter.by.unwrap_or("")),
     }
 }
 
@@ -100,12 +107,13 @@ pub(crate) fn journal(progress: &mut Progress<'_>, words: &JournalWords<'_>) -> 
         &filter,
         words.form,
     );
-    drop(bytes);
     progress.end();
-    match done {
+    let status = match done {
         Ok(answer) => answered(rt, answer),
-        Err(fault) => list_refused(rt, words, fault),
-    }
+        Err(fault) => list_refused(rt, words, &bytes.start, fault),
+    };
+    drop(bytes);
+    status
 }
 
 /// Prints the state that a journal leads to.
@@ -123,7 +131,8 @@ pub(crate) fn state(progress: &mut Progress<'_>, source: &Source<'_>) -> ExitCod
     let journal = journal.as_deref().unwrap_or(b"".as_slice());
     progress.begin("listing");
     let done = list_state(progress.rt().alloc(), start, journal, *at);
-    drop(bytes);
     let named = Named::files(source.start, source.journal.unwrap_or(""));
-    ended(progress, named, done)
+    let status = ended(progress, named, start, done);
+    drop(bytes);
+    status
 }

@@ -1,14 +1,19 @@
 //! The command that prints the state that a journal leads to as a start file.
 use crate::questions::answering::{Named, question_refused};
 use crate::questions::sources::{Bytes, read_source};
-use mls_snapshots::{SnapshotFault, snapshot};
+use mls_compare::{SnapshotFault, snapshot};
 use mls_terminal::{Progress, Source, print, refused};
 use std::process::ExitCode;
 
 /// Tells why there is no start file.
-fn snapshot_refused(rt: &HostRuntime, named: Named<'_>, fault: SnapshotFault) -> ExitCode {
+fn snapshot_refused(
+    rt: &HostRuntime,
+    named: Named<'_>,
+    start: &[u8],
+    fault: SnapshotFault,
+) -> ExitCode {
     match fault {
-        SnapshotFault::Question(fault) => question_refused(rt, named, fault),
+        SnapshotFault::Question(fault) => question_refused(rt, named, start, fault),
         SnapshotFault::TooLong => refused(rt, "mls: output: too long", 1),
         SnapshotFault::Differs => refused(rt, "mls: output: differs", 1),
     }
@@ -37,13 +42,14 @@ pub(crate) fn start_of_state(progress: &mut Progress<'_>, source: &Source<'_>) -
     progress.begin("writing");
     let rt = progress.rt();
     let done = snapshot(rt.alloc(), start, journal, *at);
-    drop(bytes);
     progress.end();
-    match done {
+    let status = match done {
         Ok(text) => printed(rt, text),
         Err(fault) => {
             let named = Named::files(source.start, source.journal.unwrap_or(""));
-            snapshot_refused(rt, named, fault)
+            snapshot_refused(rt, named, start, fault)
         }
-    }
+    };
+    drop(bytes);
+    status
 }

@@ -22,12 +22,14 @@ pub(crate) fn held(progress: &mut Progress<'_>, words: &HeldWords<'_>) -> ExitCo
     let journal = journal.as_deref().unwrap_or(b"".as_slice());
     progress.begin("listing");
     let done = list_held(progress.rt().alloc(), start, journal, &words.filter);
-    drop(bytes);
     let named = Named {
         start: words.start,
         journal: words.journal,
         subject: words.filter.subject.unwrap_or(""),
         object: words.filter.object.unwrap_or(""),
+        line: "",
     };
-    ended(progress, named, done)
+    let status = ended(progress, named, start, done);
+    drop(bytes);
+    status
 }

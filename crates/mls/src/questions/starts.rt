@@ -64,7 +64,7 @@ fn lint_bytes(progress: &mut Progress<'_>, path: &str, bytes: &[u8]) -> ExitCode
     };
     let done = asked(findings(rt.alloc(), bytes, &loaded));
     drop(loaded);
-    ended(progress, Named::files(path, ""), done)
+    ended(progress, Named::files(path, ""), bytes, done)
 }
 
 /// Prints what is suspicious in a start and its file, or where the start file's fault applies.
@@ -87,5 +87,5 @@ pub(crate) fn lattice(progress: &mut Progress<'_>, path: &str) -> ExitCode {
     };
     let done = asked(drawn(progress.rt().alloc(), loaded.names(), loaded.start()));
     drop(loaded);
-    ended(progress, Named::files(path, ""), done)
+    ended(progress, Named::files(path, ""), b"".as_slice(), done)
 }

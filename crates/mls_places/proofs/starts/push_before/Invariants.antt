@@ -6,4 +6,4 @@ use Rattle.mls_places.proofs.starts.push_before.Given as goal
 -- the lines of what was looked at are written
 abbrev pub invariant-loop-n : goal.invariant-loop-n
 invariant-loop-n l =
-    string_bytes l.text ≡ string_bytes l.fn.text ++ at_each (before_line) 1 (take l.n l.child-items)
+    string_bytes l.text ≡ string_bytes l.fn.text ++ at_each (before_line l.labels.children.items) 1 (take l.n l.child-items)
