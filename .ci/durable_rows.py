@@ -717,22 +717,57 @@ def input_that_is_a_folder():
 
 @needs_proof
 def memory_that_runs_out():
-    """With just the room that it takes to start, and a megabyte, the lines before are answered and in the journal, and no others."""
+    """With little more room than it takes to start, the lines before are answered and in the journal, and no others."""
 
     def within(room, asked, journal):
         put(journal, b"")
         return served(asked, journal, preexec_fn=lambda: resource.setrlimit(resource.RLIMIT_AS, (room, room)))
 
-    step = 1 << 18
-    room = next(it for it in range(step, 256 * step, step) if within(it, b"", "m")[0] == 0)
-    due = Due(20_000 * REQUESTS)
-    status, output, error = within(room + 4 * step, due.asked, "m")
-    same((status, error), (1, b"mls: memory\n"))
-    assert output.startswith(ready(0)) and output.endswith(b"\n")
-    written = output[len(ready(0)):]
-    assert 0 < len(written) < len(due.answers), "memory didn't run out on the way"
-    same(content("m"), due.behind(written))
-    same(served(b"", "m"), (0, ready(content("m").count(b"\n")), b""))
+    step, page = 1 << 18, 1 << 13
+    least = next(it for it in range(step, 256 * step, step) if within(it, b"", "m")[0] == 0)
+    due, fronts = Due(2_000 * REQUESTS), 0
+    for room in range(least - step, least + 8 * step, page):
+        status, output, error = within(room, due.asked, "m")
+        if status == 0:
+            same((output, error), (ready(0) + due.answers, b""))
+            break
+        if not output.startswith(ready(0)):
+            # (it lacked memory to start)
+            continue
+        same((status, error), (1, b"mls: memory\n"))
+        written = output[len(ready(0)):]
+        assert not written or written.endswith(b"\n")
+        fronts += len(written) > 0
+        same(content("m"), due.behind(written))
+        same(served(b"", "m"), (0, ready(content("m").count(b"\n")), b""))
+    assert status == 0 and fronts > 0, f"memory ran out on the way {fronts} times, status {status}"
+
+def resident(service):
+    """The bytes that a service has in memory, and the most that it had."""
+    with open(f"/proc/{service.run.pid}/status", encoding="ascii") as file:
+        fields = dict(line.split(":", 1) for line in file)
+    return [int(fields[name].split()[0]) * 1024 for name in ("VmRSS", "VmHWM")]
+
+
+@needs_proof
+def memory_that_stays():
+    """What was answered is in the file alone: 300,000 entries leave a service no more memory than it had, and one that
+    starts over them has just the file's bytes, until it has read them."""
+    many, each = 300_000, b"bob get-read memo\n"
+    with Serving("m") as service:
+        service.says(ready(0))
+        service.feed(many * each, 1 << 16, closes=False)
+        service.says(many * b"no star\n")
+        _, most = resident(service)
+        assert most < 8 << 20, f"at the most {most} bytes"
+        same(service.end(), (0, b"", b""))
+    size = os.path.getsize("m")
+    with Serving("m") as service:
+        service.says(ready(many))
+        now, most = resident(service)
+        assert now < 8 << 20, f"{now} bytes once it is ready"
+        assert most < size + (8 << 20), f"at the most {most} bytes over a file of {size}"
+        same(service.end(), (0, b"", b""))
 
 
 CHECKS = [
@@ -768,6 +803,7 @@ CHECKS = [
     lines_of_sessions_by_chance,
     numbers_behind_answers,
     trial_that_syncs_nothing,
+    memory_that_stays,
     names_before_the_first_line,
     session_beside_sessions,
     client_that_closes_its_end,
