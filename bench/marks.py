@@ -66,7 +66,7 @@ def measure_services():
 def measure_runs():
     names, left, rnd = [], ENTRIES, random.Random(2)
     while left:
-        text = b"".join(rnd.choices(LINES, k=min(left, SCRIPT_BYTES // 24)))
+        text = b"".join(rnd.choices(LINES, k=min(left, SCRIPT_BYTES // 22)))
         left -= text.count(b"\n")
         names.append(path(f"script{len(names)}"))
         with open(names[-1], "wb") as script:
