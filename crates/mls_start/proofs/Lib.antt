@@ -1,5 +1,7 @@
 mod Cells
+mod TripleLists
 mod Faultless
 pub mod Laws
 mod Opening
 mod Secured
+mod Sourced

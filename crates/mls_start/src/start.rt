@@ -1,5 +1,5 @@
 //! A secure start.
-ghost use Rattle.std.specs.Prelude.{◌≡◌, ℕ, ◌≤◌, None, nat_lt, IfOk};
+ghost use Rattle.std.specs.Prelude.{◌≡◌, ℕ, ◌≤◌, None, nat_lt, IfOk, OnOk, IfErr};
 ghost use Rattle.std.specs.FinSet as set;
 ghost use Rattle.mls_tables.specs.declared.limits.TheConstants.{MAX_SUBJECTS, MAX_OBJECTS};
 ghost use Rattle.mls_state.specs.State.{is_subject};
@@ -7,45 +7,72 @@ ghost use Rattle.mls_state.specs.Properties.{IsSecure};
 ghost use Rattle.mls_start.specs.Rows.{opening, AreCounts};
 ghost use Rattle.mls_start.specs.StartFaults.{start_fault};
 
+use crate::counting::count_triples;
 use crate::counts::Counts;
+use crate::source::Source;
 use crate::start_builder::StartBuilder;
 use mls_labels::Bounds;
-use mls_state::State;
+use mls_state::{State, is_secure};
 use mls_tree::Profile;
 use std::alloc::{AllocError, Allocator, Global};
 use std::marker::Model;
+use thiserror::Error;
 
 /// What a monitor starts from: subjects with their labels, a tree of objects with theirs, the matrix and the current
 /// accesses. It is seen as the state that it opens with, which is secure, always.
 #[derive(Drop)]
 pub struct Start<A: Allocator = Global> {
-    rows: StartBuilder<A>,
+    source: Source<A>,
     counts: Counts,
 }
 
 impl<A: Allocator> Model for Start<A> {
-    ghost use Rattle.std.specs.Prelude.{◌≡◌, None};
     ghost use Rattle.mls_state.specs.State.{State, state_code};
-    ghost use Rattle.mls_start.specs.Rows.{opening, AreCounts};
-    ghost use Rattle.mls_start.specs.StartFaults.{start_fault};
+    ghost use Rattle.mls_start.specs.Sources.{opens_with, IsFaultless, HasCounts};
 
     ghost Value = { State };
 
     ghost coded = { state_code };
 
-    ghost view = { λ a. opening a.rows };
+    ghost view = { λ a. opens_with a.source };
 
-    ghost invariant = { λ a. (start_fault a.rows ≡ None) × AreCounts a.rows a.counts };
+    ghost invariant = { λ a. IsFaultless a.source × HasCounts (opens_with a.source) a.counts };
+}
+
+/// Why no start was made of a state.
+#[derive(Clone, Copy, Debug, PartialEq, Eq, Error)]
+pub enum StateRefused {
+    /// The state isn't secure.
+    #[error("the state is not secure")]
+    NotSecure,
+    /// An allocation failed.
+    #[error("out of memory")]
+    Memory,
+}
+
+impl From<AllocError> for StateRefused {
+    ghost use Rattle.std.specs.Prelude.{◌≡◌};
+    ghost use Rattle.mls_start.specs.declared.start.StateRefused.TheVariants.{Memory};
+
+    ghost from_gives = { λ _ refused. refused ≡ Memory };
+
+    fn from(_: AllocError) -> StateRefused {
+        StateRefused::Memory
+    }
 }
 
 impl<A: Allocator> Start<A> {
     /// The start of rows with which nothing is wrong, and which have so many triples.
+    #[tactic(auto, unfolding(crate::specs::Rows::opening))]
     pub(crate) fn of(rows: StartBuilder<A>, counts: Counts) -> Start<A>
         requires faultless { start_fault rows ≡ None }
         requires counts { AreCounts rows counts }
         ensures { result ≡ opening rows }
     {
-        Start { rows, counts }
+        Start {
+            source: Source::Rows(rows),
+            counts,
+        }
     }
 
     /// How many subjects there are: 1 to `MAX_SUBJECTS`. Their numbers are those below it. The start opens secure,
@@ -57,20 +84,26 @@ impl<A: Allocator> Start<A> {
         ensures most { result ≤ MAX_SUBJECTS }
         ensures secure { IsSecure self.now }
     {
-        self.rows.subject_count()
+        match &self.source {
+            Source::Rows(rows) => rows.subject_count(),
+            Source::State(state) => state.subject_count(),
+        }
     }
 
-    /// How many objects there are, with the root: at most `MAX_OBJECTS`.
+    /// The number that the next object will have, at most `MAX_OBJECTS`: of a start that was built, how many objects
+    /// there are, with the root.
     #[tactic(auto, unfolding(crate::specs::Rows::opening))]
     pub fn object_count(&self) -> u16
         ensures count { result ≡ self.now.next }
         ensures most { result ≤ MAX_OBJECTS }
     {
-        self.rows.object_count()
+        match &self.source {
+            Source::Rows(rows) => rows.object_count(),
+            Source::State(state) => state.next(),
+        }
     }
 
     /// How many triples the matrix permits.
-    #[tactic(auto, unfolding(crate::specs::Rows::opening))]
     pub fn cell_count(&self) -> usize
         ensures { result ≡ set.len self.now.matrix }
     {
@@ -78,7 +111,6 @@ impl<A: Allocator> Start<A> {
     }
 
     /// How many current accesses the start opens with.
-    #[tactic(auto, unfolding(crate::specs::Rows::opening))]
     pub fn access_count(&self) -> usize
         ensures { result ≡ set.len self.now.accesses }
     {
@@ -90,7 +122,10 @@ impl<A: Allocator> Start<A> {
     pub fn profile(&self) -> Profile
         ensures { result ≡ self.now.profile }
     {
-        self.rows.profile()
+        match &self.source {
+            Source::Rows(rows) => rows.profile(),
+            Source::State(state) => state.profile(),
+        }
     }
 
     /// The bounds of the security labels.
@@ -98,7 +133,10 @@ impl<A: Allocator> Start<A> {
     pub fn security(&self) -> Bounds
         ensures { result ≡ self.now.security }
     {
-        self.rows.security()
+        match &self.source {
+            Source::Rows(rows) => rows.security(),
+            Source::State(state) => state.security(),
+        }
     }
 
     /// The bounds of the integrity labels.
@@ -106,7 +144,10 @@ impl<A: Allocator> Start<A> {
     pub fn integrity(&self) -> Bounds
         ensures { result ≡ self.now.integrity }
     {
-        self.rows.integrity()
+        match &self.source {
+            Source::Rows(rows) => rows.integrity(),
+            Source::State(state) => state.integrity(),
+        }
     }
 }
 
@@ -121,6 +162,31 @@ impl<A: Allocator + Clone> Start<A> {
     {
         // that it opens secure
         let _ = self.subject_count();
-        self.rows.opening(alloc)
+        match &self.source {
+            Source::Rows(rows) => rows.opening(alloc),
+            Source::State(state) => state.duplicate(alloc),
+        }
+    }
+
+    /// A start that opens with a state, if that is secure: its objects keep their numbers. Room for the state's triples
+    /// is allocated, and given back.
+    ///
+    /// # Errors
+    /// The state is given up.
+    /// - `NotSecure` where the state isn't secure.
+    /// - `Memory` where it is, and an allocation failed.
+    pub fn of_state(alloc: A, state: State<A>) -> Result<Start<A>, StateRefused>
+        ensures ok { IfOk result (λ start. start ≡ state) }
+        ensures secure { OnOk result (IsSecure state) }
+        ensures refused { IfErr result (λ fault. fault ≡ StateRefused.NotSecure → IsSecure state → ⊥) }
+    {
+        if !is_secure(&state) {
+            return Err(StateRefused::NotSecure);
+        }
+        let counts = count_triples(&alloc, &state)?;
+        Ok(Start {
+            source: Source::State(state),
+            counts,
+        })
     }
 }

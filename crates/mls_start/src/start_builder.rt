@@ -13,7 +13,7 @@ use mls_tree::Profile;
 use std::alloc::{AllocError, Allocator, Global};
 use std::marker::Model;
 
-mod cells;
+pub(crate) mod cells;
 mod faults;
 mod judging;
 mod opening;

@@ -1,7 +1,8 @@
 //! The state: subjects, objects, the matrix and the current accesses.
-ghost use Rattle.std.specs.Prelude.{◌≡◌, ◌<◌, IsTrue, Some, IfSome, nat_lt, ℕ};
+ghost use Rattle.std.specs.Prelude.{◌≡◌, ◌<◌, ◌≤◌, IsTrue, Some, IfSome, nat_lt, ℕ};
 ghost use Rattle.std.specs.FinMap as map;
 ghost use Rattle.std.specs.FinSet as set;
+ghost use Rattle.mls_tables.specs.declared.limits.TheConstants.{MAX_SUBJECTS, MAX_OBJECTS};
 ghost use Rattle.mls_tables.specs.declared.mode.Mode.{Mode};
 ghost use Rattle.mls_state.specs.State.{is_subject, is_active};
 ghost use Rattle.mls_state.specs.Properties.{HasTree, HasWholeTables};
@@ -68,10 +69,12 @@ impl<A: Allocator> State<A> {
         &self.objects[o.number() as usize]
     }
 
-    /// How many subjects there are. Their numbers are those below it.
+    /// How many subjects there are: 1 to `MAX_SUBJECTS`. Their numbers are those below it.
     #[tactic(auto, using(crate::proofs::Tables::known_below))]
     pub fn subject_count(&self) -> u16
-        ensures { (s : ℕ) → is_subject self.now s ≡ nat_lt s result }
+        ensures count { (s : ℕ) → is_subject self.now s ≡ nat_lt s result }
+        ensures least { 1 ≤ result }
+        ensures most { result ≤ MAX_SUBJECTS }
     {
         self.matrix.subjects()
     }
@@ -103,6 +106,7 @@ impl<A: Allocator> State<A> {
     /// tables of the state agree, always.
     pub fn next(&self) -> u16
         ensures number { result ≡ self.now.next }
+        ensures most { result ≤ MAX_OBJECTS }
         ensures tree { HasTree self.now }
         ensures whole { HasWholeTables self.now }
     {

@@ -6,7 +6,7 @@ mod Indexes
 mod Laid
 pub mod Laws
 mod ModeBits
-mod Once
+pub mod Once
 mod Ordered
 mod Pairs
 mod Rows

@@ -1,10 +1,10 @@
 -- That the indexes give each triple of a set once.
 use Rattle.std.specs.Prelude.{◌≡◌, ℕ, ◌+◌, ◌<◌, ◌≤◌, Bool, true, false, cond, ◌&&◌, ◌||◌, List, [], ◌∷◌, filter, refl}
 use Rattle.std.specs.FinSet as set
-use Rattle.std.specs.List.{list_any, range_with_len, flat_map}
+use Rattle.std.specs.List.{list_any, range_with_len, flat_map, count_by}
 use Rattle.std.specs.List.Sorted.{IsStrictlyIncreasing, IsStrictlySortedBy}
 use Rattle.std.specs.Ordering.{nat_cmp}
-use Rattle.std.proofs.Common.{arith, sym, ap, subst, ◌∙◌, eqb}
+use Rattle.std.proofs.Common.{arith, sym, ap, subst, ◌∙◌, eqb, ltb}
 use Rattle.std.proofs.lemmas.Bool.{eqb-true, lt-ltb}
 use Rattle.std.proofs.lemmas.List.Sums.{sum_by-append, sum_by-cons}
 use Rattle.std.proofs.lemmas.Map.Keys.{sorted_tail, sorted_from_strictly_increasing}
@@ -15,11 +15,11 @@ use Rattle.mls_tables.specs.declared.limits.TheConstants.{MAX_SUBJECTS, MAX_OBJE
 use Rattle.mls_tables.specs.declared.mode.Mode.{Mode}
 use Rattle.mls_tables.specs.declared.mode.Mode.TheVariants.{Execute, Read, Append, Write}
 use Rattle.mls_tables.specs.Mode.{mode_number}
-use Rattle.mls_tables.specs.Triples.{Triple, TripleSet, is_triple}
+use Rattle.mls_tables.specs.Triples.{Triple, TripleSet, triple_cmp, is_triple}
 use Rattle.mls_tables.specs.Table.{IsWithin}
 use Rattle.mls_tables.specs.Held.{is_held, objects_of, subjects_of}
-use Rattle.mls_tables.specs.Once.{accesses_at, by_subject, by_object, times}
-use Rattle.mls_tables.proofs.Laws.{is_triple-true, held_at}
+use Rattle.mls_tables.specs.Once.{accesses_at, by_subject, by_object, each_below, times}
+use Rattle.mls_tables.proofs.Laws.{is_triple-true, held_at, triples_total, same_triples, eq_by_cmp-triple}
 use Rattle.mls_tables.proofs.Rows.{IsStrictlyIncreasing-listed}
 use Rattle.mls_tables.proofs.Indexes.{list_any-listed}
 use Rattle.mls_tables.proofs.Ordered.{behind_absent}
@@ -163,3 +163,36 @@ module _ (b : TripleSet) (t : Triple) where
     once_by_object =
         times-spread (λ o. flat_map (λ s. accesses_at b s o) (subjects_of b o)) t.1 (cond there 1 0) (range_with_len 0 m) column (range-rises m)
         ∙ in_range (list_any (eqb t.1) (range_with_len 0 m)) there (λ is. list_any-range t.1 m ∙ lt-ltb t.1 m (within t is).1)
+
+    below : (s : ℕ) → times t (flat_map (λ o. accesses_at b s o) (range_with_len 0 m)) ≡ cond (eqb t.0 s) (cond there 1 0) 0
+    below s =
+        times-spread (λ o. accesses_at b s o) t.1 (cond there (cond (eqb t.0 s) 1 0) 0) (range_with_len 0 m) (λ o. times-accesses_at s o ∙ second_first there (eqb t.0 s) (eqb t.1 o)) (range-rises m)
+        ∙ in_list (list_any (eqb t.1) (range_with_len 0 m)) there (eqb t.0 s) (λ is own. list_any-range t.1 m ∙ lt-ltb t.1 m (within t is).1)
+
+    pub once_below : times t (each_below b n m) ≡ cond there 1 0
+    once_below =
+        times-spread (λ s. flat_map (λ o. accesses_at b s o) (range_with_len 0 m)) t.0 (cond there 1 0) (range_with_len 0 n) below (range-rises n)
+        ∙ in_range (list_any (eqb t.0) (range_with_len 0 n)) there (λ is. list_any-range t.0 n ∙ lt-ltb t.0 n (within t is).0)
+
+-- what a list has, it has more often than never
+any-counted : {X : Type 0} (p : X → Bool) (xs : List X) → list_any p xs ≡ ltb 0 (count_by p xs)
+any-counted p [] = refl
+any-counted p (x ∷ xs) = first (p x) (list_any p xs) (count_by p xs) (any-counted p xs) ∙ sym (ap (ltb 0) (sum_by-cons (λ y. cond (p y) 1 0) x xs)) where
+  first : (b any : Bool) (n : ℕ) → any ≡ ltb 0 n → (b || any) ≡ ltb 0 (cond b 1 0 + n)
+  first true any n rest = let more : 0 < 1 + n = omega arith in sym (lt-ltb 0 (1 + n) more)
+  first false any n rest = rest ∙ ap (ltb 0) (let same : n ≡ 0 + n = omega arith in same)
+
+-- the list of the triples below is the set
+pub from_list-each_below : (b : TripleSet) (n m : ℕ) → n ≤ MAX_SUBJECTS → m ≤ MAX_OBJECTS → IsWithin n m b → set.from_list {R = triple_cmp} (each_below b n m) ≡ b
+from_list-each_below b n m few_subjects few_objects within = same_triples _ _ same where
+  at_most_one : (d : Bool) → ltb 0 (cond d 1 0) ≡ d
+  at_most_one true = refl
+  at_most_one false = refl
+
+  same : (t : Triple) → set.contains (set.from_list {R = triple_cmp} (each_below b n m)) t ≡ set.contains b t
+  same t =
+      set.contains-from_list triples_total (each_below b n m) t
+      ∙ ap (λ p. list_any p (each_below b n m)) (λ i u. eq_by_cmp-triple t u i)
+      ∙ any-counted (is_triple t) (each_below b n m)
+      ∙ ap (ltb 0) (once_below b t n m few_subjects few_objects within)
+      ∙ at_most_one (set.contains b t)

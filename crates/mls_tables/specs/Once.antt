@@ -18,6 +18,10 @@ by_subject b n = flat_map (λ s. flat_map (λ o. accesses_at b s o) (objects_of 
 abbrev pub by_object : TripleSet → ℕ → List Triple
 by_object b m = flat_map (λ o. flat_map (λ s. accesses_at b s o) (subjects_of b o)) (range_with_len 0 m)
 
+-- The triples that one comes by over the objects below a number of each subject below another. (own)
+abbrev pub each_below : TripleSet → ℕ → ℕ → List Triple
+each_below b n m = flat_map (λ s. flat_map (λ o. accesses_at b s o) (range_with_len 0 m)) (range_with_len 0 n)
+
 -- How often a triple stands in a list. (own)
 abbrev pub times : Triple → List Triple → ℕ
 times t ts = count_by (is_triple t) ts

@@ -17,6 +17,6 @@ loop-n-preserved g c = record {
 pub returns-clause-pairs : goal.returns-clause-pairs
 returns-clause-pairs g c = λ count known.
     let all : c.loop-n.n ≡ c.subject_count-n-end.result = omega arith in
-    let same = same_count c.subject_count-n-end.result count (λ s. sym (c.subject_count-n-end.ensures s) ∙ known s) in
+    let same = same_count c.subject_count-n-end.result count (λ s. sym (c.subject_count-n-end.ensures.count s) ∙ known s) in
     c.loop-n.invariant.pairs
     ∙ ap (λ k. flat_map (permitted_modes c.args.state.now c.args.o c.args.asked) (range_with_len 0 k)) (all ∙ same)

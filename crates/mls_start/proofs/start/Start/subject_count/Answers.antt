@@ -1,5 +1,5 @@
-use Rattle.mls_start.proofs.Faultless.{faultless, secure_opening}
+use Rattle.mls_start.proofs.Sourced.{secure_source}
 use Rattle.mls_start.proofs.start.Start.subject_count.Goals as goal
 
-pub returns-clause-secure : goal.returns-clause-secure
-returns-clause-secure g c = rw (← c.self.view_is) (secure_opening c.self.inside.rows (faultless c.self.inside.rows c.self.invariant.0))
+pub returns-in-Rows-clause-secure : goal.returns-in-Rows-clause-secure
+returns-in-Rows-clause-secure g c = rw (← c.self.view_is) (secure_source c.self.inside.source c.self.invariant.0)
