@@ -51,7 +51,7 @@ none_ascending : ascending (set.empty {R = nat_cmp}) ≡ []
 none_ascending = numbers_none (set.contains (set.empty {R = nat_cmp})) MAX_CATEGORIES 0 (λ q _. set.contains-empty nat_cmp q)
 
 -- what is a member of one alone
-in_one : (c q : ℕ) → set.contains (set.insert (set.empty {R = nat_cmp}) c) q ≡ nat_eq q c
+pub in_one : (c q : ℕ) → set.contains (set.insert (set.empty {R = nat_cmp}) c) q ≡ nat_eq q c
 in_one c q =
     set.contains-insert nat_cmp_total (set.empty {R = nat_cmp}) c q
     ∙ (λ i. unsigned_tied q c i || set.contains-empty nat_cmp q i) ∙ or_false (nat_eq q c) where
@@ -63,17 +63,17 @@ one_ascending : (c : ℕ) → c < MAX_CATEGORIES → ascending (set.insert (set.
 one_ascending c within = numbers_one (set.contains (set.insert (set.empty {R = nat_cmp}) c)) c (in_one c) MAX_CATEGORIES 0 (omega arith) (omega arith)
 
 -- what is written of a level alone is its name
-level_written : (s : Scheme) (n : ℕ) → written s (level_alone n) ≡ name_at s.levels n
+pub level_written : (s : Scheme) (n : ℕ) → written s (level_alone n) ≡ name_at s.levels n
 level_written s n = ap (λ ns. name_at s.levels n ++ words_after 58 (map (name_at s.categories) ns)) none_ascending ∙ append-nil (name_at s.levels n)
 
 -- what is written of the lowest level and a category has that one's name behind a colon
-category_written : (s : Scheme) (c : ℕ) → c < MAX_CATEGORIES → written s (lowest_with c) ≡ name_at s.levels 0 ++ (58 ∷ name_at s.categories c)
+pub category_written : (s : Scheme) (c : ℕ) → c < MAX_CATEGORIES → written s (lowest_with c) ≡ name_at s.levels 0 ++ (58 ∷ name_at s.categories c)
 category_written s c within =
     ap (λ ns. name_at s.levels 0 ++ words_after 58 (map (name_at s.categories) ns)) (one_ascending c within)
     ∙ ap (λ t. name_at s.levels 0 ++ (58 ∷ t)) (append-nil (name_at s.categories c))
 
 -- a scheme has the labels of its levels alone, and of its categories
-has_level : (s : Scheme) (n : ℕ) → n < length s.levels → IsTrue (has_label (bounds_of s) (level_alone n))
+pub has_level : (s : Scheme) (n : ℕ) → n < length s.levels → IsTrue (has_label (bounds_of s) (level_alone n))
 has_level s n within =
     let level : nat_lt n (length s.levels) ≡ true = grind (arith, nat_tests) in
     let none : each (set.empty {R = nat_cmp}) (λ q. nat_lt q (length s.categories)) ≡ true =
@@ -81,7 +81,7 @@ has_level s n within =
     (λ q there. absurd (let no : true ≡ false = sym there ∙ set.contains-empty nat_cmp q in cc)) in
     λ i. level i && none i
 
-has_category : (s : Scheme) (c : ℕ) → 0 < length s.levels → c < length s.categories → IsTrue (has_label (bounds_of s) (lowest_with c))
+pub has_category : (s : Scheme) (c : ℕ) → 0 < length s.levels → c < length s.categories → IsTrue (has_label (bounds_of s) (lowest_with c))
 has_category s c some within =
     let level : nat_lt 0 (length s.levels) ≡ true = grind (arith, nat_tests) in
     let one : each (set.insert (set.empty {R = nat_cmp}) c) (λ q. nat_lt q (length s.categories)) ≡ true =
@@ -110,7 +110,7 @@ same_names xs ys many same = same_gets xs ys at where
     from (inr x) (inr y) = y.1 ∙ sym x.1
 
 -- how many levels and categories a scheme has
-abbrev Counted : Scheme → Type 0
+abbrev pub Counted : Scheme → Type 0
 Counted s = (0 < length s.levels) × (length s.levels ≤ MAX_LEVELS) × (length s.categories ≤ MAX_CATEGORIES)
 
 first_three : (a b c : Bool) (rest : Option SchemeFault)
@@ -121,7 +121,7 @@ first_three false true c rest none = absurd (cc)
 first_three false false true rest none = absurd (cc)
 first_three false false false rest none = (refl, refl, refl)
 
-counted : (s : Scheme) → IsScheme s → Counted s
+pub counted : (s : Scheme) → IsScheme s → Counted s
 counted s faultless =
     let parts : (nat_eq (length s.levels) 0 ≡ false) × (nat_lt MAX_LEVELS (length s.levels) ≡ false) × (nat_lt MAX_CATEGORIES (length s.categories) ≡ false) =
     first_three (nat_eq (length s.levels) 0) (nat_lt MAX_LEVELS (length s.levels)) (nat_lt MAX_CATEGORIES (length s.categories)) _ faultless in

@@ -11,6 +11,7 @@ use Rattle.std.specs.FinSet.{FinSet, same_set, nat_cmp-IsAntisymmetric}
 use Rattle.mls_labels.specs.Label.{Label}
 use Rattle.mls_state.specs.State.{State, is_subject}
 use Rattle.mls_state.specs.Properties.{HasWholeTables}
+use Rattle.mls_snapshots.specs.Reading.{IsFixedSubject, HasFixedSubjects}
 use Rattle.mls_snapshots.specs.Renumbering.{IsSameSubject, HasSameSubjects}
 
 -- below a number or not
@@ -54,6 +55,16 @@ pub subjects_same : (v w : State) (count : ℕ) → ((s : ℕ) → is_subject v 
 subjects_same v w count first second whole others same = record {
   maximum = same_labels v.maximum w.maximum count first second (λ s below. (same s below).maximum);
   current = same_labels v.current w.current count (λ s. whole.current s ∙ first s) (λ s. others.current s ∙ second s) (λ s below. (same s below).current);
+  integrity = same_labels v.subject_integrity w.subject_integrity count (λ s. whole.subject_integrity s ∙ first s) (λ s. others.subject_integrity s ∙ second s)
+      (λ s below. (same s below).integrity);
+  trusted = same_trusted v w count first second whole others (λ s below. (same s below).trusted);
+}
+
+-- states with as many subjects, each of which is fixed, have the same subjects but for their current labels
+pub subjects_fixed : (v w : State) (count : ℕ) → ((s : ℕ) → is_subject v s ≡ nat_lt s count) → ((s : ℕ) → is_subject w s ≡ nat_lt s count)
+    → HasWholeTables v → HasWholeTables w → ((s : ℕ) → s < count → IsFixedSubject v w s) → HasFixedSubjects v w
+subjects_fixed v w count first second whole others same = record {
+  maximum = same_labels v.maximum w.maximum count first second (λ s below. (same s below).maximum);
   integrity = same_labels v.subject_integrity w.subject_integrity count (λ s. whole.subject_integrity s ∙ first s) (λ s. others.subject_integrity s ∙ second s)
       (λ s below. (same s below).integrity);
   trusted = same_trusted v w count first second whole others (λ s below. (same s below).trusted);

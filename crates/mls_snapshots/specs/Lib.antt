@@ -1,5 +1,7 @@
 pub mod Orders
+pub mod Reading
 pub mod Renaming
 pub mod Renumbering
 pub mod Schemes
 pub mod Starts
+pub mod States

@@ -1,4 +1,4 @@
-//! A state as a start file that opens with it, read back and compared with the state before it is given.
+//! States as texts: the text of a state, which is read back, and a start file that opens with a state but for numbers.
 #![tactic(auto)]
 
 mod cells;
@@ -6,11 +6,24 @@ mod names;
 mod new_names;
 mod objects;
 mod order;
+mod read_fault;
+mod rebuilding;
 mod same;
+mod scheme_names;
 mod schemes;
 mod start_text;
+mod state_line;
+mod state_lines;
+mod state_reading;
+mod state_rows;
 mod state_start;
+mod state_writing;
 mod subjects;
+mod table_lines;
 mod text_lists;
 
+pub use read_fault::ReadStateFault;
+pub use scheme_names::{category_names, level_names};
+pub use state_reading::read_state;
 pub use state_start::{StateStart, StateStartFault, start_of_state};
+pub use state_writing::state_text;

@@ -10,7 +10,7 @@ use mls_wording::push_number;
 use std::alloc::{AllocError, Global};
 
 /// Whether two texts are the same.
-fn is_same_text(one: &str, other: &str) -> bool
+pub(crate) fn is_same_text(one: &str, other: &str) -> bool
     ensures { IsTrue result → one.now ≡ other.now }
 {
     one == other

@@ -18,7 +18,7 @@ use std::alloc::{AllocError, Global};
 
 /// Whether the profile and the bounds of labels are those of another state.
 #[tactic(auto, using(mls_labels::proofs::Laws::bounds_same))]
-fn has_same_kind(state: &State, other: &State) -> bool
+pub(crate) fn has_same_kind(state: &State, other: &State) -> bool
     ensures profile { IsTrue result → other.now.profile ≡ state.now.profile }
     ensures security { IsTrue result → other.now.security ≡ state.now.security }
     ensures integrity { IsTrue result → other.now.integrity ≡ state.now.integrity }

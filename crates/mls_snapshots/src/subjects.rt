@@ -1,5 +1,6 @@
 //! Whether two states have the same subjects.
 ghost use Rattle.std.specs.Prelude.{IsTrue};
+ghost use Rattle.mls_snapshots.specs.Reading.{IsFixedSubject, HasFixedSubjects};
 ghost use Rattle.mls_snapshots.specs.Renumbering.{IsSameSubject, HasSameSubjects};
 
 use mls_state::State;
@@ -32,6 +33,37 @@ pub(crate) fn has_same_subjects(state: &State, other: &State) -> bool
     }
     for s in 0..count {
         if !is_same_subject(state, other, SubjectId::new(s)) {
+            return false;
+        }
+    }
+    true
+}
+
+/// Whether a subject is known in two states, with the same maximum and integrity labels, and is trusted in both or in
+/// neither.
+#[tactic(auto, using(mls_labels::proofs::Laws::labels_same))]
+fn is_fixed_subject(state: &State, other: &State, s: SubjectId) -> bool
+    ensures { IsTrue result → IsFixedSubject state.now other.now s }
+{
+    if !state.is_subject(s) || !other.is_subject(s) {
+        return false;
+    }
+    let (a, b) = (state.subject(s), other.subject(s));
+    a.maximum == b.maximum && a.integrity == b.integrity && a.trusted == b.trusted
+}
+
+/// Whether two states have the same subjects, with the same maximum and integrity labels and trust.
+pub(crate) fn has_fixed_subjects(state: &State, other: &State) -> bool
+    ensures { IsTrue result → HasFixedSubjects state.now other.now }
+{
+    state.agrees();
+    other.agrees();
+    let count = state.subject_count();
+    if other.subject_count() != count {
+        return false;
+    }
+    for s in 0..count {
+        if !is_fixed_subject(state, other, SubjectId::new(s)) {
             return false;
         }
     }

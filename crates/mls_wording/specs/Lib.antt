@@ -1,2 +1,3 @@
 pub mod RequestText
+pub mod Where
 pub mod Wording

@@ -5,6 +5,6 @@ use Rattle.mls_snapshots.proofs.subjects.has_same_subjects.Goals as goal
 
 pub returns : goal.returns
 returns c = λ _.
-    subjects_same c.args.state.now c.args.other.now c.subject_count-count.result c.subject_count-count.ensures
-    (λ s. c.subject_count.ensures s ∙ ap (nat_lt s) c.if-subject_count-count.false) c.agrees.ensures.whole c.agrees-2.ensures.whole
+    subjects_same c.args.state.now c.args.other.now c.subject_count-count.result c.subject_count-count.ensures.count
+    (λ s. c.subject_count.ensures.count s ∙ ap (nat_lt s) c.if-subject_count-count.false) c.agrees.ensures.whole c.agrees-2.ensures.whole
     (λ s below. c.loop-s.invariant s (omega arith))

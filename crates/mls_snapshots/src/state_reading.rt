@@ -1,0 +1,93 @@
+//! States read from their text.
+ghost use Rattle.std.specs.Prelude.{◌≡◌, IsTrue, IfOk, string_bytes};
+ghost use Rattle.mls_snapshots.specs.Reading.{IsOfStart};
+ghost use Rattle.mls_snapshots.specs.Renumbering.{HasSameSubjects};
+ghost use Rattle.mls_snapshots.specs.States.{state_text};
+ghost use Rattle.mls_state.specs.Properties.{IsSecure};
+
+use crate::names::is_same_text;
+use crate::read_fault::ReadStateFault;
+use crate::rebuilding::rebuild;
+use crate::same::has_same_kind;
+use crate::state_rows::StateRows;
+use crate::state_writing::state_text;
+use crate::subjects::has_fixed_subjects;
+use mls_lines::Names;
+use mls_start::{Start, StateRefused};
+use mls_state::State;
+use std::alloc::{AllocError, Global};
+
+/// The line, counted from 1, at which two texts begin to differ.
+fn first_difference(one: &str, other: &str) -> u64 {
+    let mut line: u64 = 1;
+    for (a, b) in one.bytes().zip(other.bytes()) {
+        if a != b {
+            break;
+        }
+        if a == b'\n' {
+            line = line.saturating_add(1);
+        }
+    }
+    line
+}
+
+/// The state whose text this is.
+fn read_text(alloc: Global, names: &Names, text: &str) -> Result<State, ReadStateFault>
+    ensures { IfOk result (λ state. state_text names.now state ≡ text.now) }
+{
+    let rows = StateRows::read(alloc, names, text)?;
+    let rebuilt = rebuild(alloc, names, &rows);
+    drop(rows);
+    let Some(state) = rebuilt? else {
+        return Err(ReadStateFault::Line(1));
+    };
+    let written = state_text(alloc, names, &state)?;
+    if !is_same_text(written.as_str(), text) {
+        return Err(ReadStateFault::Line(first_difference(written.as_str(), text)));
+    }
+    Ok(state)
+}
+
+/// Whether a state is of a start: what no rule changes is as there.
+fn is_of_start(alloc: Global, start: &Start, state: &State) -> Result<bool, AllocError>
+    ensures { IfOk result (λ is. IsTrue is → IsOfStart start.now state.now) }
+{
+    let opening = start.opening(alloc)?;
+    let is = has_same_kind(&opening, state) && has_fixed_subjects(&opening, state);
+    drop(opening);
+    Ok(is)
+}
+
+/// Reads the text of a state, with the names of its start, and gives a start that opens with just that state: its
+/// objects keep their numbers, and the next one gets the number that it would have got. It accepts what
+/// [`state_text`] writes of a secure state of that start, and nothing else.
+///
+/// # Errors
+/// - `Line` where the text isn't that of a state: the first line at which it differs, or that says nothing.
+/// - `OtherStart` where no rules lead from the start to such a state: profile, bounds of labels, or what no rule
+///   changes of subjects is not the start's.
+/// - `NotSecure` where the state isn't secure.
+/// - `Memory` as soon as an allocation fails.
+pub fn read_state(
+    alloc: Global,
+    names: &Names,
+    start: &Start,
+    bytes: &[u8],
+) -> Result<Start, ReadStateFault>
+    ensures text { IfOk result (λ begun. state_text names.now begun ≡ bytes.now) }
+    ensures start { IfOk result (λ begun. IsOfStart start.now begun) }
+    ensures secure { IfOk result (λ begun. IsSecure begun) }
+{
+    let Ok(text) = str::from_utf8(bytes) else {
+        return Err(ReadStateFault::Line(1));
+    };
+    let state = read_text(alloc, names, text)?;
+    if !is_of_start(alloc, start, &state)? {
+        return Err(ReadStateFault::OtherStart);
+    }
+    match Start::of_state(alloc, state) {
+        Ok(begun) => Ok(begun),
+        Err(StateRefused::NotSecure) => Err(ReadStateFault::NotSecure),
+        Err(StateRefused::Memory) => Err(ReadStateFault::Memory),
+    }
+}
