@@ -239,6 +239,29 @@ static void reasons(void) {
     mls_shared_destroy(&s);
 }
 
+/* A shared handle that goes on from the text of another one's state. */
+static void states(void) {
+    mls_shared s = MLS_SHARED_INIT, on = MLS_SHARED_INIT;
+    mls_request get = mls_request_of(MLS_GET, ANN, PLANS, MLS_READ);
+    mls_answer a;
+    mls_fault fault;
+    static char text[4096], again[4096];
+    size_t len, other;
+    CHECK(mls_shared_state_text(&s, text, sizeof text, &len) == MLS_ECLOSED);
+    CHECK(mls_shared_open(&s, start, start_len, &fault) == MLS_OK);
+    CHECK(mls_shared_submit(&s, 5, &get, &a) == MLS_OK && a.number == 0 && a.reply == MLS_YES);
+    CHECK(mls_shared_state_text(&s, NULL, 0, &len) == MLS_ERANGE && len > 100 && len < sizeof text);
+    CHECK(mls_shared_state_text(&s, text, sizeof text, &len) == MLS_OK && memcmp(text, "profile 1\n", 10) == 0);
+    CHECK(mls_shared_open_state(&on, start, start_len, NULL, 0, 1, &fault) == MLS_ESTATE && fault.kind == 1);
+    CHECK(mls_shared_open_state(&on, start, start_len, (const uint8_t *)text, len, 1, &fault) == MLS_OK);
+    CHECK(mls_shared_open_state(&on, start, start_len, (const uint8_t *)text, len, 1, &fault) == MLS_EOPEN);
+    CHECK(mls_shared_entries(&on) == 1 && mls_shared_forgotten(&on) == 1 && mls_shared_check(&on, ANN, PLANS, MLS_READ) == 1);
+    CHECK(mls_shared_state_text(&on, again, sizeof again, &other) == MLS_OK && other == len && memcmp(again, text, len) == 0);
+    CHECK(mls_shared_submit(&on, 5, &get, &a) == MLS_OK && a.number == 1);
+    mls_shared_destroy(&s);
+    mls_shared_destroy(&on);
+}
+
 int main(int argc, char **argv) {
     FILE *file = argc == 2 ? fopen(argv[1], "rb") : NULL;
     if (!file) return 2;
@@ -250,6 +273,7 @@ int main(int argc, char **argv) {
     made();
     readers();
     reasons();
+    states();
     if (!failed) puts("ok");
     return failed;
 }

@@ -20,6 +20,7 @@ static char *room(char *at, size_t cap) { return at || cap ? at : &nowhere; }
 
 int mls_open_bytes(mls_monitor *m, const uint8_t *start, size_t len, mls_fault *fault);
 int mls_resume_bytes(mls_monitor *m, const uint8_t *start, size_t len, const uint8_t *journal, size_t journal_len, mls_fault *fault);
+int mls_open_state_bytes(mls_monitor *m, const uint8_t *start, size_t len, const uint8_t *state, size_t state_len, uint64_t number, mls_fault *fault);
 int mls_entry_bytes(mls_monitor *m, uint64_t n, char *buf, size_t cap, size_t *len);
 int mls_subject_bytes(mls_monitor *m, const uint8_t *name, size_t len, uint16_t *subject);
 int mls_object_bytes(mls_monitor *m, const uint8_t *name, size_t len, uint16_t *object);
@@ -29,6 +30,7 @@ int mls_subject_name_bytes(mls_monitor *m, uint16_t subject, char *buf, size_t c
 int mls_object_name_bytes(mls_monitor *m, uint16_t object, char *buf, size_t cap, size_t *len);
 int mls_explain_rows(mls_monitor *m, const mls_request *request, mls_condition *rows, size_t cap, size_t *count, mls_remedy *remedy);
 int mls_state_start_bytes(mls_monitor *m, char *buf, size_t cap, size_t *len, uint16_t *numbers, size_t count);
+int mls_state_text_bytes(mls_monitor *m, char *buf, size_t cap, size_t *len);
 
 int mls_open(mls_monitor *m, const uint8_t *start, size_t len, mls_fault *fault) {
     return mls_open_bytes(m, bytes(start, len), len, fault);
@@ -36,6 +38,10 @@ int mls_open(mls_monitor *m, const uint8_t *start, size_t len, mls_fault *fault)
 
 int mls_resume(mls_monitor *m, const uint8_t *start, size_t len, const uint8_t *journal, size_t journal_len, mls_fault *fault) {
     return mls_resume_bytes(m, bytes(start, len), len, bytes(journal, journal_len), journal_len, fault);
+}
+
+int mls_open_state(mls_monitor *m, const uint8_t *start, size_t len, const uint8_t *state, size_t state_len, uint64_t number, mls_fault *fault) {
+    return mls_open_state_bytes(m, bytes(start, len), len, bytes(state, state_len), state_len, number, fault);
 }
 
 int mls_entry_text(mls_monitor *m, uint64_t n, char *buf, size_t cap, size_t *len) {
@@ -74,6 +80,10 @@ int mls_state_start(mls_monitor *m, char *buf, size_t cap, size_t *len, uint16_t
     return mls_state_start_bytes(m, room(buf, cap), cap, len, numbers, MLS_OBJECTS);
 }
 
+int mls_state_text(mls_monitor *m, char *buf, size_t cap, size_t *len) {
+    return mls_state_text_bytes(m, room(buf, cap), cap, len);
+}
+
 static const char *word(const char *const *words, size_t count, int number) {
     return number >= 0 && (size_t)number < count ? words[number] : "?";
 }
@@ -82,7 +92,7 @@ const char *mls_version(void) { return VERSION(MLS_VERSION_MAJOR, MLS_VERSION_MI
 
 const char *mls_status_word(int status) {
     static const char *const words[] = {"ok", "closed", "open", "no memory", "invalid", "start refused", "journal refused",
-                                        "replay differs", "too short", "not found"};
+                                        "replay differs", "too short", "not found", "state refused"};
     return status > -(int)COUNT(words) ? word(words, COUNT(words), -status) : "?";
 }
 

@@ -1,9 +1,10 @@
-/* Submits requests to a monitor, and writes them as scripts of the program mls and the journal that they leave:
+/* Submits requests to a monitor, and writes them as scripts of the program mls, the journal that they leave, and the state:
  *
  *     session START FOLDER SCRIPTS LINES
  *
  * FOLDER/script0 and so on, of so many lines each, are one session each, by their number; FOLDER/journal is what
- * `mls run --serial --journal` of them must write too. The requests are the same each time. */
+ * `mls run --serial --journal` of them must write too, and FOLDER/state what `mls state` of that must print. The requests
+ * are the same each time. */
 #include "mls.h"
 
 #include <stdio.h>
@@ -63,9 +64,11 @@ static FILE *create(const char *folder, const char *name, unsigned n) {
 
 int main(int argc, char **argv) {
     static uint8_t start[1 << 16];
+    static char state[1 << 20];
     mls_monitor m = MLS_INIT;
     mls_fault fault;
     mls_answer answer;
+    size_t len;
     FILE *file = argc == 5 ? fopen(argv[1], "rb") : NULL;
     unsigned script, line, scripts, lines;
     uint64_t n;
@@ -85,10 +88,13 @@ int main(int argc, char **argv) {
     file = create(argv[2], "%s/journal", 0);
     for (n = 0; n < mls_entries(&m); n++) {
         char text[512];
-        size_t len;
         if (mls_entry_text(&m, n, text, sizeof text, &len)) return 2;
         fwrite(text, 1, len, file);
     }
+    fclose(file);
+    file = create(argv[2], "%s/state", 0);
+    if (mls_state_text(&m, state, sizeof state, &len)) return 2;
+    fwrite(state, 1, len, file);
     fclose(file);
     mls_close(&m);
     return 0;

@@ -1,10 +1,10 @@
 /* Tests the library from C: each call and each status, a handle closed twice and used after, each allocation refused in turn,
- * many submits, the text of a journal, and a journal that is resumed.
+ * many submits, the text of a journal, a journal that is resumed, and a state from which a handle goes on.
  *
  *     test START [SUBMITS]
  *
- * START is the standard start's file. The program is linked with malloc, realloc and free wrapped (-Wl,--wrap=malloc and so
- * on). Prints a line for each test, and last 'N passed, M failed'. */
+ * START is the standard start's file, in the folder of the other examples. The program is linked with malloc, realloc and
+ * free wrapped (-Wl,--wrap=malloc and so on). Prints a line for each test, and last 'N passed, M failed'. */
 #include "mls.h"
 
 #include <stdio.h>
@@ -142,6 +142,7 @@ static void is_closed(mls_t *m) {
     CHECK(mls_subject_name(m, ANN, buf, sizeof buf, &len) == MLS_ECLOSED && mls_object_name(m, PLANS, buf, sizeof buf, &len) == MLS_ECLOSED);
     CHECK(mls_explain(m, &q, rows, MLS_CONDITIONS, &len, &r) == MLS_ECLOSED && mls_explain(m, &bad, NULL, 0, &len, &r) == MLS_ECLOSED);
     CHECK(mls_state_start(m, buf, sizeof buf, &len, numbers) == MLS_ECLOSED && mls_state_start(m, NULL, 0, &len, numbers) == MLS_ECLOSED);
+    CHECK(mls_state_text(m, buf, sizeof buf, &len) == MLS_ECLOSED && mls_state_text(m, NULL, 0, &len) == MLS_ECLOSED);
     CHECK(rows[0].reason == 7 && r.there == 7 && numbers[0] == 7);
     CHECK(n == 7 && len == 7 && strcmp(buf, "abcdefg") == 0);
 }
@@ -834,8 +835,601 @@ static void refused_rotations(void) {
     mls_close(&m);
 }
 
+/* The text of the present state, which the caller frees; NULL where there is no memory. docs/EMBEDDING.md shows it. */
+static char *state_of(mls_monitor *m, size_t *len) {
+    char *text;
+    if (mls_state_text(m, NULL, 0, len) != MLS_ERANGE || !(text = malloc(*len))) return NULL;
+    if (mls_state_text(m, text, *len, len) == MLS_OK) return text;
+    free(text);
+    return NULL;
+}
+
+/* Opens a closed handle that goes on where a store was: from the text of a state to which number entries led, and with the
+ * count entries behind that, which are asked again. Returns whether they are answered as they were; the handle is closed
+ * where they aren't. docs/EMBEDDING.md shows it. */
+static int went_on(mls_monitor *m, const uint8_t *file, size_t file_len, const char *state, size_t len, uint64_t number,
+                   const mls_journal_entry *behind, size_t count) {
+    mls_fault fault;
+    mls_answer a;
+    size_t n = 0;
+    if (mls_open_state(m, file, file_len, (const uint8_t *)state, len, number, &fault) != MLS_OK) return 0;
+    while (n < count && mls_submit(m, behind[n].session, &behind[n].request, &a) == MLS_OK &&
+           a.number == behind[n].number && a.reply == behind[n].reply && a.object == behind[n].object)
+        n++;
+    if (n < count) mls_close(m);
+    return n == count;
+}
+
+static int same_text(const char *a, size_t len, const char *b, size_t other) {
+    return a && b && len == other && memcmp(a, b, len) == 0;
+}
+
+static const mls_label no_label = {0, {0, 0, 0, 0}};
+
+/* The text of the state that the standard start opens with. */
+static const char *const opening_state =
+    "profile 1\n"
+    "next 4\n"
+    "subject ann maximum S:A current S:A integrity hi\n"
+    "subject bob maximum C current U integrity lo\n"
+    "subject sec maximum T:A,B current U integrity hi trusted\n"
+    "subject aud maximum S:A current U integrity hi trusted\n"
+    "object root security U integrity hi\n"
+    "object plans security S:A integrity hi parent root\n"
+    "object memo security C integrity lo parent root\n"
+    "object tool security U integrity lo parent root\n"
+    "permit ann read plans\n"
+    "permit ann write plans\n"
+    "permit ann read memo\n"
+    "permit ann execute tool\n"
+    "permit bob append plans\n"
+    "permit bob read memo\n"
+    "permit bob execute tool\n"
+    "permit sec write root\n"
+    "permit sec write plans\n"
+    "permit sec append memo\n"
+    "permit sec write memo\n"
+    "permit aud read plans\n";
+
+static int opens_state(mls_t *m, const char *text, size_t len, uint64_t number, mls_fault_t *f) {
+    return mls_open_state(m, start, start_len, (const uint8_t *)text, len, number, f);
+}
+
+static void state_texts(void) {
+    mls_t m = MLS_INIT, on = MLS_INIT;
+    mls_fault_t f = no_fault;
+    mls_answer_t a;
+    mls_entry_t e;
+    size_t len = 9, all = strlen(opening_state);
+    char buf[2048], *text;
+    open_standard(&m);
+    /* as it is told, with room, with just enough, with too little and with none */
+    memset(buf, '#', sizeof buf);
+    CHECK(mls_state_text(&m, buf, sizeof buf, &len) == MLS_OK && same_text(buf, len, opening_state, all) && buf[len] == '#');
+    memset(buf, '#', sizeof buf);
+    CHECK(mls_state_text(&m, buf, all, &len) == MLS_OK && same_text(buf, len, opening_state, all) && buf[len] == '#');
+    memset(buf, '#', sizeof buf);
+    len = 9;
+    CHECK(mls_state_text(&m, buf, all - 1, &len) == MLS_ERANGE && len == all && buf[0] == '#' && buf[all - 2] == '#');
+    len = 9;
+    CHECK(mls_state_text(&m, NULL, 0, &len) == MLS_ERANGE && len == all && mls_entries(&m) == 0);
+    mls_close(&m);
+    /* a handle that goes on: objects keep their numbers, and so do entries */
+    leave_changed(&m);
+    text = state_of(&m, &len);
+    CHECK(opens_state(&on, text, len, mls_entries(&m), &f) == MLS_OK && same_fault(&f, &no_fault));
+    CHECK(mls_entries(&on) == 9 && mls_forgotten(&on) == 9 && mls_entry(&on, 8, &e) == MLS_ENOTFOUND && mls_entry(&on, 9, &e) == MLS_ENOTFOUND);
+    CHECK(mls_entry_text(&on, 0, buf, sizeof buf, &len) == MLS_ENOTFOUND && mls_check(&on, SEC, 4, MLS_APPEND) == 1);
+    CHECK(mls_is_active(&on, MEMO) == 0 && mls_is_active(&on, 5) == 1 && mls_is_active(&on, 6) == 0);
+    CHECK(mls_create(&on, 3, SEC, ROOT, &no_label, &no_label, &a) == MLS_OK && a.number == 9 && a.object == 6);
+    CHECK(mls_entries(&on) == 10 && mls_forgotten(&on) == 9 && mls_entry(&on, 9, &e) == MLS_OK && e.number == 9 && e.session == 3);
+    CHECK(mls_forget(&on, 5) == MLS_OK && mls_forgotten(&on) == 9 && mls_forget(&on, 10) == MLS_OK && mls_forgotten(&on) == 10);
+    /* an open handle stays as it is */
+    CHECK(opens_state(&on, opening_state, all, 0, &f) == MLS_EOPEN && opens_state(&on, "x", 1, 0, &f) == MLS_EOPEN);
+    CHECK(mls_open_state(&on, NULL, 0, NULL, 0, UINT64_MAX, &f) == MLS_EOPEN && same_fault(&f, &no_fault) && mls_entries(&on) == 10);
+    mls_close(&on);
+    mls_close(&m);
+    free(text);
+    /* with no entry before it is as it was opened */
+    CHECK(opens_state(&on, opening_state, all, 0, &f) == MLS_OK && mls_entries(&on) == 0 && mls_forgotten(&on) == 0);
+    CHECK(mls_get(&on, 5, ANN, PLANS, MLS_READ, &a) == MLS_OK && a.number == 0 && a.reply == MLS_YES);
+    mls_close(&on);
+    is_closed(&on);
+}
+
+static void numbers_of_entries(void) {
+    const uint64_t most = (uint64_t)1 << 63;
+    mls_t m = MLS_INIT;
+    mls_fault_t f = no_fault;
+    mls_answer_t a;
+    char buf[64];
+    size_t len = 0, all = strlen(opening_state);
+    CHECK(opens_state(&m, opening_state, all, most + 1, &f) == MLS_EINVAL && opens_state(&m, opening_state, all, UINT64_MAX, &f) == MLS_EINVAL);
+    is_closed(&m);
+    CHECK(opens_state(&m, opening_state, all, most, &f) == MLS_OK && mls_entries(&m) == most && mls_forgotten(&m) == most);
+    CHECK(mls_get(&m, 5, ANN, PLANS, MLS_READ, &a) == MLS_OK && a.number == most && mls_entries(&m) == most + 1);
+    CHECK(mls_entry_text(&m, most, buf, sizeof buf, &len) == MLS_OK && len == 39 && memcmp(buf, "9223372036854775808 5 0 get-read 1 yes\n", len) == 0);
+    /* it is never forgotten */
+    CHECK(mls_forget(&m, UINT64_MAX) == MLS_OK && mls_forgotten(&m) == most && mls_entry_text(&m, most, buf, sizeof buf, &len) == MLS_OK);
+    mls_close(&m);
+    CHECK(opens_state(&m, opening_state, all, most - 1, &f) == MLS_OK && mls_get(&m, 5, ANN, PLANS, MLS_READ, &a) == MLS_OK);
+    CHECK(a.number == most - 1 && mls_forget(&m, UINT64_MAX) == MLS_OK && mls_forgotten(&m) == most);
+    mls_close(&m);
+    CHECK(same_fault(&f, &no_fault));
+}
+
+/* The place of a fault of lines that don't fit together: some line tells. */
+static const uint64_t ANYWHERE = UINT64_MAX;
+
+/* A text that is refused with this fault, which leaves the handle closed. */
+static void refused_text(const char *text, size_t len, uint16_t kind, uint64_t place) {
+    mls_t m = MLS_INIT;
+    mls_fault_t f = no_fault;
+    CHECK(opens_state(&m, text, len, 7, &f) == MLS_ESTATE);
+    CHECK(f.kind == kind && f.number == 0 && (f.place == place || place == ANYWHERE));
+    is_closed(&m);
+}
+
+/* The text of the opening state with a part of it changed, once. */
+static const char *changed(const char *part, const char *other) {
+    static char text[2048];
+    const char *at = strstr(opening_state, part);
+    CHECK(at != NULL);
+    if (at) sprintf(text, "%.*s%s%s", (int)(at - opening_state), opening_state, other, at + strlen(part));
+    return text;
+}
+
+static void refused_part(const char *part, const char *other, uint16_t kind, uint64_t place) {
+    const char *text = changed(part, other);
+    refused_text(text, strlen(text), kind, place);
+}
+
+static void refused_end(const char *lines, uint16_t kind, uint64_t place) { refused_part("permit aud read plans\n", lines, kind, place); }
+
+static void refused_states(void) {
+    mls_t m = MLS_INIT;
+    mls_fault_t f = no_fault;
+    mls_answer_t a;
+    const char *text;
+    size_t all = strlen(opening_state);
+    /* lines that are not as they must be, and how many stand before */
+    refused_text("", 0, 1, 0);
+    refused_text(NULL, 0, 1, 0);
+    refused_text("\n", 1, 1, 0);
+    refused_text("\xff\n", 2, 1, 0);
+    refused_text(opening_state, all - 1, 1, 21);
+    refused_text(opening_state, 10, 1, 0);
+    refused_part("profile 1", "profile 3", 1, 0);
+    refused_part("profile 1", "profile 1 ", 1, 0);
+    refused_part("profile 1\n", "profile 1\r\n", 1, 0);
+    refused_part("profile 1\n", "", 1, 0);
+    refused_part("profile 1\n", "\nprofile 1\n", 1, 0);
+    refused_part("next 4", "next 3", 1, 1);
+    refused_part("next 4", "next 04", 1, 1);
+    refused_part("next 4", "next 4097", 1, 1);
+    refused_part("next 4", "next", 1, 1);
+    refused_part("subject bob", "subject bop", 1, 3);
+    refused_part("current S:A", "current Q", 1, 2);
+    refused_part("object plans", "object #1", 1, 7);
+    refused_part("object plans", "object plan", 1, 7);
+    refused_part("hi parent root\n", "hi\n", 1, ANYWHERE);
+    refused_part("hi parent root\n", "hi parent memo\n", 1, 7);
+    refused_part("hi parent root\n", "hi parent plans\n", 1, 7);
+    refused_part("permit ann read plans", "permit ann reads plans", 1, 10);
+    refused_part("permit ann read plans", "permit zoe read plans", 1, 10);
+    refused_part("permit ann read plans", "permit ann read #1", 1, 10);
+    refused_part("permit ann read plans", "permit ann read #9", 1, 10);
+    refused_part("permit ann read plans", "permits ann read plans", 1, 10);
+    refused_part("permit ann read plans\npermit ann write plans\n", "permit ann write plans\npermit ann read plans\n", 1, 10);
+    refused_part("permit ann read plans\n", "permit ann read plans\npermit ann read plans\n", 1, 11);
+    refused_part("subject aud maximum S:A current U integrity hi trusted\n", "", 1, 20);
+    refused_end("permit aud read plans\n\n", 1, 22);
+    refused_end("permit aud read plans\nx\n", 1, 22);
+    refused_end("permit aud read plans\naccess ann write plans\naccess ann read plans\n", 1, 22);
+    refused_end("permit aud read plans\naccess ann read plans\naccess ann read plans\n", 1, 23);
+    /* states of another start */
+    refused_part("profile 1", "profile 2", 2, 0);
+    refused_part("subject bob maximum C", "subject bob maximum S", 2, 0);
+    refused_part("current U integrity lo", "current U integrity hi", 2, 0);
+    refused_part("integrity hi trusted", "integrity hi", 2, 0);
+    refused_part("integrity lo\nsubject sec", "integrity lo trusted\nsubject sec", 2, 0);
+    /* states that are not secure: by star, by the matrix, by simple security, by integrity, by a ceiling, by a parent */
+    refused_end("permit aud read plans\naccess bob read memo\n", 3, 0);
+    refused_end("permit aud read plans\naccess ann append plans\n", 3, 0);
+    refused_end("permit aud read plans\npermit aud read tool\naccess aud read tool\n", 3, 0);
+    refused_part("maximum C current U", "maximum C current S", 3, 0);
+    refused_part("object root security U", "object root security C", 3, 0);
+    refused_part("object root security U integrity hi", "object root security U integrity lo", 3, 0);
+    /* what is another secure state of the start is taken */
+    text = changed("next 4", "next 9");
+    CHECK(opens_state(&m, text, strlen(text), 7, &f) == MLS_OK && mls_get(&m, 0, SEC, ROOT, MLS_WRITE, &a) == MLS_OK && a.number == 7);
+    CHECK(mls_create(&m, 0, SEC, ROOT, &no_label, &no_label, &a) == MLS_OK && a.object == 9);
+    mls_close(&m);
+    text = changed("permit aud read plans\n", "permit aud read plans\naccess ann read plans\n");
+    CHECK(opens_state(&m, text, strlen(text), 7, &f) == MLS_OK && mls_check(&m, ANN, PLANS, MLS_READ) == 1);
+    mls_close(&m);
+    CHECK(same_fault(&f, &no_fault));
+    /* the start comes first, and the number last */
+    CHECK(mls_open_state(&m, NULL, 0, NULL, 0, UINT64_MAX, &f) == MLS_ESTART && f.kind == 1 && f.number == 0 && f.place == 0);
+    CHECK(mls_open_state(&m, (const uint8_t *)"{}", 2, (const uint8_t *)opening_state, all, 7, &f) == MLS_ESTART && f.kind == 2);
+    CHECK(opens_state(&m, "x", 1, UINT64_MAX, &f) == MLS_ESTATE && f.kind == 1 && m.held == 0);
+}
+
+/* How many texts of those that were tried are of a state, and how many of none. */
+static long read_texts, unread_texts;
+
+/* A text is refused, or is that of the state that is then in the handle. */
+static void read_or_refused(const char *text, size_t len) {
+    mls_t m = MLS_INIT;
+    mls_fault_t f = no_fault;
+    int status = opens_state(&m, text, len, 7, &f);
+    if (status == MLS_OK) {
+        size_t other;
+        char *again = state_of(&m, &other);
+        CHECK(same_text(text, len, again, other) && same_fault(&f, &no_fault) && mls_entries(&m) == 7);
+        free(again);
+        read_texts++;
+    } else {
+        CHECK(status == MLS_ESTATE && m.held == 0 && f.kind >= 1 && f.kind <= 3 && f.number == 0 && (f.kind == 1 || f.place == 0));
+        unread_texts++;
+    }
+    mls_close(&m);
+}
+
+/* The text of a state with each of its bytes changed, with each of its lines left out, doubled or exchanged with the next
+ * one, and cut off at each byte. */
+static void damaged_states(void) {
+    enum { LINES = 64 };
+    mls_t m = MLS_INIT;
+    size_t len, at[LINES + 1], count = 0, n;
+    char *text, *other;
+    leave_changed(&m);
+    text = state_of(&m, &len);
+    mls_close(&m);
+    if (!text || !(other = malloc(2 * len))) {
+        CHECK(0);
+        return;
+    }
+    at[0] = 0;
+    for (n = 0; n < len && count < LINES; n++)
+        if (text[n] == '\n') at[++count] = n + 1;
+    CHECK(count > 20 && at[count] == len);
+    read_texts = unread_texts = 0;
+    for (n = 0; n < len; n++) {
+        memcpy(other, text, len);
+        other[n] = (char)(text[n] ^ 1 << n % 7);
+        read_or_refused(other, len);
+        other[n] = (char)(text[n] ^ 3);
+        read_or_refused(other, len);
+        if (n % 8 == 0) other[n] = (char)0x80, read_or_refused(other, len);
+        if (n % 8 == 1) other[n] = 0, read_or_refused(other, len);
+        if (n % 4 == 2) read_or_refused(text, n);
+    }
+    for (n = 0; n < count; n++) {
+        size_t one = at[n + 1] - at[n], next = n + 1 < count ? at[n + 2] - at[n + 1] : 0;
+        memcpy(other, text, at[n]);
+        memcpy(other + at[n], text + at[n + 1], len - at[n + 1]);
+        read_or_refused(other, len - one);
+        memcpy(other, text, at[n + 1]);
+        memcpy(other + at[n + 1], text + at[n], len - at[n]);
+        refused_text(other, len + one, 1, memcmp(text + at[n], "object", 6) ? n + 1 : ANYWHERE);
+        if (!next) continue;
+        memcpy(other, text, len);
+        memcpy(other + at[n], text + at[n + 1], next);
+        memcpy(other + at[n] + next, text + at[n], one);
+        read_or_refused(other, len);
+    }
+    CHECK(read_texts > 0 && unread_texts > (long)len);
+    free(other);
+    free(text);
+}
+
+/* The starts of the examples, in the folder of the standard one. */
+static const char *const examples[] = {"standard", "reused", "office", "database", "guard", "held", "wide"};
+static const char *standard;
+
+static uint8_t other_start[1 << 16];
+static size_t other_len;
+
+/* Reads the start file of an example. */
+static void read_example(const char *name) {
+    const char *end = strrchr(standard, '/');
+    char path[4096];
+    FILE *file;
+    sprintf(path, "%.*s%.1000s.json", end ? (int)(end + 1 - standard) : 0, standard, name);
+    file = fopen(path, "rb");
+    CHECK(file != NULL);
+    other_len = file ? fread(other_start, 1, sizeof other_start, file) : 0;
+    if (file) fclose(file);
+}
+
+static uint32_t chance = 2463534242u;
+
+/* A number below another one, by chance. */
+static uint16_t drawn(unsigned below) {
+    chance ^= chance << 13, chance ^= chance >> 17, chance ^= chance << 5;
+    return (uint16_t)((chance >> 4) % below);
+}
+
+/* A label of an object or a subject of the state, or any of few levels and categories. */
+static mls_label drawn_label(mls_t *m, int kind, const mls_counts *c, unsigned objects) {
+    mls_object_info o;
+    mls_subject_info s;
+    unsigned n = drawn(8);
+    if (n > 2 && mls_read_object(m, drawn(objects), &o) == MLS_OK) return kind == MLS_SECURITY_LABEL ? o.security : o.integrity;
+    if (n && mls_read_subject(m, drawn(c->subjects), &s) == MLS_OK)
+        return kind == MLS_INTEGRITY_LABEL ? s.integrity : n & 1 ? s.current : s.maximum;
+    return bits((uint8_t)drawn(5), drawn(4), 0);
+}
+
+/* A request by chance. It follows up what was answered last: what was made is often given, and what was given is got, so
+ * that there is more below it. */
+static mls_request_t drawn_request(mls_t *m, const mls_request_t *last, const mls_answer_t *a) {
+    mls_request_t q = request((uint8_t)drawn(10), 0, (uint8_t)drawn(4), 0);
+    mls_counts c = {0, 0, 0, 0};
+    unsigned objects;
+    CHECK(mls_count(m, &c) == MLS_OK);
+    objects = (c.next > c.objects ? c.next : c.objects) + 3u;
+    if (a->reply == MLS_CREATED && drawn(4)) {
+        q = request(MLS_GIVE, last->subject, drawn(4) ? MLS_WRITE : MLS_READ, a->object);
+        q.other = drawn(2) ? last->subject : drawn(c.subjects);
+        return q;
+    }
+    if (last->action == MLS_GIVE && a->reply == MLS_YES && drawn(4)) return request(MLS_GET, last->other, last->mode, last->object);
+    if (q.action > MLS_OBJECT_LEVEL) q.action = q.action & 1 ? MLS_GET : MLS_CREATE;
+    q.subject = drawn(c.subjects + !drawn(32));
+    q.other = drawn(c.subjects);
+    q.object = drawn(3) ? drawn(objects) : ROOT;
+    if (q.object == ROOT && q.action == MLS_GET) q.mode = MLS_WRITE;
+    q.security = drawn_label(m, MLS_SECURITY_LABEL, &c, objects);
+    q.integrity = drawn_label(m, MLS_INTEGRITY_LABEL, &c, objects);
+    return q;
+}
+
+/* The same text of both handles. */
+static void have_one_text(mls_t *m, mls_t *on) {
+    size_t len, other;
+    char *text = state_of(m, &len), *again = state_of(on, &other);
+    CHECK(same_text(text, len, again, other));
+    free(text);
+    free(again);
+}
+
+/* How many objects were made and deleted, and how often a parent had a greater number than its child. */
+static long made, deleted, backwards;
+
+static void counted(mls_t *m, const mls_request_t *q, const mls_answer_t *a) {
+    mls_object_info o;
+    deleted += q->action == MLS_DELETE && a->reply == MLS_YES;
+    if (a->reply != MLS_CREATED) return;
+    made++;
+    CHECK(mls_read_object(m, a->object, &o) == MLS_OK);
+    backwards += o.parent > a->object;
+}
+
+/* A handle of the same start goes on from the text of another one's state: it has the same text, and answers as many
+ * requests alike, under the same numbers. */
+static void goes_on_alike(mls_t *m, const uint8_t *file, size_t file_len, int requests) {
+    mls_t on = MLS_INIT;
+    mls_request_t q = request(MLS_RELEASE, 0, 0, 0);
+    mls_answer_t a = {0, 0, 0}, b;
+    size_t len = 0;
+    char *text = state_of(m, &len);
+    uint64_t number = mls_entries(m);
+    long wrong = 0;
+    int n;
+    CHECK(went_on(&on, file, file_len, text, len, number, NULL, 0));
+    have_one_text(m, &on);
+    for (n = 0; n < requests; n++) {
+        q = drawn_request(m, &q, &a);
+        b = no_answer;
+        wrong += mls_submit(m, 5, &q, &a) != MLS_OK || mls_submit(&on, 5, &q, &b) != MLS_OK || !same_answer(&a, &b);
+        wrong += a.number != number + (uint64_t)n;
+        counted(m, &q, &a);
+    }
+    CHECK(wrong == 0);
+    have_one_text(m, &on);
+    mls_close(&on);
+    free(text);
+}
+
+static void states_of_examples(void) {
+    mls_t m = MLS_INIT;
+    mls_fault_t f = no_fault;
+    size_t n;
+    int k;
+    made = deleted = backwards = 0;
+    for (n = 0; n < sizeof examples / sizeof *examples; n++) {
+        read_example(examples[n]);
+        CHECK(mls_open(&m, other_start, other_len, &f) == MLS_OK);
+        /* (where numbers are used again, it takes many until a parent has a greater one than its child) */
+        for (k = 0; k < (strcmp(examples[n], "reused") ? 40 : 200); k++) goes_on_alike(&m, other_start, other_len, 100);
+        mls_close(&m);
+    }
+    CHECK(made > 500 && deleted > 200 && backwards > 10);
+}
+
+/* All numbers are in use; and, with profile 2, parents whose numbers are greater than those of all below them. */
+static void full_states(void) {
+    enum { CHAIN = 200 };
+    mls_t m = MLS_INIT;
+    mls_fault_t f = no_fault;
+    mls_answer_t a;
+    mls_label high = bits(1, 0, 0);
+    uint16_t n;
+    open_standard(&m);
+    CHECK(mls_get(&m, 0, SEC, ROOT, MLS_WRITE, &a) == MLS_OK && a.reply == MLS_YES);
+    do CHECK(mls_create(&m, 0, SEC, ROOT, &no_label, &no_label, &a) == MLS_OK);
+    while (a.reply == MLS_CREATED);
+    CHECK(mls_reason_of(a.reply) == MLS_FULL);
+    goes_on_alike(&m, start, start_len, 0);
+    CHECK(mls_delete(&m, 0, SEC, 7, &a) == MLS_OK && mls_delete(&m, 0, SEC, MLS_OBJECTS - 1, &a) == MLS_OK && a.reply == MLS_YES);
+    goes_on_alike(&m, start, start_len, 10);
+    /* all that were made are gone, and no number is left */
+    for (n = 4; n < MLS_OBJECTS; n++) CHECK(mls_delete(&m, 0, SEC, n, &a) == MLS_OK);
+    goes_on_alike(&m, start, start_len, 10);
+    mls_close(&m);
+    read_example("reused");
+    CHECK(mls_open(&m, other_start, other_len, &f) == MLS_OK && mls_get(&m, 0, SEC, ROOT, MLS_WRITE, &a) == MLS_OK);
+    for (n = 4; n < 4 + CHAIN; n++) CHECK(mls_create(&m, 0, SEC, ROOT, &no_label, &high, &a) == MLS_OK && a.object == n);
+    for (n = 2 + CHAIN; n > 4; n--) {
+        uint16_t parent = (uint16_t)(n + 1);
+        CHECK(mls_give(&m, 0, SEC, SEC, parent, MLS_WRITE, &a) == MLS_OK && mls_get(&m, 0, SEC, parent, MLS_WRITE, &a) == MLS_OK);
+        CHECK(a.reply == MLS_YES && mls_delete(&m, 0, SEC, n, &a) == MLS_OK && a.reply == MLS_YES);
+        CHECK(mls_create(&m, 0, SEC, parent, &no_label, &high, &a) == MLS_OK && a.object == n);
+    }
+    goes_on_alike(&m, other_start, other_len, 0);
+    CHECK(mls_delete(&m, 0, SEC, CHAIN / 2, &a) == MLS_OK && a.reply == MLS_YES);
+    goes_on_alike(&m, other_start, other_len, 100);
+    do CHECK(mls_create(&m, 0, SEC, ROOT, &no_label, &high, &a) == MLS_OK);
+    while (a.reply == MLS_CREATED);
+    goes_on_alike(&m, other_start, other_len, 100);
+    mls_close(&m);
+}
+
+/* A state of a start isn't one of another profile, with another maximum, or with a subject less. */
+static void states_of_other_starts(void) {
+    mls_t m = MLS_INIT;
+    mls_fault_t f = no_fault;
+    size_t all = strlen(opening_state);
+    char *file = malloc(start_len + 1), *at;
+    read_example("reused");
+    CHECK(mls_open_state(&m, other_start, other_len, (const uint8_t *)opening_state, all, 7, &f) == MLS_ESTATE && f.kind == 2 && f.place == 0);
+    memcpy(file, start, start_len);
+    file[start_len] = 0;
+    at = strstr(file, "\"maximum\": \"C\"");
+    CHECK(at != NULL);
+    if (at) at[12] = 'S';
+    f = no_fault;
+    CHECK(mls_open_state(&m, (const uint8_t *)file, start_len, (const uint8_t *)opening_state, all, 7, &f) == MLS_ESTATE && f.kind == 2);
+    CHECK(f.place == 0 && f.number == 0);
+    is_closed(&m);
+    /* start and text may be one, which is no state */
+    CHECK(mls_open_state(&m, start, start_len, start, start_len, 7, &f) == MLS_ESTATE && f.kind == 1 && f.place == 0);
+    free(file);
+}
+
+/* A store in memory: the lines of all entries, the entries behind the last state, and that state. */
+enum { BEHIND = 256 };
+static struct {
+    char lines[1 << 20];
+    size_t lines_len, state_len, count;
+    mls_journal_entry behind[BEHIND];
+    char *state;
+    uint64_t number;
+} kept;
+
+/* Writes down an entry before its answer is acted on. */
+static void keep_entry(mls_t *m, uint64_t n) {
+    size_t len = 0;
+    CHECK(mls_entry_text(m, n, kept.lines + kept.lines_len, sizeof kept.lines - kept.lines_len, &len) == MLS_OK);
+    CHECK(kept.count < BEHIND && mls_entry(m, n, &kept.behind[kept.count]) == MLS_OK);
+    kept.lines_len += len;
+    kept.count++;
+}
+
+/* Writes down the state: the entries before it aren't needed to go on any more. */
+static void keep_state(mls_t *m) {
+    free(kept.state);
+    kept.state = state_of(m, &kept.state_len);
+    kept.number = mls_entries(m);
+    kept.count = 0;
+    CHECK(kept.state && mls_forget(m, kept.number) == MLS_OK);
+}
+
+/* A store over a start that crashes between two requests, again and again, and a handle that doesn't. */
+static void store_of(const uint8_t *file, size_t file_len) {
+    mls_t m = MLS_INIT, whole = MLS_INIT;
+    mls_request_t q = request(MLS_RELEASE, 0, 0, 0);
+    mls_answer_t a = {0, 0, 0}, b = {0, 0, 0};
+    mls_fault_t f = no_fault;
+    long n, crashes = 0, wrong = 0;
+    kept.lines_len = 0;
+    CHECK(mls_open(&m, file, file_len, &f) == MLS_OK && mls_open(&whole, file, file_len, &f) == MLS_OK);
+    keep_state(&m);
+    for (n = 0; n < 3000; n++) {
+        q = drawn_request(&m, &q, &a);
+        wrong += mls_submit(&m, (uint32_t)n & 7, &q, &a) != MLS_OK || mls_submit(&whole, (uint32_t)n & 7, &q, &b) != MLS_OK;
+        wrong += !same_answer(&a, &b) || a.number != (uint64_t)n;
+        keep_entry(&m, a.number);
+        if (n % 200 == 199) keep_state(&m);
+        if (n % 200 != 199 && drawn(100)) continue;
+        mls_close(&m);
+        CHECK(went_on(&m, file, file_len, kept.state, kept.state_len, kept.number, kept.behind, kept.count));
+        CHECK(mls_entries(&m) == (uint64_t)n + 1 && mls_forgotten(&m) == kept.number);
+        crashes++;
+    }
+    CHECK(wrong == 0 && crashes > 20);
+    have_one_text(&m, &whole);
+    /* an entry that isn't answered as it was says that the state isn't the one that was left */
+    for (n = 0; n < 5; n++) {
+        CHECK(mls_submit(&m, 0, &q, &a) == MLS_OK);
+        keep_entry(&m, a.number);
+    }
+    mls_close(&m);
+    mls_close(&whole);
+    kept.behind[3].reply ^= 1;
+    CHECK(!went_on(&m, file, file_len, kept.state, kept.state_len, kept.number, kept.behind, kept.count) && m.held == 0);
+    kept.behind[3].reply ^= 1;
+    CHECK(!went_on(&m, file, file_len, kept.state, kept.state_len, kept.number + 1, kept.behind, kept.count) && m.held == 0);
+    CHECK(went_on(&m, file, file_len, kept.state, kept.state_len, kept.number, kept.behind, kept.count));
+    /* the lines before each state and behind it are one journal, which leads to the same state */
+    CHECK(mls_resume(&whole, file, file_len, (const uint8_t *)kept.lines, kept.lines_len, &f) == MLS_OK);
+    CHECK(mls_entries(&whole) == mls_entries(&m) && mls_forgotten(&whole) == 0 && same_fault(&f, &no_fault));
+    have_one_text(&m, &whole);
+    mls_close(&m);
+    mls_close(&whole);
+    free(kept.state);
+    kept.state = NULL;
+}
+
+static void stores_that_go_on(void) {
+    long before = live;
+    store_of(start, start_len);
+    read_example("reused");
+    store_of(other_start, other_len);
+    CHECK(live == before);
+}
+
+/* Each allocation of a state's text, and of opening with it, is refused in turn: nothing is told, nothing changes and
+ * nothing leaks. */
+static void refused_going_on(void) {
+    mls_t m = MLS_INIT;
+    size_t len = 0, other = 0;
+    char text[4096], again[4096];
+    long k, before;
+    int status = MLS_ENOMEM;
+    leave_changed(&m);
+    before = live;
+    for (k = 0; status != MLS_OK && k < 10000; k++) {
+        len = 7;
+        text[0] = '#';
+        left = k;
+        status = mls_state_text(&m, text, sizeof text, &len);
+        left = -1;
+        CHECK(status == MLS_OK || (status == MLS_ENOMEM && len == 7 && text[0] == '#'));
+        CHECK(live == before && mls_entries(&m) == 9);
+    }
+    CHECK(k > 1 && len < sizeof text && text[0] == 'p');
+    mls_close(&m);
+    before = live;
+    status = MLS_ENOMEM;
+    for (k = 0; status != MLS_OK && k < 100000; k++) {
+        mls_fault_t f = no_fault;
+        left = k;
+        status = opens_state(&m, text, len, 9, &f);
+        left = -1;
+        CHECK(status == MLS_OK || (status == MLS_ENOMEM && m.held == 0));
+        CHECK(same_fault(&f, &no_fault) && (status == MLS_OK || live == before));
+    }
+    CHECK(k > 20 && mls_entries(&m) == 9 && mls_state_text(&m, again, sizeof again, &other) == MLS_OK && same_text(text, len, again, other));
+    mls_close(&m);
+    CHECK(live == before);
+}
+
 static void words(void) {
-    CHECK(strcmp(mls_status_word(MLS_ENOTFOUND), "not found") == 0 && strcmp(mls_status_word(1), "?") == 0 && strcmp(mls_status_word(-10), "?") == 0);
+    CHECK(strcmp(mls_status_word(MLS_ENOTFOUND), "not found") == 0 && strcmp(mls_status_word(1), "?") == 0 && strcmp(mls_status_word(-11), "?") == 0);
+    CHECK(strcmp(mls_status_word(MLS_ESTATE), "state refused") == 0);
     CHECK(strcmp(mls_action_word(MLS_OBJECT_LEVEL), "relabel") == 0 && strcmp(mls_action_word(8), "?") == 0);
     CHECK(strcmp(mls_mode_word(MLS_WRITE), "write") == 0 && strcmp(mls_mode_word(-1), "?") == 0);
     CHECK(strcmp(mls_reply_word(MLS_UNDEFINED), "undefined") == 0 && strcmp(mls_reply_word(MLS_DENIED + MLS_FULL), "no") == 0);
@@ -894,6 +1488,7 @@ static void words_of_lines(void) {
 int main(int argc, char **argv) {
     FILE *file = argc > 1 ? fopen(argv[1], "rb") : NULL;
     if (!file) return 2;
+    standard = argv[1];
     start_len = fread(start, 1, sizeof start, file);
     fclose(file);
     if (argc > 2) submits = atol(argv[2]);
@@ -917,6 +1512,15 @@ int main(int argc, char **argv) {
     tell("entries that are forgotten", forgotten_entries);
     tell("rotating", rotating);
     tell("rotations without memory", refused_rotations);
+    tell("the text of a state", state_texts);
+    tell("numbers of entries", numbers_of_entries);
+    tell("states that are refused", refused_states);
+    tell("states that are damaged", damaged_states);
+    tell("states of examples", states_of_examples);
+    tell("states that are full", full_states);
+    tell("states of other starts", states_of_other_starts);
+    tell("stores that go on", stores_that_go_on);
+    tell("going on without memory", refused_going_on);
     tell("words", words);
     tell("words of lines", words_of_lines);
     printf("%d passed, %d failed\n", passed, failed);

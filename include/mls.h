@@ -32,19 +32,21 @@ extern "C" {
 #define MLS_VERSION_MINOR 2
 
 /* Statuses: MLS_OK, or below 0, where the handle is as it was; then only what the comments of the
- * calls name is written, as the fault of MLS_ESTART, MLS_EJOURNAL and MLS_EREPLAY and the length of
- * MLS_ERANGE. The decision is never in the status. */
+ * calls name is written, as the fault of MLS_ESTART, MLS_EJOURNAL, MLS_EREPLAY and MLS_ESTATE and
+ * the length of MLS_ERANGE. The decision is never in the status. */
 enum {
     MLS_OK = 0,
     MLS_ECLOSED = -1,   /* the handle is closed */
     MLS_EOPEN = -2,     /* the handle is open already */
     MLS_ENOMEM = -3,    /* an allocation failed */
-    MLS_EINVAL = -4,    /* the numbers are no request, label or kind, or the text no label */
+    MLS_EINVAL = -4,    /* the numbers are no request, label or kind, the text no label, or there
+                           are too many entries */
     MLS_ESTART = -5,    /* the start is refused: the fault says why */
     MLS_EJOURNAL = -6,  /* a line of the journal is no entry's: the fault says which and why */
     MLS_EREPLAY = -7,   /* the journal isn't one of its start: the fault says where and why */
     MLS_ERANGE = -8,    /* the buffer or the rows are too short */
-    MLS_ENOTFOUND = -9  /* no such entry, name, subject or object, or a request that names none */
+    MLS_ENOTFOUND = -9, /* no such entry, name, subject or object, or a request that names none */
+    MLS_ESTATE = -10    /* the text isn't that of a secure state of the start: the fault says why */
 };
 
 /* Actions. */
@@ -110,8 +112,8 @@ typedef struct {
     mls_request request;
 } mls_journal_entry;
 
-/* Why a start or a journal is refused: the kind of the fault, a number that says more, and the
- * place. */
+/* Why a start, a journal or a state is refused: the kind of the fault, a number that says more, and
+ * the place. */
 typedef struct {
     uint16_t kind, number;
     uint64_t place;
@@ -233,6 +235,20 @@ int mls_open(mls_monitor *m, const uint8_t *start, size_t len, mls_fault *fault)
 int mls_resume(mls_monitor *m, const uint8_t *start, size_t len, const uint8_t *journal,
                size_t journal_len, mls_fault *fault);
 
+/* Opens a closed handle from the bytes of a start file and the text of a state to which number
+ * entries led, as mls_state_text has it. It goes on from there as the handle that answered these:
+ * objects keep their numbers, the next entry has this number, and the entries before it are not
+ * there, as if they were forgotten. Whatever the text says, the state is secure and has what no
+ * request changes of that start: the profile, the bounds of labels, and the subjects with their
+ * maximum and integrity labels and trust. That those entries led to the state is for the caller to
+ * know: nothing checks it. docs/EMBEDDING.md shows how.
+ * MLS_EOPEN; MLS_ESTART; MLS_ESTATE, where the kind of the fault is 1 of a line that isn't as it
+ * must be, and the place how many stand before it, 2 of a state of another start, and 3 of one that
+ * isn't secure; MLS_EINVAL where number is above 2^63; MLS_ENOMEM. The fault is written where the
+ * start or the state is refused, and else left alone. */
+int mls_open_state(mls_monitor *m, const uint8_t *start, size_t len, const uint8_t *state,
+                   size_t state_len, uint64_t number, mls_fault *fault);
+
 /* Answers a request by the rules, changes the state as they say, and adds just its entry to the
  * journal. The session is written into the entry and means nothing else. MLS_ECLOSED, MLS_EINVAL,
  * MLS_ENOMEM; nothing is changed or written then. */
@@ -329,6 +345,11 @@ int mls_explain(mls_monitor *m, const mls_request *request, mls_condition *condi
  * written differs, of which no case is known.
  * With it a handle whose journal has grown is changed for a new one: docs/EMBEDDING.md shows it. */
 int mls_state_start(mls_monitor *m, char *buf, size_t cap, size_t *len, uint16_t *numbers);
+
+/* Copies out the text of the present state as mls_entry_text does a line: the one that mls state
+ * prints (docs/FORMATS.md, "state"), with a line for each thing by its name or its number.
+ * mls_open_state goes on from it. MLS_ECLOSED, MLS_ERANGE, MLS_ENOMEM. */
+int mls_state_text(mls_monitor *m, char *buf, size_t cap, size_t *len);
 
 /* Closes a handle and frees what it holds. A closed handle stays closed. */
 void mls_close(mls_monitor *m);

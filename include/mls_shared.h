@@ -56,6 +56,14 @@ MLS_INLINE int mls_shared_resume(mls_shared *s, const uint8_t *start, size_t len
     return status;
 }
 
+MLS_INLINE int mls_shared_open_state(mls_shared *s, const uint8_t *start, size_t len,
+                                     const uint8_t *state, size_t state_len, uint64_t number,
+                                     mls_fault *fault) {
+    int status = mls_open_state(mls_shared_lock(s), start, len, state, state_len, number, fault);
+    mls_shared_unlock(s);
+    return status;
+}
+
 MLS_INLINE int mls_shared_submit(mls_shared *s, uint32_t session, const mls_request *request,
                                  mls_answer *answer) {
     int status = mls_submit(mls_shared_lock(s), session, request, answer);
@@ -198,6 +206,12 @@ MLS_INLINE int mls_shared_object_name(mls_shared *s, uint16_t object, char *buf,
 MLS_INLINE int mls_shared_state_start(mls_shared *s, char *buf, size_t cap, size_t *len,
                                       uint16_t *numbers) {
     int status = mls_state_start(mls_shared_lock(s), buf, cap, len, numbers);
+    mls_shared_unlock(s);
+    return status;
+}
+
+MLS_INLINE int mls_shared_state_text(mls_shared *s, char *buf, size_t cap, size_t *len) {
+    int status = mls_state_text(mls_shared_lock(s), buf, cap, len);
     mls_shared_unlock(s);
     return status;
 }

@@ -7,7 +7,7 @@ from outside import TOP
 sys.path.insert(1, f"{TOP}/python")
 from mls.library import Answer, Fault, Handle, Label, Request
 
-OK, CLOSED, INVALID, START, JOURNAL, REPLAY, NOT_FOUND, TOO_SHORT = 0, -1, -4, -5, -6, -7, -9, -8
+OK, CLOSED, INVALID, START, JOURNAL, REPLAY, NOT_FOUND, TOO_SHORT, STATE = 0, -1, -4, -5, -6, -7, -9, -8, -10
 GET, DENIED, DISCRETIONARY = 0, 16, 1
 SECURITY, INTEGRITY = 0, 1
 # The byte that memory for a result is filled with, so that it is seen what was written.
@@ -41,15 +41,20 @@ def is_untouched(result):
 
 
 class Opened:
-    """A handle that a start file, and perhaps a journal, was read into: the status, and the fault that was told."""
+    """A handle that a start file, and perhaps a journal, or a state's text and the number of entries that led to it,
+    was read into: the status, and the fault that was told."""
 
-    def __init__(self, calls, start, journal=None):
+    def __init__(self, calls, start, journal=None, state=None):
         self.calls, self.handle, fault = calls, Handle(), filled(Fault)
         self.at = ctypes.byref(self.handle)
-        texts = [start, Size(len(start))] + ([] if journal is None else [journal, Size(len(journal))])
-        read = calls.mls_open if journal is None else calls.mls_resume
+        read, texts = calls.mls_open, [start, Size(len(start))]
+        if journal is not None:
+            read, texts = calls.mls_resume, [*texts, journal, Size(len(journal))]
+        elif state is not None:
+            text, number = state
+            read, texts = calls.mls_open_state, [*texts, text, Size(len(text)), ctypes.c_uint64(number)]
         self.status = read(self.at, *texts, ctypes.byref(fault))
-        is_told = self.status in (START, JOURNAL, REPLAY)
+        is_told = self.status in (START, JOURNAL, REPLAY, STATE)
         self.fault = (fault.kind, fault.number, fault.place) if is_told else None
         assert self.status == OK or is_told, f"the start is read with status {self.status}"
         assert is_told or is_untouched(fault), "a fault is written though there is none"
@@ -75,18 +80,22 @@ class Opened:
         assert status == OK or status == NOT_FOUND and is_untouched(found), f"{name} is looked for with status {status}"
         return found.value if status == OK else None
 
-    def text(self, write, *what):
+    def text(self, write, *what, room=BUFFER):
         """A text that is copied out: into a buffer that is one byte too short, and into one that isn't."""
-        length, buffer = Size(), ctypes.create_string_buffer(BUFFER * BEFORE, BUFFER)
-        status = write(self.at, *what, buffer, Size(BUFFER), ctypes.byref(length))
+        length, buffer = Size(), ctypes.create_string_buffer(room * BEFORE, room)
+        status = write(self.at, *what, buffer, Size(room), ctypes.byref(length))
         assert status == OK, f"a text is copied out with status {status}"
         found, rest = buffer.raw[:length.value], buffer.raw[length.value:]
         assert rest == len(rest) * BEFORE, "more than a text is written"
-        short = ctypes.create_string_buffer(BUFFER * BEFORE, BUFFER)
+        short = ctypes.create_string_buffer(room * BEFORE, room)
         status = write(self.at, *what, short, Size(len(found) - 1), ctypes.byref(length))
         assert (status, length.value) == (TOO_SHORT, len(found)), f"status {status} where the buffer is too short"
-        assert short.raw == BUFFER * BEFORE, "a buffer that is too short is written to"
+        assert short.raw == room * BEFORE, "a buffer that is too short is written to"
         return found
+
+    def state(self):
+        """The text of the state."""
+        return self.text(self.calls.mls_state_text, room=16 * BUFFER)
 
     def journal(self):
         """The text of the journal."""

@@ -26,6 +26,7 @@ from .faults import (
     Refused,
     ReplayDiffers,
     StartRefused,
+    StateRefused,
     Undefined,
     UnknownName,
 )
@@ -72,6 +73,7 @@ __all__ = [
     "Request",
     "Rescind",
     "StartRefused",
+    "StateRefused",
     "StateStart",
     "SubjectInfo",
     "Term",

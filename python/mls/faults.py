@@ -50,6 +50,16 @@ class JournalRefused(Error, ValueError):
         self.line, self.fault = line, fault
 
 
+class StateRefused(Error, ValueError):
+    """The text isn't that of a secure state of the start: `fault` is 1 where a line isn't as it must be, which is then
+    in `line`, counted from 0; 2 where it is a state of another start; 3 where it is one that isn't secure."""
+
+    def __init__(self, fault: int, line: int) -> None:
+        told = {1: f"line {line}: not of a state", 2: "of another start", 3: "not secure"}
+        super().__init__(f"state: {told.get(fault, fault)}")
+        self.fault, self.line = fault, line if fault == 1 else None
+
+
 class Refused(Error):
     """The service has no session for this process: `busy`, or `not known`."""
 

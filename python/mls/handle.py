@@ -9,7 +9,9 @@ from types import TracebackType
 from typing import Any, Callable, Optional, Type, TypeVar
 
 from . import library as lib
-from .faults import BadRequest, Closed, Error, JournalRefused, OutOfMemory, ReplayDiffers, StartRefused
+from .faults import (BadRequest, Closed, Error, JournalRefused, OutOfMemory, ReplayDiffers, StartRefused,
+                     StateRefused)  # fmt: skip
+from .numbering import number
 
 H = TypeVar("H", bound="Handle")
 # The room for a line or a label's text at first: most have less.
@@ -31,21 +33,28 @@ def opened(status: int, fault: lib.Fault) -> None:
         raise JournalRefused(fault.place, fault.kind)
     if status == lib.REPLAY_DIFFERS:
         raise ReplayDiffers(fault.place, None if fault.kind == 1 else fault.number)
-    is_ok(status, "an allocation failed")
+    if status == lib.STATE_REFUSED:
+        raise StateRefused(fault.kind, fault.place)
+    is_ok(status, "too many entries" if status == lib.INVALID else "an allocation failed")
 
 
 class Handle:
     """A handle of the library, which is opened as it is made. Its calls take turns."""
 
     def __init__(self, start: bytes, journal: bytes = b"", *, library: Optional[str] = None) -> None:
-        self._library, self._handle, fault = lib.load(library), lib.Handle(), lib.Fault()
+        loaded = lib.load(library)
+        self._open(loaded, loaded.mls_resume, start, journal)
+
+    def _open(self, library: ctypes.CDLL, call: Callable[..., int], start: bytes, text: bytes, *numbers: int) -> None:
+        """Opens the handle by a call that takes a start, a text and numbers of 64 bits."""
+        self._library, self._handle, fault = library, lib.Handle(), lib.Fault()
         # (a lock that a signal handler's calls may take again: they come between the library's calls, never in one)
         self._lock = threading.RLock()
-        first, then = bytes(start), bytes(journal)
+        first, then = bytes(start), bytes(text)
         # (nothing that a call is lent may overlap, and of one text there may be one object)
         lent = ctypes.create_string_buffer(then, len(then)) if first is then else then
-        texts = (first, len(first), lent, len(then))
-        opened(self._library.mls_resume(byref(self._handle), *texts, byref(fault)), fault)
+        taken = (first, len(first), lent, len(then), *(number(it, 64) for it in numbers))
+        opened(call(byref(self._handle), *taken, byref(fault)), fault)
         self._close = weakref.finalize(self, self._library.mls_close, byref(self._handle))
         # (threads may still be in a call when the process ends, and its end frees all)
         self._close.atexit = False

@@ -12,6 +12,7 @@ VERSION = (0, 2)
 CLOSED, NO_MEMORY, INVALID = -1, -3, -4
 START_REFUSED, JOURNAL_REFUSED, REPLAY_DIFFERS = -5, -6, -7
 TOO_SHORT, NOT_FOUND = -8, -9
+STATE_REFUSED = -10
 # Object numbers are below the first, and no request has more conditions than the second.
 OBJECTS, CONDITIONS = 4096, 4
 
@@ -82,6 +83,7 @@ MONITOR, LENGTH = POINTER(Handle), POINTER(c_size_t)
 CALLS = {
     "mls_open": (c_int, [MONITOR, c_char_p, c_size_t, POINTER(Fault)]),
     "mls_resume": (c_int, [MONITOR, c_char_p, c_size_t, c_char_p, c_size_t, POINTER(Fault)]),
+    "mls_open_state": (c_int, [MONITOR, c_char_p, c_size_t, c_char_p, c_size_t, c_uint64, POINTER(Fault)]),
     "mls_submit": (c_int, [MONITOR, c_uint32, POINTER(Request), POINTER(Answer)]),
     "mls_check": (c_int, [MONITOR, c_uint16, c_uint16, c_uint8]),
     "mls_decide": (c_int, [MONITOR, POINTER(Request), POINTER(Answer)]),
@@ -105,6 +107,7 @@ CALLS = {
     "mls_object_name": (c_int, [MONITOR, c_uint16, c_char_p, c_size_t, LENGTH]),
     "mls_explain": (c_int, [MONITOR, POINTER(Request), POINTER(Condition), c_size_t, LENGTH, POINTER(Remedy)]),
     "mls_state_start": (c_int, [MONITOR, c_char_p, c_size_t, LENGTH, POINTER(c_uint16)]),
+    "mls_state_text": (c_int, [MONITOR, c_char_p, c_size_t, LENGTH]),
     "mls_close": (None, [MONITOR]),
     "mls_version": (c_char_p, []),
     "mls_status_word": (c_char_p, [c_int]),

@@ -33,6 +33,16 @@ class Monitor(Handle, Actions):
         """Opens a monitor from the bytes of a start file and those of a journal, whose replies are computed anew."""
         return cls(start, journal, library=library)
 
+    @classmethod
+    def open_state(cls, start: bytes, state: bytes, number: int, *, library: Optional[str] = None) -> Monitor:
+        """Opens a monitor from the bytes of a start file and the text of a state to which so many entries led. It goes
+        on from there: objects keep their numbers, the next entry has this number, and those before are forgotten. The
+        state is secure and one of that start, or StateRefused is raised; that those entries led to it is for the caller
+        to know."""
+        monitor, loaded = cls.__new__(cls), lib.load(library)
+        monitor._open(loaded, loaded.mls_open_state, start, state, number)
+        return monitor
+
     def _number(self, call: Callable[..., int], name: Name) -> int:
         if isinstance(name, int):
             return number(name)
@@ -175,6 +185,12 @@ class Monitor(Handle, Actions):
         status, text = self._text(lambda *lent: self._library.mls_state_start(*lent, numbers))
         is_ok(status)
         return StateStart(text, {old: new for old, new in enumerate(numbers) if new < lib.OBJECTS})
+
+    def state_text(self) -> bytes:
+        """The text of the present state, as `mls state` prints it: open_state goes on from it."""
+        status, text = self._text(self._library.mls_state_text)
+        is_ok(status, "an allocation failed")
+        return text
 
     @property
     def entry_count(self) -> int:

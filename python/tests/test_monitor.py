@@ -106,6 +106,8 @@ class Monitors(unittest.TestCase):
             lambda: self.monitor.subject_name(65536),
             lambda: self.monitor.decide_label(65536, "read", "S", "lo"),
             lambda: list(self.monitor.children(65536)),
+            lambda: mls.Monitor.open_state(STANDARD, self.monitor.state_text(), 2**64),
+            lambda: mls.Monitor.open_state(STANDARD, self.monitor.state_text(), -1),
         ]
         for call in calls:
             with self.assertRaises(mls.BadRequest):
@@ -171,6 +173,55 @@ class Monitors(unittest.TestCase):
                 mls.Monitor.resume(STANDARD, journal)
             self.assertEqual((caught.exception.entry, caught.exception.wanted), (entry, wanted))
 
+    def test_a_monitor_that_goes_on(self):
+        """A store in miniature: it keeps each line and each entry, and goes on from a state's text."""
+        m, lines, number = self.monitor, [], 6
+        answers = [
+            m.get("ann", "read", "plans"), m.get("sec", "write", "root"), m.create("sec", "root", "S:B", "lo"),
+            m.give("sec", "append", "bob", 4), m.get("bob", "append", 4), m.delete("sec", "memo"),
+        ]  # fmt: skip
+        self.assertTrue(all(answers))
+        lines += [m.line(n) for n in range(number)]
+        state = m.state_text()
+        m.forget(number)
+        for answer in (m.release("ann", "read", "plans", session=9), m.create("sec", "root", "U", "lo")):
+            lines.append(m.line(answer.number))
+        behind, at_last = list(m.entries()), m.state_text()
+        self.assertEqual([it.answer.number for it in behind], [6, 7])
+        m.close()
+        with mls.Monitor.open_state(STANDARD, state, number) as on:
+            self.assertEqual((on.entry_count, on.forgotten, on.journal(number), on.state_text()), (6, 6, b"", state))
+            self.assertTrue(on.check("ann", "read", "plans") and on.check("bob", "append", 4))
+            with self.assertRaises(mls.NoSuchEntry):
+                on.entry(5)
+            self.assertEqual([on.submit(it.request, it.session) for it in behind], [it.answer for it in behind])
+            self.assertEqual((list(on.entries()), on.state_text()), (behind, at_last))
+            lines += [on.line(on.create("sec", "root", "C", "lo").number)]
+            with mls.Monitor.resume(STANDARD, b"".join(lines)) as whole:
+                self.assertEqual((whole.state_text(), whole.entry_count), (on.state_text(), 9))
+
+    def test_states_that_are_refused(self):
+        state = self.monitor.state_text()
+        end = b"permit aud read plans\n"
+        rows = [
+            (b"", 1, 0, "state: line 0: not of a state"), (state[:-1], 1, 21, "state: line 21: not of a state"),
+            (state.replace(b"next 4", b"next 3"), 1, 1, "state: line 1: not of a state"),
+            (state.replace(b"profile 1", b"profile 2"), 2, None, "state: of another start"),
+            (state.replace(b"bob maximum C", b"bob maximum S"), 2, None, "state: of another start"),
+            (state.replace(end, end + b"access bob read memo\n"), 3, None, "state: not secure"), (STANDARD, 1, 0, ""),
+        ]  # fmt: skip
+        for text, fault, line, told in rows:
+            with self.assertRaises(mls.StateRefused) as caught:
+                mls.Monitor.open_state(STANDARD, text, 7)
+            self.assertEqual((caught.exception.fault, caught.exception.line), (fault, line))
+            self.assertIn(told, str(caught.exception))
+        with self.assertRaises(mls.StartRefused):
+            mls.Monitor.open_state(b"{}", state, 7)
+        with self.assertRaisesRegex(mls.BadRequest, "too many entries"):
+            mls.Monitor.open_state(STANDARD, state, 2**63 + 1)
+        with mls.Monitor.open_state(STANDARD, state, 2**63) as on:
+            self.assertEqual((on.entry_count, on.get("ann", "read", "plans").number), (2**63, 2**63))
+
     def test_a_closed_monitor(self):
         m = self.monitor
         m.close()
@@ -182,6 +233,7 @@ class Monitors(unittest.TestCase):
             lambda: m.forget(0), lambda: m.forgotten,
             lambda: m.label("S"), lambda: m.label_text(mls.Label(0)), lambda: m.decide_label(0, "read", "S", "lo"),
             lambda: m.decide_label(0, "read", mls.Label(0), mls.Label(0)), lambda: m.explain(mls.Delete(0, 1)), m.state_start,
+            m.state_text,
             lambda: m.subject_info(0), lambda: m.object_info(0), lambda: m.pair(0, 0), m.counts,
             lambda: list(m.children(0)), lambda: m.subject_name(0), lambda: m.object_name(0),
         ]  # fmt: skip

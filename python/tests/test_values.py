@@ -68,10 +68,10 @@ class Header(unittest.TestCase):
         for name, value in (("ECLOSED", library.CLOSED), ("ENOMEM", library.NO_MEMORY), ("EINVAL", library.INVALID),
                             ("ESTART", library.START_REFUSED), ("EJOURNAL", library.JOURNAL_REFUSED),
                             ("EREPLAY", library.REPLAY_DIFFERS), ("ERANGE", library.TOO_SHORT),
-                            ("ENOTFOUND", library.NOT_FOUND)):  # fmt: skip
+                            ("ENOTFOUND", library.NOT_FOUND), ("ESTATE", library.STATE_REFUSED)):  # fmt: skip
             self.assertEqual(numbers[name], value, name)
         # and beside these: OK, EOPEN, the actions, and NO_TERM
-        self.assertEqual(len(numbers), known + 2 + 8 + 2 + len(mls.requests.ACTIONS) + 1)
+        self.assertEqual(len(numbers), known + 2 + 9 + 2 + len(mls.requests.ACTIONS) + 1)
 
 
 class Values(unittest.TestCase):

@@ -7,4 +7,5 @@ pub mod ReadBack
 pub mod ReadConditions
 pub mod Resumings
 pub mod Rows
+pub mod StateOpenings
 pub mod Utf8

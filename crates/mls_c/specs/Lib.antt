@@ -10,4 +10,5 @@ pub mod Opened
 pub mod Requests
 pub mod Resumed
 pub mod StateStart
+pub mod StateText
 pub mod Texts

@@ -1,4 +1,4 @@
-//! Why a start or a journal is refused, in numbers.
+//! Why a start, a journal or a state is refused, in numbers.
 ghost use Rattle.std.specs.Prelude.{◌≡◌};
 ghost use Rattle.mls_c.specs.Faults.{number_of_scheme_fault, number_of_start_fault, start_fault_numbers};
 ghost use Rattle.mls_c.specs.Resumed.{number_of_entry_fault, line_fault_numbers};
@@ -8,7 +8,7 @@ use mls_labels::SchemeFault;
 use mls_start::StartFault;
 use mls_start_file::LoadFault;
 
-/// Why a start or a journal is refused: the kind of the fault, a number that says more, and the place.
+/// Why a start, a journal or a state is refused: the kind of the fault, a number that says more, and the place.
 #[repr(C)]
 #[derive(Clone, Copy)]
 pub struct FaultNumbers {

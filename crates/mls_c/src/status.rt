@@ -12,7 +12,8 @@ pub const EOPEN: i32 = -2;
 /// An allocation failed.
 pub const ENOMEM: i32 = -3;
 
-/// The numbers are no request, no label or no kind of labels, or the text is no label.
+/// The numbers are no request, no label or no kind of labels, the text is no label, or more entries came before than a
+/// monitor forgets.
 pub const EINVAL: i32 = -4;
 
 /// The start is refused.
@@ -29,3 +30,6 @@ pub const ERANGE: i32 = -8;
 
 /// The journal has no such entry, or the start no such name.
 pub const ENOTFOUND: i32 = -9;
+
+/// The text isn't that of a secure state of the start.
+pub const ESTATE: i32 = -10;

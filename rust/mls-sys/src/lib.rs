@@ -19,6 +19,7 @@ pub const MLS_EJOURNAL: c_int = -6;
 pub const MLS_EREPLAY: c_int = -7;
 pub const MLS_ERANGE: c_int = -8;
 pub const MLS_ENOTFOUND: c_int = -9;
+pub const MLS_ESTATE: c_int = -10;
 
 // Actions.
 pub const MLS_GET: u8 = 0;
@@ -151,7 +152,7 @@ pub struct mls_journal_entry {
     pub request: mls_request,
 }
 
-/// Why a start or a journal is refused: the kind of the fault, a number that says more, and the place.
+/// Why a start, a journal or a state is refused: the kind of the fault, a number that says more, and the place.
 #[repr(C)]
 #[derive(Clone, Copy, Debug, Default, PartialEq, Eq, Hash)]
 pub struct mls_fault {
@@ -245,6 +246,15 @@ extern "C" {
         journal_len: usize,
         fault: *mut mls_fault,
     ) -> c_int;
+    pub fn mls_open_state(
+        m: *mut mls_monitor,
+        start: *const u8,
+        len: usize,
+        state: *const u8,
+        state_len: usize,
+        number: u64,
+        fault: *mut mls_fault,
+    ) -> c_int;
     pub fn mls_submit(m: *mut mls_monitor, session: u32, request: *const mls_request, answer: *mut mls_answer)
         -> c_int;
     pub fn mls_check(m: *mut mls_monitor, subject: u16, object: u16, mode: u8) -> c_int;
@@ -302,6 +312,7 @@ extern "C" {
         len: *mut usize,
         numbers: *mut u16,
     ) -> c_int;
+    pub fn mls_state_text(m: *mut mls_monitor, buf: *mut c_char, cap: usize, len: *mut usize) -> c_int;
     pub fn mls_close(m: *mut mls_monitor);
     pub fn mls_version() -> *const c_char;
     pub fn mls_status_word(status: c_int) -> *const c_char;

@@ -32,10 +32,19 @@ impl Handle {
 
     /// The handle that `mls_resume` leaves, or its status and the fault.
     pub fn resume(start: &[u8], journal: &[u8]) -> Result<Handle, (c_int, mls_fault)> {
-        let journal = if overlap(start, journal) { Cow::Owned(journal.to_vec()) } else { Cow::Borrowed(journal) };
+        let journal = apart(start, journal);
         // SAFETY: as for `open`, and the journal doesn't overlap the start.
         opened(|at, fault| unsafe {
             mls_resume(at, start.as_ptr(), start.len(), journal.as_ptr(), journal.len(), fault)
+        })
+    }
+
+    /// The handle that `mls_open_state` leaves, or its status and the fault.
+    pub fn open_state(start: &[u8], state: &[u8], number: u64) -> Result<Handle, (c_int, mls_fault)> {
+        let state = apart(start, state);
+        // SAFETY: as for `open`, and the state doesn't overlap the start.
+        opened(|at, fault| unsafe {
+            mls_open_state(at, start.as_ptr(), start.len(), state.as_ptr(), state.len(), number, fault)
         })
     }
 
@@ -126,6 +135,15 @@ impl Drop for Handle {
 fn overlap(one: &[u8], other: &[u8]) -> bool {
     let (one, other) = (one.as_ptr_range(), other.as_ptr_range());
     one.start.max(other.start) < one.end.min(other.end)
+}
+
+/// A text that doesn't overlap another one: itself, or a copy.
+fn apart<'a>(from: &[u8], text: &'a [u8]) -> Cow<'a, [u8]> {
+    if overlap(from, text) {
+        Cow::Owned(text.to_vec())
+    } else {
+        Cow::Borrowed(text)
+    }
 }
 
 /// A value that a call has told, or else the call's status.

@@ -15,6 +15,7 @@ mod monitor;
 mod refusals;
 mod request;
 mod state_start;
+mod state_text;
 
 pub use answer::{Answer, Reason, Reply};
 pub use basis::{Basis, Compared, Term};
@@ -28,3 +29,4 @@ pub use monitor::{Monitor, SubmitError};
 pub use refusals::{OpenError, ReplayFault};
 pub use request::{Mode, Object, Request, Subject};
 pub use state_start::{StateStart, StateStartError};
+pub use state_text::{OpenStateError, StateTextError};

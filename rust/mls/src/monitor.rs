@@ -41,7 +41,7 @@ pub struct Monitor {
 impl Monitor {
     /// Opens a monitor from the bytes of a start file, with an empty journal.
     pub fn open(start: &[u8]) -> Result<Monitor, OpenError> {
-        is_known(version())?;
+        is_known(version()).map_err(OpenError::Library)?;
         opened(Handle::open(start))
     }
 
@@ -56,7 +56,7 @@ impl Monitor {
     /// assert_eq!(forged, OpenError::Replay { entry: 0, fault });
     /// ```
     pub fn resume(start: &[u8], journal: &[u8]) -> Result<Monitor, OpenError> {
-        is_known(version())?;
+        is_known(version()).map_err(OpenError::Library)?;
         opened(Handle::resume(start, journal))
     }
 
@@ -146,11 +146,11 @@ impl fmt::Display for SubmitError {
 impl error::Error for SubmitError {}
 
 /// Whether a library of this version has all that this crate calls: as new as the header, and of its major version.
-fn is_known(version: &'static str) -> Result<(), OpenError> {
+pub(crate) fn is_known(version: &'static str) -> Result<(), &'static str> {
     let numbers = version.split_once('.').map(|(major, minor)| (major.parse(), minor.parse::<u32>()));
     match numbers {
         Some((Ok(MLS_VERSION_MAJOR), Ok(minor))) if minor >= MLS_VERSION_MINOR => Ok(()),
-        _ => Err(OpenError::Library(version)),
+        _ => Err(version),
     }
 }
 
@@ -190,7 +190,7 @@ mod tests {
             assert_eq!(is_known(known), Ok(()));
         }
         for other in ["0.1", "1.2", "1.0", "0", "", "0.", "?", "0.2.1", "-0.2"] {
-            assert_eq!(is_known(other), Err(OpenError::Library(other)));
+            assert_eq!(is_known(other), Err(other));
         }
     }
 }

@@ -178,6 +178,69 @@ fn a_journal_is_resumed() {
     assert_eq!(Monitor::resume(START, b"").unwrap().entry_count(), 0);
 }
 
+/// A store in miniature: it keeps each line and each entry, and goes on from a state's text.
+#[test]
+fn a_monitor_that_goes_on() {
+    let mut m = opened();
+    let (security, low) = (label(2, &[1]), label(0, &[]));
+    let answers = [
+        m.get(0, ANN, PLANS, Mode::Read),
+        m.get(0, SEC, ROOT, Mode::Write),
+        m.create(0, SEC, ROOT, security, low),
+        m.give(0, SEC, BOB, MADE, Mode::Append),
+        m.get(0, BOB, MADE, Mode::Append),
+        m.delete(0, SEC, MEMO),
+    ];
+    assert!(answers.iter().all(|it| it.unwrap().is_granted()));
+    let (mut lines, state, number) = (m.journal(0).unwrap(), m.state_text().unwrap(), m.entry_count());
+    m.forget(number);
+    let last = [m.release(9, ANN, PLANS, Mode::Read).unwrap(), m.create(0, SEC, ROOT, low, low).unwrap()];
+    assert_eq!(last.map(|it| it.number), [6, 7]);
+    lines += &m.journal(number).unwrap();
+    let (behind, at_last) = (m.entries(0).collect::<Vec<_>>(), m.state_text().unwrap());
+    drop(m);
+    let mut on = Monitor::open_state(START, state.as_bytes(), number).unwrap();
+    assert_eq!((on.entry_count(), on.forgotten(), on.entries(0).count()), (6, 6, 0));
+    assert_eq!((on.entry(5), on.line(5), on.state_text()), (None, Err(EntryError::NoSuchEntry), Ok(state)));
+    assert!(on.check(ANN, PLANS, Mode::Read) && on.check(BOB, MADE, Mode::Append));
+    for entry in &behind {
+        assert_eq!(on.submit(entry.session, &entry.request), Ok(entry.answer));
+    }
+    assert_eq!((on.entries(0).collect::<Vec<_>>(), on.state_text().unwrap()), (behind, at_last));
+    assert_eq!(on.get(3, BOB, PLANS, Mode::Read).unwrap().number, 8);
+    lines += &on.line(8).unwrap();
+    let whole = Monitor::resume(START, lines.as_bytes()).unwrap();
+    assert_eq!((whole.state_text(), whole.entry_count()), (on.state_text(), 9));
+}
+
+#[test]
+fn states_that_are_refused() {
+    let state = opened().state_text().unwrap();
+    let refused = |text: &str| Monitor::open_state(START, text.as_bytes(), 7).unwrap_err();
+    let last = "permit aud read plans\n";
+    assert!(state.ends_with(last));
+    let rows = [
+        (String::new(), OpenStateError::Line(0)),
+        (state[..state.len() - 1].into(), OpenStateError::Line(21)),
+        (state.replace("next 4", "next 3"), OpenStateError::Line(1)),
+        (state.replace("profile 1", "profile 2"), OpenStateError::OtherStart),
+        (state.replace("bob maximum C", "bob maximum S"), OpenStateError::OtherStart),
+        (format!("{state}access bob read memo\n"), OpenStateError::NotSecure),
+    ];
+    for (text, error) in rows {
+        assert_eq!(refused(&text), error, "{text}");
+    }
+    // what a call is lent may not overlap: the crate sees to that
+    assert_eq!(Monitor::open_state(START, START, 7).unwrap_err(), OpenStateError::Line(0));
+    let error = Monitor::open_state(b"{}", state.as_bytes(), 7).unwrap_err();
+    assert_eq!(error, OpenStateError::Start(LoadFault::Members));
+    let most = 1 << 63;
+    let error = Monitor::open_state(START, state.as_bytes(), most + 1).unwrap_err();
+    assert_eq!((error, error.to_string().as_str()), (OpenStateError::TooManyEntries, "too many entries"));
+    let mut on = Monitor::open_state(START, state.as_bytes(), most).unwrap();
+    assert_eq!((on.get(0, ANN, PLANS, Mode::Read).unwrap().number, on.entry_count()), (most, most + 1));
+}
+
 #[test]
 fn starts_that_are_refused() {
     let rows = [

@@ -85,4 +85,10 @@ impl Handle {
         let text = copied(|room, cap, len| unsafe { mls_state_start(self.0.get(), room, cap, len, at) })?;
         Ok((text, numbers))
     }
+
+    /// The text of `mls_state_text`, or its status.
+    pub fn state_text(&self) -> Result<Vec<u8>, c_int> {
+        // SAFETY: as for `subject_name`.
+        copied(|room, cap, len| unsafe { mls_state_text(self.0.get(), room, cap, len) })
+    }
 }
