@@ -99,7 +99,7 @@ fold-push : (v : State) (es : List Entry) (e : Entry) → fold v (es ++ e ∷ []
 fold-push v [] e = refl
 fold-push v (x ∷ es) e = fold-push (after v x.request) es e
 
-more : (es : List Entry) (n : ℕ) (e : Entry) → n < length es → e ≡ get_or es n e → take (n + 1) es ≡ take n es ++ e ∷ []
+pub more : (es : List Entry) (n : ℕ) (e : Entry) → n < length es → e ≡ get_or es n e → take (n + 1) es ≡ take n es ++ e ∷ []
 more es n e within is = take_more es n e within ∙ ap (λ k. take n es ++ k ∷ []) (sym is)
 
 -- the state after the entries so far and the next

@@ -4,3 +4,11 @@ mod Places
 mod Swept
 mod Begins
 mod Listed
+mod AccessKeys
+mod Permitting
+mod UsesMore
+mod Tallied
+mod UsageRows
+mod Usages
+mod KeptSteps
+mod Texts

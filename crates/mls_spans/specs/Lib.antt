@@ -4,3 +4,7 @@ pub mod Asked
 pub mod Lines
 pub mod Listings
 pub mod Opening
+pub mod Uses
+pub mod Kept
+pub mod UsageLines
+pub mod UsageListings

@@ -24,7 +24,7 @@ pub(crate) struct Spans {
 }
 
 /// Whether an access is held.
-fn is_held(state: &State, access: &(SubjectId, ObjectId, Mode)) -> bool
+pub(crate) fn is_held(state: &State, access: &(SubjectId, ObjectId, Mode)) -> bool
     ensures { result ≡ is_held state.now access.now }
 {
     let (s, o, x) = access;
@@ -64,7 +64,7 @@ fn may_take(action: &Action) -> bool
 }
 
 /// Whether a reply grants what was asked.
-fn is_granted(reply: &Reply) -> bool
+pub(crate) fn is_granted(reply: &Reply) -> bool
     ensures { result ≡ is_granted reply.now }
 {
     matches!(reply, Reply::Yes | Reply::Created(_))

@@ -11,7 +11,7 @@ use mls_wording::{push_number, push_object, push_subject};
 use std::alloc::{AllocError, Global};
 
 /// Appends an access: `SUBJECT MODE OBJECT`.
-fn push_access(
+pub(crate) fn push_access(
     text: &mut String,
     names: &Names,
     access: (SubjectId, ObjectId, Mode),

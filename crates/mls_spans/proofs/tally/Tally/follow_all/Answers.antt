@@ -1,0 +1,14 @@
+use Rattle.mls_spans.proofs.Followed.{state_next}
+use Rattle.mls_spans.proofs.Tallied.{tally_next}
+use Rattle.mls_spans.proofs.tally.Tally.follow_all.Goals as goal
+
+pub loop-entry-preserved : goal.loop-entry-preserved
+loop-entry-preserved c = record {
+  state =
+      state_next c.args.state.now c.loop-entry.state c.follow.new.state c.args.entries.now c.loop-entry.entry-index c.entry-item.result
+      c.loop-entry-test.true c.entry-item.is c.loop-entry.invariant.state c.in_ok-follow.ensures.state;
+  tally =
+      tally_next c.args.state.now c.loop-entry.state c.follow.new.state c.args.entries.now c.loop-entry.entry-index c.entry-item.result
+      c.loop-entry.self c.follow.new.self c.loop-entry-test.true c.entry-item.is c.loop-entry.invariant.state c.in_ok-follow.ensures.state
+      c.loop-entry.invariant.tally c.in_ok-follow.ensures.tally;
+}
