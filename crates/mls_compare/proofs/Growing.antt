@@ -17,17 +17,17 @@ unfolding shared
 shared_more names others n = range_flat_more (λ k. shared_as k (counterpart names others k)) n
 
 -- the lines of the names before the next place
-only_next : (file : List ℕ) (others names : List (List ℕ)) (n : ℕ)
-    → only_lines file (take (suc n) names) others ≡ only_lines file (take n names) others ++ only_at file others (slice_get names n)
-only_next file others [] zero = refl
-only_next file others [] (suc n) = refl
-only_next file others (name ∷ names) zero = append-nil (only_where file others name)
-only_next file others (name ∷ names) (suc n) =
-    ap (λ t. only_where file others name ++ t) (only_next file others names n)
-    ∙ sym (append_assoc (only_where file others name) (only_lines file (take n names) others) (only_at file others (slice_get names n)))
+only_next : (file kind : List ℕ) (others names : List (List ℕ)) (n : ℕ)
+    → only_lines file kind (take (suc n) names) others ≡ only_lines file kind (take n names) others ++ only_at file kind others (slice_get names n)
+only_next file kind others [] zero = refl
+only_next file kind others [] (suc n) = refl
+only_next file kind others (name ∷ names) zero = append-nil (only_where file kind others name)
+only_next file kind others (name ∷ names) (suc n) =
+    ap (λ t. only_where file kind others name ++ t) (only_next file kind others names n)
+    ∙ sym (append_assoc (only_where file kind others name) (only_lines file kind (take n names) others) (only_at file kind others (slice_get names n)))
 
-pub only_more : (file : List ℕ) (names others : List (List ℕ)) (n : ℕ)
-    → only_lines file (take (n + 1) names) others ≡ only_lines file (take n names) others ++ only_at file others (slice_get names n)
-only_more file names others n =
+pub only_more : (file kind : List ℕ) (names others : List (List ℕ)) (n : ℕ)
+    → only_lines file kind (take (n + 1) names) others ≡ only_lines file kind (take n names) others ++ only_at file kind others (slice_get names n)
+only_more file kind names others n =
     let next : n + 1 ≡ suc n = omega arith in
-    ap (λ k. only_lines file (take k names) others) next ∙ only_next file others names n
+    ap (λ k. only_lines file kind (take k names) others) next ∙ only_next file kind others names n

@@ -1,6 +1,8 @@
 mod Followed
 mod Growing
 mod Labels
+mod NameLists
 mod Refusals
 pub mod Replayed
 mod Tables
+mod Told

@@ -1,8 +1,10 @@
 pub mod Carriers
 pub mod Carrying
+pub mod Changes
 pub mod Comparing
 pub mod Counterparts
 pub mod Differences
 pub mod Following
+pub mod Holding
 pub mod Replying
 pub mod Snapshots

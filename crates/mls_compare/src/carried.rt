@@ -39,7 +39,7 @@ fn label_read(read: Result<Label, LabelFault>) -> Option<Label>
 }
 
 /// The counterpart of a label, looked up by the names that it has.
-fn carry_anew(
+pub(crate) fn carry_anew(
     alloc: Global,
     scheme: &Scheme,
     other: &Scheme,

@@ -2,7 +2,8 @@
 ghost use Rattle.std.specs.Prelude.{◌≡◌, ◌++◌, string_bytes, OnOk};
 ghost use Rattle.std.specs.List.{flat_map};
 ghost use Rattle.mls_rules.specs.Rules.{reply};
-ghost use Rattle.mls_compare.specs.Differences.{get_of, get_text, get_line, cell_lines, gets_text};
+ghost use Rattle.mls_compare.specs.Differences.{get_of, get_line, cell_lines, gets_text};
+ghost use Rattle.mls_compare.specs.Holding.{get_text};
 
 use crate::replying::{agree, push_replies};
 use crate::shared::Shared;
@@ -24,8 +25,14 @@ fn get_reply(state: &State, s: u16, o: u16, x: Mode) -> Reply
     decide(state, &request)
 }
 
-/// Appends a get: the subject, the mode and the object.
-fn push_get(text: &mut String, names: &Names, s: u16, o: u16, x: Mode) -> Result<(), AllocError>
+/// Appends a subject, a mode and an object.
+pub(crate) fn push_get(
+    text: &mut String,
+    names: &Names,
+    s: u16,
+    o: u16,
+    x: Mode,
+) -> Result<(), AllocError>
     ensures { OnOk result (string_bytes text.new ≡ string_bytes text.old ++ get_text names.now s o x) }
 {
     push_subject(text, names, SubjectId(s))?;

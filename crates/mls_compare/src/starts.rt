@@ -1,13 +1,17 @@
 //! How two starts differ.
-ghost use Rattle.std.specs.Prelude.{◌≡◌, ◌++◌, ◌==◌, length, string_bytes, IfOk, OnOk};
-ghost use Rattle.mls_tables.specs.declared.limits.TheConstants.{MAX_SUBJECTS, MAX_OBJECTS};
+ghost use Rattle.std.specs.Prelude.{◌≡◌, ◌++◌, string_bytes, IfOk, OnOk};
+ghost use Rattle.mls_start_file.specs.Ties.{HasFewNames};
+ghost use Rattle.mls_compare.specs.Changes.{things_text};
 ghost use Rattle.mls_compare.specs.Comparing.{IsAnswer};
-ghost use Rattle.mls_compare.specs.Counterparts.{shared};
-ghost use Rattle.mls_compare.specs.Differences.{gets_text, starts_text};
+ghost use Rattle.mls_compare.specs.Differences.{shared_text, openings_text, starts_text};
 
 use crate::gets::push_gets;
+use crate::heads::push_heads;
+use crate::holding::push_tables;
+use crate::objects::push_objects;
 use crate::only::push_only;
-use crate::shared::{shared_objects, shared_subjects};
+use crate::shared::{Shared, shared_objects, shared_subjects};
+use crate::subjects::push_subjects;
 use mls_lines::Names;
 use mls_monitor::Start;
 use mls_rules::State;
@@ -15,62 +19,105 @@ use mls_start_file::Loaded;
 use mls_wording::Answer;
 use std::alloc::{AllocError, Global};
 
-/// Appends the lines of the gets, of subjects and objects that both starts have, that two states answer otherwise.
-fn push_shared(
+/// Appends what two starts have otherwise of the subjects and the objects that they share.
+fn push_things(
     alloc: Global,
     text: &mut String,
-    first: &Names,
-    second: &Names,
+    names: (&Names, &Names),
     states: (&State, &State),
+    subjects: &[Shared],
+    objects: &[Shared],
 ) -> Result<(), AllocError>
     ensures { OnOk result (string_bytes text.new ≡ string_bytes text.old
-        ++ gets_text first.now states.entry.0.now states.entry.1.now
-        (shared first.now.subjects second.now.subjects MAX_SUBJECTS)
-        (shared first.now.objects second.now.objects MAX_OBJECTS)) }
+        ++ things_text names.entry.0.now names.entry.1.now states.entry.0.now states.entry.1.now
+        subjects.now objects.now) }
 {
-    let subjects = shared_subjects(alloc, first, second)?;
-    let objects = shared_objects(alloc, first, second)?;
-    push_gets(text, first, states, &subjects, &objects)?;
+    push_subjects(alloc, text, names, states, subjects)?;
+    push_objects(alloc, text, names, states, objects)?;
     Ok(())
 }
 
-/// Appends the lines of the gets, of subjects and objects that both starts have, that a state and a start's opening
-/// answer otherwise.
+/// Appends what differs between two starts with these names and states, of which these are the subjects and the objects
+/// that they share.
+fn push_all(
+    alloc: Global,
+    text: &mut String,
+    words: (&str, &str),
+    names: (&Names, &Names),
+    states: (&State, &State),
+    subjects: &[Shared],
+    objects: &[Shared],
+) -> Result<(), AllocError>
+    requires first { HasFewNames names.0.now }
+    requires second { HasFewNames names.1.now }
+    ensures { OnOk result (string_bytes text.new ≡ string_bytes text.old
+        ++ shared_text words.entry.0.now words.entry.1.now names.entry.0.now names.entry.1.now
+        states.entry.0.now states.entry.1.now subjects.now objects.now) }
+{
+    push_things(alloc, text, names, states, subjects, objects)?;
+    push_tables(text, words, names.0, states, subjects, objects)?;
+    push_only(alloc, text, words, names.0, names.1)?;
+    push_gets(text, names.0, states, subjects, objects)?;
+    Ok(())
+}
+
+/// Appends what differs between two starts with these names that open with these states.
+fn push_states(
+    alloc: Global,
+    text: &mut String,
+    words: (&str, &str),
+    names: (&Names, &Names),
+    states: (&State, &State),
+) -> Result<(), AllocError>
+    requires first { HasFewNames names.0.now }
+    requires second { HasFewNames names.1.now }
+    ensures { OnOk result (string_bytes text.new ≡ string_bytes text.old
+        ++ openings_text words.entry.0.now words.entry.1.now names.entry.0.now names.entry.1.now
+        states.entry.0.now states.entry.1.now) }
+{
+    let subjects = shared_subjects(alloc, names.0, names.1)?;
+    let objects = shared_objects(alloc, names.0, names.1)?;
+    push_all(alloc, text, words, names, states, &subjects, &objects)?;
+    Ok(())
+}
+
+/// Appends what differs between a start that opens with a state and another start.
 fn push_second(
     alloc: Global,
     text: &mut String,
-    first: &Names,
-    second: &Names,
+    words: (&str, &str),
+    names: (&Names, &Names),
     opened: &State,
     start: &Start,
 ) -> Result<(), AllocError>
+    requires first { HasFewNames names.0.now }
+    requires second { HasFewNames names.1.now }
     ensures { OnOk result (string_bytes text.new ≡ string_bytes text.old
-        ++ gets_text first.now opened.now start.now
-        (shared first.now.subjects second.now.subjects MAX_SUBJECTS)
-        (shared first.now.objects second.now.objects MAX_OBJECTS)) }
+        ++ openings_text words.entry.0.now words.entry.1.now names.entry.0.now names.entry.1.now
+        opened.now start.now) }
 {
     let other = start.opening(alloc)?;
-    let pushed = push_shared(alloc, text, first, second, (opened, &other));
+    let pushed = push_states(alloc, text, words, names, (opened, &other));
     drop(other);
     pushed
 }
 
-/// Appends the lines of the gets, of subjects and objects that both starts have, that the two openings answer
-/// otherwise.
+/// Appends what differs between the openings of two starts.
 fn push_openings(
     alloc: Global,
     text: &mut String,
-    first: &Names,
-    second: &Names,
+    words: (&str, &str),
+    names: (&Names, &Names),
     starts: (&Start, &Start),
 ) -> Result<(), AllocError>
+    requires first { HasFewNames names.0.now }
+    requires second { HasFewNames names.1.now }
     ensures { OnOk result (string_bytes text.new ≡ string_bytes text.old
-        ++ gets_text first.now starts.entry.0.now starts.entry.1.now
-        (shared first.now.subjects second.now.subjects MAX_SUBJECTS)
-        (shared first.now.objects second.now.objects MAX_OBJECTS)) }
+        ++ openings_text words.entry.0.now words.entry.1.now names.entry.0.now names.entry.1.now
+        starts.entry.0.now starts.entry.1.now) }
 {
     let opened = starts.0.opening(alloc)?;
-    let pushed = push_second(alloc, text, first, second, &opened, starts.1);
+    let pushed = push_second(alloc, text, words, names, &opened, starts.1);
     drop(opened);
     pushed
 }
@@ -83,8 +130,9 @@ pub(crate) fn answer(text: String) -> Answer
     Answer { text, is_positive }
 }
 
-/// How the second of two starts differs from the first, a line each: the names that only one of them has, and the gets,
-/// of subjects and objects that both have, that the two openings answer otherwise. Files of these words say them.
+/// How the second of two starts differs from the first, a line each: what both have, but otherwise; what only one of
+/// them has; and the gets, of subjects and objects that both have, that the two openings answer otherwise. Files of
+/// these words say them.
 ///
 /// # Errors
 /// `AllocError` where an allocation failed.
@@ -98,13 +146,9 @@ pub(crate) fn compare_starts(
         (λ found. IsAnswer (starts_text words.entry.0.now words.entry.1.now first.now second.now) found) }
 {
     let mut text = String::new(alloc);
-    push_only(&mut text, words, first.names(), second.names())?;
-    push_openings(
-        alloc,
-        &mut text,
-        first.names(),
-        second.names(),
-        (first.start(), second.start()),
-    )?;
+    let names = (first.names(), second.names());
+    let starts = (first.start(), second.start());
+    push_heads(alloc, &mut text, names, starts)?;
+    push_openings(alloc, &mut text, words, names, starts)?;
     Ok(answer(text))
 }
