@@ -1,5 +1,6 @@
 pub mod Bases
 pub mod Culprit
+pub mod Entries
 pub mod Explained
 pub mod FaultLines
 pub mod Files
@@ -10,4 +11,5 @@ pub mod Question
 pub mod Responses
 pub mod Sorts
 pub mod Terms
+pub mod Under
 pub mod Who

@@ -1,5 +1,5 @@
-//! The text behind the questions ask, explain and who, and for all questions the lines that tell which word names
-//! nothing.
+//! The text behind the questions ask, explain and who, and behind journal where its entries are explained; and for all
+//! questions the lines that tell which word names nothing.
 #![tactic(auto)]
 
 mod asked;
@@ -9,10 +9,12 @@ mod condition_line;
 mod controls;
 mod culprit;
 mod cutting;
+mod entries;
 mod explained;
 mod explaining;
 mod fault_lines;
 mod level_changes;
+mod listed;
 mod nearest;
 mod obstacles;
 mod parts;
@@ -27,6 +29,7 @@ mod term;
 mod theorems;
 mod told;
 mod undefined;
+mod under;
 mod worded;
 mod wrong;
 
@@ -35,10 +38,11 @@ pub use asking::answer_in;
 pub use explained::explain;
 pub use explaining::explain_in;
 pub use fault_lines::{fault_line, word_line};
+pub use listed::list_explained;
 pub use mls_wording::Answer;
 pub use permitted::who_in;
 pub use question::read_question;
 pub use response::{Response, answer_to};
 pub use sort::Sort;
-pub use theorems::words_are_parts;
+pub use theorems::{entries_are_explained_alike, words_are_parts};
 pub use told::who;

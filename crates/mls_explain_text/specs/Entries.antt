@@ -1,0 +1,77 @@
+-- What is listed of the entries of a journal, each with why it has its reply.
+use Rattle.std.specs.Prelude.{◌≡◌, ℕ, Bool, true, false, List, [], ◌∷◌, ◌++◌, filter, take, string_bytes}
+use Rattle.std.specs.Prelude.{Option, Some, None}
+use Rattle.std.specs.List.{list_any}
+use Rattle.mls_requests.specs.declared.ask.Ask.TheVariants.{Submit}
+use Rattle.mls_requests.specs.declared.entry.Entry.{Entry}
+use Rattle.mls_lines.specs.Names.{Names}
+use Rattle.mls_marks.specs.declared.row.Row.{Row}
+use Rattle.mls_monitor.specs.Journal.{fold}
+use Rattle.mls_replay.specs.Replays.{Replayed, ReplaysAt}
+use Rattle.mls_reports.specs.Choosing.{IsChosen, Words}
+use Rattle.mls_reports.specs.Listings.{stamped_line}
+use Rattle.mls_reports.specs.Matching.{Choice, matches}
+use Rattle.mls_state.specs.State.{State}
+use Rattle.mls_wording.specs.declared.answer.Answer.{Answer}
+use Rattle.mls_explain_text.specs.Explained.{Explains}
+use Rattle.mls_explain_text.specs.Files.{ExplainsEntry, ExplainsEither, SeesThat}
+use Rattle.mls_explain_text.specs.Under.{under_text}
+
+-- A start and its entries, as they are seen before the entry of a number: in the state that those before it lead to.
+-- (own)
+abbrev pub seen_before : Names → State → List Entry → ℕ → Replayed
+seen_before names start entries n =
+    record { names = names; start = start; entries = entries; state = fold start (take n entries) }
+
+-- What stands under the line of an entry: what explains the entry of its number, as `mls explain --at` prints it, but
+-- for the first line, each line behind two spaces. (own)
+pub record IsUnder (names : Names) (start : State) (entries : List Entry) (e : Entry) (under : List ℕ) : Type 0 where
+  pub told : List ℕ
+  pub positive : Bool
+  pub explains : ExplainsEntry (seen_before names start entries e.number) (Some e.number) told positive
+  pub text : under ≡ under_text told
+
+-- A text is that of some of the entries: of each its line, and what stands under it. (own)
+abbrev pub TellsEach : Names → State → List Entry → Option (List Row) → List Entry → List ℕ → Type 0
+TellsEach names start entries marks [] text = text ≡ []
+TellsEach names start entries marks (e ∷ chosen) text =
+    (under : List ℕ) × (rest : List ℕ) × IsUnder names start entries e under
+    × TellsEach names start entries marks chosen rest × (text ≡ stamped_line names marks e ++ (under ++ rest))
+
+-- To a text the line of an entry is added, and what explains its request in a state, but for the first line. (own)
+pub record AddsEntry (names : Names) (marks : Option (List Row)) (v : State) (e : Entry) (old new : List ℕ)
+    : Type 0 where
+  pub told : List ℕ
+  pub explains : Explains names v (Submit e.request) told
+  pub text : new ≡ old ++ (stamped_line names marks e ++ under_text told)
+
+-- To a text this is added where an entry is asked for, and nothing where it isn't. (own)
+abbrev pub AddsWhere : Bool → Names → Option (List Row) → State → Entry → List ℕ → List ℕ → Type 0
+AddsWhere true names marks v e old new = AddsEntry names marks v e old new
+AddsWhere false names marks v e old new = new ≡ old
+
+-- What is listed of the entries that are asked for, each explained, and of no others; it is positive where there is
+-- one. (own)
+pub record IsExplained (names : Names) (start : State) (entries : List Entry) (marks : Option (List Row)) (c : Choice)
+    (answer : Answer) : Type 0 where
+  pub text : TellsEach names start entries marks (filter (matches c) entries) (string_bytes answer.text)
+  pub positive : answer.is_positive ≡ list_any (matches c) entries
+
+-- There is a listing of the entries of a replay that a filter asks for, each explained. (own)
+abbrev pub ExplainsOver : Replayed → Option (List Row) → Words → Answer → Type 0
+ExplainsOver r marks asked answer =
+    (c : Choice) × IsChosen r.names asked c × IsExplained r.names r.start r.entries marks c answer
+
+-- A start file and a journal are replayed, and there is a listing of the entries that a filter asks for, each
+-- explained, with their times by the rows of marks, where there are some. (own)
+abbrev pub ListsExplained : List ℕ → List ℕ → Option (List Row) → Words → Answer → Type 0
+ListsExplained bytes journal marks asked answer =
+    (r : Replayed) × ReplaysAt bytes journal None r × ExplainsOver r marks asked answer
+
+-- What stands under the line of an entry is what `mls explain --at` is answered of its number over these files, but for
+-- the first line, each line behind two spaces. (own)
+abbrev pub AnswersAlike : List ℕ → List ℕ → Entry → List ℕ → Type 0
+AnswersAlike bytes journal e under =
+    (told : List ℕ) × (positive : Bool)
+    × SeesThat bytes (Some journal) (Some e.number) (λ seen. ExplainsEither seen (Some e.number) None told positive)
+    × (under ≡ under_text told)
