@@ -39,6 +39,8 @@ pub(crate) enum Kind {
     Flag,
     /// An option without a value that can't stand beside this option.
     FlagWithout(&'static str),
+    /// An option without a value that can't stand beside either of these options.
+    FlagWithoutEither(&'static str, &'static str),
     /// An option without a value that stands beside this option alone.
     FlagBeside(&'static str),
 }
@@ -103,6 +105,9 @@ impl Argument {
             Kind::EntryOfJournal => with_entry(arg, self.name).requires_arg("journal"),
             Kind::Flag => Ok(as_flag(arg, self.name)),
             Kind::FlagWithout(other) => as_flag(arg, self.name).conflicts_with(other),
+            Kind::FlagWithoutEither(one, other) => as_flag(arg, self.name)
+                .conflicts_with(one)?
+                .conflicts_with(other),
             Kind::FlagBeside(other) => as_flag(arg, self.name).requires_arg(other),
         }
     }

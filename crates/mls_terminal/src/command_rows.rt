@@ -19,6 +19,7 @@ pub(crate) enum CommandName {
     Journal,
     State,
     Held,
+    Usage,
     Compare,
 }
 
@@ -249,7 +250,7 @@ const LINT_ARGUMENTS: [Argument; 1] = [START];
 const LATTICE_ARGUMENTS: [Argument; 1] = [START];
 
 /// The arguments of `journal`.
-const JOURNAL_ARGUMENTS: [Argument; 14] = [
+const JOURNAL_ARGUMENTS: [Argument; 15] = [
     Argument {
         name: "subject",
         kind: Kind::Text("SUBJ"),
@@ -305,6 +306,11 @@ const JOURNAL_ARGUMENTS: [Argument; 14] = [
         name: "json",
         kind: Kind::FlagWithout("summary"),
         help: "Prints a JSON object for each, in a line",
+    },
+    Argument {
+        name: "explain",
+        kind: Kind::FlagWithoutEither("summary", "json"),
+        help: "Prints under each why it has its reply, as mls explain --at does of its number",
     },
     START,
     JOURNAL,
@@ -364,6 +370,22 @@ const HELD_ARGUMENTS: [Argument; 8] = [
     JOURNAL,
 ];
 
+/// The arguments of `usage`.
+const USAGE_ARGUMENTS: [Argument; 4] = [
+    Argument {
+        name: "from",
+        kind: Kind::Entry,
+        help: "The permissions of the state before entry N, counted from 0, or of a later one, and the entries from N on",
+    },
+    Argument {
+        name: "to",
+        kind: Kind::Entry,
+        help: "The permissions of the state after entry N, or of an earlier one, and the entries up to N",
+    },
+    START,
+    JOURNAL,
+];
+
 /// The arguments of `compare`.
 const COMPARE_ARGUMENTS: [Argument; 3] = [
     Argument {
@@ -384,7 +406,7 @@ const COMPARE_ARGUMENTS: [Argument; 3] = [
 ];
 
 /// The commands, in the order of help.
-pub(crate) const COMMANDS: [CommandRow; 15] = [
+pub(crate) const COMMANDS: [CommandRow; 16] = [
     CommandRow {
         command: CommandName::Check,
         name: "check",
@@ -492,7 +514,8 @@ pub(crate) const COMMANDS: [CommandRow; 15] = [
         about: "Prints the entries of a journal by name, or those that meet all options. The status is 0 where \
             there is one, else 4",
         example: "Examples: mls journal --reply no examples/office.json office.journal; mls journal --subject petra \
-            examples/office.json office.journal, of all that petra asked and was permitted",
+            examples/office.json office.journal, of all that petra asked and was permitted; mls journal --explain \
+            --by petra --reply no examples/office.json office.journal, of why petra was denied what",
         arguments: &JOURNAL_ARGUMENTS,
     },
     CommandRow {
@@ -514,12 +537,22 @@ pub(crate) const COMMANDS: [CommandRow; 15] = [
         arguments: &HELD_ARGUMENTS,
     },
     CommandRow {
+        command: CommandName::Usage,
+        name: "usage",
+        about: "Prints each permission and how it was used over a journal: how often its get was granted and denied while \
+            it was there, and which entry was the last. A review wants the whole life of a start, or --from: a permission \
+            that is never asked may be young. The status is 0 where each was granted, else 4",
+        example: "Examples: mls usage examples/office.json office.journal; mls usage --from 4000 examples/office.json \
+            office.journal | grep 'never asked'",
+        arguments: &USAGE_ARGUMENTS,
+    },
+    CommandRow {
         command: CommandName::Compare,
         name: "compare",
-        about: "Prints how START2 differs from START1: names that only one of them has, and gets that they answer \
-            otherwise; with a journal of START1, instead, the entries that START2 would have answered \
-            otherwise. The status is 4 where something is printed, else 0. Nothing means the same answers to \
-            these, not the same files",
+        about: "Prints how START2 differs from START1: profile, order of levels, labels, trust, parents, \
+            permissions, accesses, names that only one of them has, and gets that they answer otherwise; with a \
+            journal of START1, instead, the entries that START2 would have answered otherwise. The status is 4 \
+            where something is printed, else 0. Without a journal nothing means that both open alike, but for numbers",
         example: "Example: mls compare examples/office.json new.json office.journal",
         arguments: &COMPARE_ARGUMENTS,
     },

@@ -1,7 +1,7 @@
 //! What the commands are asked for that answer questions about start files and journals.
 use mls_marks::Time;
 use mls_reports::{Form, Words};
-use mls_spans::Words as HeldFilter;
+use mls_spans::{States, Words as HeldFilter};
 
 /// The files of a question about a state: that of a start, or the one that a journal leads to.
 #[derive(Clone, Copy, Debug)]
@@ -24,6 +24,8 @@ pub struct JournalWords<'a> {
     pub journal: &'a str,
     pub filter: Words<'a>,
     pub form: Form,
+    /// Whether each entry is explained, which is listed in lines.
+    pub is_explained: bool,
     /// The file of the journal's marks, where there is one.
     pub marks: Option<&'a str>,
     /// The time of the first batch of which entries are asked for.
@@ -38,6 +40,15 @@ pub struct HeldWords<'a> {
     pub start: &'a str,
     pub journal: &'a str,
     pub filter: HeldFilter<'a>,
+}
+
+/// What `usage` is asked for.
+#[derive(Clone, Copy, Debug)]
+pub struct UsageWords<'a> {
+    pub start: &'a str,
+    pub journal: &'a str,
+    /// The states whose permissions are asked for.
+    pub states: States,
 }
 
 /// A question about start files or journals.
@@ -85,6 +96,8 @@ pub enum Question<'a> {
     },
     /// Who held what over a journal.
     Held(HeldWords<'a>),
+    /// How the permissions over a journal were used.
+    Usage(UsageWords<'a>),
     /// How a second start differs from a first one, or from its journal's replies.
     Compare {
         first: &'a str,

@@ -1,6 +1,6 @@
 //! What the words of a question ask for.
 use crate::job::Job;
-use crate::question::{HeldWords, JournalWords, Question, Source};
+use crate::question::{HeldWords, JournalWords, Question, Source, UsageWords};
 use crate::times::{time_by, time_from};
 use crate::words_fault::{FormedOption, WordsFault};
 use clap::ArgMatches;
@@ -110,6 +110,7 @@ pub(crate) fn journal_words<'a>(matches: &ArgMatches<'a>) -> Result<Job<'a>, Wor
         journal: operand(matches, "JOURNAL"),
         filter: filter(matches, reply, from, to),
         form: form(matches),
+        is_explained: matches.get_flag("explain"),
         marks: matches.get_str("marks"),
         since,
         until,
@@ -149,6 +150,19 @@ pub(crate) fn held_words<'a>(matches: &ArgMatches<'a>) -> Result<Job<'a>, WordsF
             mode: mode(matches),
             states,
         },
+    })))
+}
+
+/// What `usage` was asked for.
+///
+/// # Errors
+/// `Above` where the number of the first entry is above that of the last.
+pub(crate) fn usage_words<'a>(matches: &ArgMatches<'a>) -> Result<Job<'a>, WordsFault<'a>> {
+    let (from, to) = range(matches)?;
+    Ok(Job::Question(Question::Usage(UsageWords {
+        start: operand(matches, "START"),
+        journal: operand(matches, "JOURNAL"),
+        states: States::between(from, to),
     })))
 }
 

@@ -5,7 +5,7 @@ use crate::output::{NOT_WRITTEN, refused};
 use crate::question::Question;
 use crate::question_words::{
     ask_words, compare_words, explain_words, held_words, journal_words, operand, powers_words,
-    state_words, who_words,
+    state_words, usage_words, who_words,
 };
 use crate::verify_words::verify_words;
 use crate::words_fault::{WordsFault, words_refused};
@@ -135,6 +135,7 @@ fn command_job<'a>(
         CommandName::Journal => journal_words(words),
         CommandName::State => state_words(words),
         CommandName::Held => held_words(words),
+        CommandName::Usage => usage_words(words),
         CommandName::Compare => Ok(Job::Question(compare_words(words))),
     }
 }

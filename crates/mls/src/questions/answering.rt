@@ -5,7 +5,7 @@ use crate::questions::comparison::compare;
 use crate::questions::empowering::powers;
 use crate::questions::listing::{journal, state};
 use crate::questions::snapshots::start_of_state;
-use crate::questions::spans::held;
+use crate::questions::spans::{held, usage};
 use crate::questions::starts::{lattice, lint};
 use mls_explain_text::{Sort, fault_line, word_line};
 use mls_lines::LineFault;
@@ -145,6 +145,7 @@ pub fn answer(progress: &mut Progress<'_>, question: &Question<'_>) -> ExitCode 
             is_start: true,
         } => start_of_state(progress, source),
         Question::Held(words) => held(progress, words),
+        Question::Usage(words) => usage(progress, words),
         Question::Compare {
             first,
             second,

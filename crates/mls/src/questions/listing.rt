@@ -1,7 +1,7 @@
 //! The commands that list what a journal has, and the state that it leads to.
 use crate::questions::answering::{Named, answered, ended, name_refused, question_refused};
 use crate::questions::sources::{Bytes, read_source};
-use mls_explain_text::Sort;
+use mls_explain_text::{Sort, list_explained};
 use mls_marks::Marks;
 use mls_reports::{Filter, ListFault, Words, list_journal, list_state};
 use mls_terminal::{JournalWords, Progress, Source};
@@ -99,14 +99,18 @@ pub(crate) fn journal(progress: &mut Progress<'_>, words: &JournalWords<'_>) -> 
     let filter = marked_filter(words, marks);
     progress.begin("listing");
     let rt = progress.rt();
-    let done = list_journal(
-        rt.alloc(),
-        &bytes.start,
-        journal,
-        marks,
-        &filter,
-        words.form,
-    );
+    let done = if words.is_explained {
+        list_explained(rt.alloc(), &bytes.start, journal, marks, &filter)
+    } else {
+        list_journal(
+            rt.alloc(),
+            &bytes.start,
+            journal,
+            marks,
+            &filter,
+            words.form,
+        )
+    };
     progress.end();
     let status = match done {
         Ok(answer) => answered(rt, answer),

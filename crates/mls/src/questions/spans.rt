@@ -1,20 +1,25 @@
 //! The commands that look at all states of a journal.
 use crate::questions::answering::{Named, ended};
 use crate::questions::sources::{Bytes, read_source};
-use mls_spans::list_held;
-use mls_terminal::{HeldWords, Progress, Source};
+use mls_spans::{list_held, list_usage};
+use mls_terminal::{HeldWords, Progress, Source, UsageWords};
 use std::process::ExitCode;
 
-/// Prints who held what over a journal.
-pub(crate) fn held(progress: &mut Progress<'_>, words: &HeldWords<'_>) -> ExitCode {
+/// Reads a start file and a journal.
+fn read_both(progress: &mut Progress<'_>, start: &str, journal: &str) -> Result<Bytes, ExitCode> {
     let source = Source {
-        start: words.start,
-        journal: Some(words.journal),
+        start,
+        journal: Some(journal),
         at: None,
         marks: None,
         when: None,
     };
-    let bytes = match read_source(progress, &source) {
+    read_source(progress, &source)
+}
+
+/// Prints who held what over a journal.
+pub(crate) fn held(progress: &mut Progress<'_>, words: &HeldWords<'_>) -> ExitCode {
+    let bytes = match read_both(progress, words.start, words.journal) {
         Ok(bytes) => bytes,
         Err(status) => return status,
     };
@@ -30,6 +35,26 @@ pub(crate) fn held(progress: &mut Progress<'_>, words: &HeldWords<'_>) -> ExitCo
         line: "",
     };
     let status = ended(progress, named, start, done);
+    drop(bytes);
+    status
+}
+
+/// Prints how the permissions over a journal were used.
+pub(crate) fn usage(progress: &mut Progress<'_>, words: &UsageWords<'_>) -> ExitCode {
+    let bytes = match read_both(progress, words.start, words.journal) {
+        Ok(bytes) => bytes,
+        Err(status) => return status,
+    };
+    let Bytes { start, journal, .. } = &bytes;
+    let journal = journal.as_deref().unwrap_or(b"".as_slice());
+    progress.begin("listing");
+    let done = list_usage(progress.rt().alloc(), start, journal, words.states);
+    let status = ended(
+        progress,
+        Named::files(words.start, words.journal),
+        start,
+        done,
+    );
     drop(bytes);
     status
 }
