@@ -1,7 +1,7 @@
 """Comparisons of the examples with variants of themselves, with answers that were worked out by hand from docs/POLICY.md and docs/FORMATS.md."""
 import json
 
-from outside import EXAMPLES, examples, put, ran_program, same
+from outside import EXAMPLES, TOP, examples, put, ran_program, same
 from question_rows import MEMO, OFFICE, STANDARD, STRANGE
 
 # sec makes #4, permits it to ann, who is below it; then ann takes the label that she has.
@@ -39,6 +39,7 @@ def profile_2(data):
 
 
 def newer(data):
+    row(data, "subjects", "bob")["trusted"] = True
     row(data, "objects", "memo")["security"] = "U"
     data["objects"].append({"name": "draft", "parent": "root", "security": "U", "integrity": "hi"})
     cell(data, "sec", "root")["modes"].append("read")
@@ -72,6 +73,36 @@ def of_other_levels(data):
         it["integrity"] = it["integrity"].replace("hi", "high")
 
 
+def of_other_order(data):
+    data["security"]["levels"] = ["U", "R", "S", "C", "T"]
+    data["security"]["categories"].append("N")
+
+
+def trusting(data):
+    """A change that shows in no get."""
+    row(data, "subjects", "ann")["trusted"] = True
+
+
+def lower(data):
+    row(data, "subjects", "aud")["current"] = "C:A"
+    row(data, "subjects", "sec")["maximum"] = "T:B,A"
+
+
+def deeper(data):
+    data["objects"][2:] = reversed(data["objects"][2:])
+    row(data, "objects", "memo")["parent"] = "tool"
+
+
+def of_other_root(data):
+    names = {"root": "tool", "tool": "root"}
+    for it in data["objects"]:
+        it["name"], it["parent"] = names.get(it["name"], it["name"]), names.get(it["parent"], it["parent"])
+
+
+def held(data):
+    data["accesses"] = [{"subject": "ann", "object": "plans", "modes": ["read"]}]
+
+
 def without_write(data):
     data["matrix"].remove(cell(data, "sec", "root"))
 
@@ -79,17 +110,46 @@ def without_write(data):
 # a start, another, and what is told of them
 STARTS = [
     (as_it_is, as_it_is, ""),
-    (as_it_is, newer, "only in second.json: draft\nbob read memo: no star > yes\nsec read root: no discretionary > yes\n"),
-    (newer, as_it_is, "only in first.json: draft\nbob read memo: yes > no star\nsec read root: yes > no discretionary\n"),
-    (as_it_is, higher, "ann read plans: yes > no simple\nann write plans: yes > no simple\naud read plans: yes > no simple\n"),
-    (as_it_is, without_bob, "only in first.json: bob\n"),
-    (without_bob, newer, "only in second.json: bob\nonly in second.json: draft\nsec read root: no discretionary > yes\n"),
-    (newer, without_bob, "only in first.json: bob\nonly in first.json: draft\nsec read root: yes > no discretionary\n"),
+    (as_it_is, newer,
+     "subject bob trusted: no > yes\nobject memo security: C > U\npermit sec read root: only in second.json\n"
+     "only in second.json: object draft\nbob read memo: no star > yes\nsec read root: no discretionary > yes\n"),
+    (newer, as_it_is,
+     "subject bob trusted: yes > no\nobject memo security: U > C\npermit sec read root: only in first.json\n"
+     "only in first.json: object draft\nbob read memo: yes > no star\nsec read root: yes > no discretionary\n"),
+    (as_it_is, higher,
+     "object plans security: S:A > T:A\n"
+     "ann read plans: yes > no simple\nann write plans: yes > no simple\naud read plans: yes > no simple\n"),
+    (as_it_is, without_bob, "only in first.json: subject bob\n"),
+    (without_bob, newer,
+     "object memo security: C > U\npermit sec read root: only in second.json\n"
+     "only in second.json: subject bob\nonly in second.json: object draft\nsec read root: no discretionary > yes\n"),
+    (newer, without_bob,
+     "object memo security: U > C\npermit sec read root: only in first.json\n"
+     "only in first.json: subject bob\nonly in first.json: object draft\nsec read root: yes > no discretionary\n"),
     (as_it_is, reordered, ""),
-    (as_it_is, of_other_categories, ""),
-    (as_it_is, of_other_levels, ""),
-    (as_it_is, profile_2, ""),
-    (as_it_is, without_write, "sec write root: yes > no discretionary\n"),
+    (as_it_is, of_other_categories,
+     "subject ann maximum: S:A > S:ALPHA\nsubject ann current: S:A > S:ALPHA\nsubject sec maximum: T:A,B > T:ALPHA,B\n"
+     "subject aud maximum: S:A > S:ALPHA\nobject plans security: S:A > S:ALPHA\n"
+     "only in first.json: security category A\nonly in second.json: security category ALPHA\n"),
+    (as_it_is, of_other_levels,
+     "subject ann integrity: hi > high\nsubject sec integrity: hi > high\nsubject aud integrity: hi > high\n"
+     "object root integrity: hi > high\nobject plans integrity: hi > high\n"
+     "only in first.json: integrity level hi\nonly in second.json: integrity level high\n"),
+    (of_other_order, as_it_is,
+     "security levels: U,S,C,T > U,C,S,T\nonly in first.json: security level R\nonly in first.json: security category N\n"
+     "ann read memo: no simple > no integrity\n"),
+    (as_it_is, profile_2, "profile: 1 > 2\n"),
+    (as_it_is, trusting, "subject ann trusted: no > yes\n"),
+    (as_it_is, lower, "subject aud current: U > C:A\n"),
+    (as_it_is, deeper, "object memo parent: root > tool\n"),
+    (deeper, as_it_is, "object memo parent: tool > root\n"),
+    (as_it_is, of_other_root,
+     "object root parent: (none) > tool\nobject root integrity: hi > lo\nobject plans parent: root > tool\n"
+     "object memo parent: root > tool\nobject tool parent: root > (none)\nobject tool integrity: lo > hi\n"
+     "ann execute tool: no integrity > yes\nsec write root: yes > no integrity\n"),
+    (as_it_is, held, "access ann read plans: only in second.json\n"),
+    (held, profile_2, "profile: 1 > 2\naccess ann read plans: only in first.json\n"),
+    (as_it_is, without_write, "permit sec write root: only in first.json\nsec write root: yes > no discretionary\n"),
 ]
 
 # a start, another, a journal of the first, and what is told of them
@@ -136,6 +196,15 @@ def starts_that_are_compared():
     told([OFFICE, OFFICE], "")
 
 
+def example_of_the_documents():
+    """The example of docs/FORMATS.md."""
+    with open(f"{TOP}/docs/FORMATS.md", encoding="utf-8") as page:
+        _, found = page.read().split("    $ mls compare examples/standard.json new.json\n")
+    lines = found[:found.index("\n\n") + 1].split("\n")
+    text = "\n".join(it[4:] for it in lines).replace("new.json", variant("new.json", newer))
+    told([STANDARD, "new.json"], text)
+
+
 def journals_that_are_asked_of_another_start():
     for first, second, journal, text in JOURNALS:
         told([variant("first.json", first), variant("second.json", second), put("first.journal", journal)], text)
@@ -174,4 +243,4 @@ def examples_compared():
             told(words, "")
 
 
-CHECKS = [starts_that_are_compared, journals_that_are_asked_of_another_start, examples_compared, faults_of_a_comparison]
+CHECKS = [starts_that_are_compared, example_of_the_documents, journals_that_are_asked_of_another_start, examples_compared, faults_of_a_comparison]

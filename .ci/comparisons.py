@@ -9,25 +9,84 @@ def by_name(names, others):
     return {n: others.index(it) for n, it in enumerate(names) if it in others}
 
 
-def only(word, names, others):
-    return [f"only in {word}: {it}\n" for it in names if it not in others]
+def only(word, kind, names, others):
+    return [f"only in {word}: {kind} {it}\n" for it in names if it not in others]
 
 
 def ended(lines):
     return "".join(lines), 4 if lines else 0
 
 
+def changed(what, here, there):
+    return [] if here == there else [f"{what}: {here} > {there}\n"]
+
+
+def order(kind, names, others):
+    """The levels that both have, where they stand otherwise."""
+    common = lambda some, them: ",".join(it for it in some if it in them)
+    return changed(f"{kind} levels", common(names, others), common(others, names))
+
+
+def label_line(what, scheme, other, label, there):
+    names = lambda its, of: (its.levels[of[0]], {its.categories[it] for it in of[1]})
+    return [] if names(scheme, label) == names(other, there) else [f"{what}: {scheme.text(label)} > {other.text(there)}\n"]
+
+
+def subject_lines(first, second, s, t):
+    what, trusted = f"subject {first.subjects[s]}", lambda state, n: "yes" if n in state.trusted else "no"
+    return [
+        *label_line(f"{what} maximum", first.security, second.security, first.maximum[s], second.maximum[t]),
+        *label_line(f"{what} current", first.security, second.security, first.current[s], second.current[t]),
+        *label_line(f"{what} integrity", first.integrity, second.integrity, first.own[s], second.own[t]),
+        *changed(f"{what} trusted", trusted(first, s), trusted(second, t)),
+    ]
+
+
+def object_lines(first, second, o, p):
+    what, parent = f"object {first.objects[o]}", lambda state, n: state.objects[state.parent[n]] if n in state.parent else "(none)"
+    return [
+        *changed(f"{what} parent", parent(first, o), parent(second, p)),
+        *label_line(f"{what} security", first.security, second.security, first.label[o], second.label[p]),
+        *label_line(f"{what} integrity", first.integrity, second.integrity, first.trust[o], second.trust[p]),
+    ]
+
+
+def alone(words, here, there):
+    """The file that alone has something, None where both or neither have it."""
+    return None if here == there else words[0 if here else 1]
+
+
+def only_lines(words, first, second):
+    lines = []
+    for kind, names in (
+        ("security level", lambda it: it.security.levels), ("security category", lambda it: it.security.categories),
+        ("integrity level", lambda it: it.integrity.levels), ("integrity category", lambda it: it.integrity.categories),
+        ("subject", lambda it: it.subjects), ("object", lambda it: it.objects),
+    ):
+        lines += only(words[0], kind, names(first), names(second)) + only(words[1], kind, names(second), names(first))
+    return lines
+
+
 def starts(words, first, second):
     """What is printed of two starts, and the status."""
-    lines = []
-    for names, others in ((first.subjects, second.subjects), (first.objects, second.objects)):
-        lines += only(words[0], names, others) + only(words[1], others, names)
-    for s, t in by_name(first.subjects, second.subjects).items():
-        for o, p in by_name(first.objects, second.objects).items():
-            for x, mode in enumerate(MODES):
-                here, there = first.decide(s, (f"get-{mode}", x, o)), second.decide(t, (f"get-{mode}", x, p))
-                if here != there:
-                    lines.append(f"{first.subject(s)} {mode} {first.object(o)}: {here} > {there}\n")
+    subjects, objects = by_name(first.subjects, second.subjects), by_name(first.objects, second.objects)
+    gets = [(s, t, o, p, x) for s, t in subjects.items() for o, p in objects.items() for x in range(len(MODES))]
+    named = lambda s, o, x: f"{first.subjects[s]} {MODES[x]} {first.objects[o]}"
+    lines = changed("profile", first.profile, second.profile)
+    lines += order("security", first.security.levels, second.security.levels)
+    lines += order("integrity", first.integrity.levels, second.integrity.levels)
+    for s, t in subjects.items():
+        lines += subject_lines(first, second, s, t)
+    for o, p in objects.items():
+        lines += object_lines(first, second, o, p)
+    for word, here, there in (("permit", first.matrix, second.matrix), ("access", first.accesses, second.accesses)):
+        for s, t, o, p, x in gets:
+            if file := alone(words, (s, o, x) in here, (t, p, x) in there):
+                lines.append(f"{word} {named(s, o, x)}: only in {file}\n")
+    lines += only_lines(words, first, second)
+    for s, t, o, p, x in gets:
+        here, there = first.decide(s, (f"get-{MODES[x]}", x, o)), second.decide(t, (f"get-{MODES[x]}", x, p))
+        lines += changed(named(s, o, x), here, there)
     return ended(lines)
 
 

@@ -3,7 +3,7 @@ import copy
 
 import json
 
-from policy import KINDS, MODES, REASONS, dominates, number_label, words_of
+from policy import KINDS, MODES, REASONS, dominates, explained, number_label, words_of
 
 REPLIES = ("yes", "created", "no", "undefined")
 
@@ -51,6 +51,20 @@ def entry_line(state, entry):
 
 def journal(state, entries):
     return "".join(entry_line(state, it) for it in entries), 0 if entries else 4
+
+
+def under(text):
+    """What stands under the line of an entry: of what explains it the lines behind the first, each behind two spaces."""
+    return "".join(f"  {it}\n" for it in text.splitlines()[1:])
+
+
+def explained_entry(before, state, entry):
+    """The line of an entry, and what stands under it in the state before it, which is that before its number."""
+    return entry_line(state, entry) + under(explained(before(entry.number), entry.subject, entry.action)[0])
+
+
+def explained_journal(before, state, entries):
+    return "".join(explained_entry(before, state, it) for it in entries), 0 if entries else 4
 
 
 JSON_KEYS = {"mode": "mode", "subject": "whose", "object": "object", "security": "security", "integrity": "integrity"}

@@ -85,17 +85,37 @@ def swaps(rnd, names):
     return rnd.choice(({one: other, other: one}, {one: one + "x"}, {}, {}, {}))
 
 
+def changed(rnd, data):
+    """A start without accesses, with other permissions, trust, levels and parents here and there."""
+    data["accesses"] = []
+    for row in data["matrix"]:
+        row["modes"] = [it for it in MODES if (it in row["modes"]) != (rnd.random() < 0.05)]
+    for row in data["subjects"]:
+        row["trusted"] = row["trusted"] != (rnd.random() < 0.1)
+        row["current"] = row["maximum"] if rnd.random() < 0.1 else row["current"]
+    root, *others = data["objects"]
+    for row in others:
+        row["parent"] = root["name"] if rnd.random() < 0.2 else row["parent"]
+    for row in others:
+        if rnd.random() < 0.1 and all(it["parent"] != row["name"] for it in others):
+            row["security"] = f"{LEVELS[-1]}:{','.join(CATEGORIES)}"
+
+
 def other(rnd, text):
     """The text of a start file that is accepted and shares some names with another: it is like that one, or random."""
     data = json.loads(text if rnd.random() < 0.8 else start(rnd))
     if rnd.random() < 0.7:
-        data["accesses"] = []
-        for row in data["matrix"]:
-            row["modes"] = [it for it in MODES if (it in row["modes"]) != (rnd.random() < 0.05)]
+        changed(rnd, data)
     data["profile"] = rnd.choice((1, 2))
     shuffled(rnd, data)
     names = {**swaps(rnd, [it["name"] for it in data["subjects"]]), **swaps(rnd, [it["name"] for it in data["objects"]])}
-    return json.dumps(renamed(data, {**names, **swaps(rnd, LEVELS), **swaps(rnd, CATEGORIES)}), indent=1)
+    for some in (LEVELS, CATEGORIES, ["lo", "hi"], ["I"]):
+        names |= swaps(rnd, some)
+    data = renamed(data, names)
+    for rows in (data["security"]["levels"], data["security"]["categories"], data["integrity"]["levels"]):
+        if rnd.random() < 0.2:
+            rows.insert(rnd.randint(0, len(rows)), "R")
+    return json.dumps(data, indent=1)
 
 
 def action(rnd, state):
@@ -132,3 +152,18 @@ def journal(rnd, state, count):
 
 def lines_of(entries):
     return "".join(f"{it.number} {it.session} {it.subject} {entry_text(it.action)} {it.reply}\n" for it in entries)
+
+
+def some_filter(rnd, state, entries):
+    """Words by which `mls journal` is asked for some of these entries, and what they ask for, as question_texts.listed takes it."""
+    filters = {
+        "subject": (entries[0].subject, f"#{entries[0].subject}"),
+        "by": (entries[-1].subject, f"#{entries[-1].subject}"),
+        "object": (0, state.objects[0]),
+        "session": (1, "1"),
+        "reply": (rnd.choice(("no", "yes", "no star", "created", "undefined")),) * 2,
+    }
+    first, last = sorted(rnd.sample(range(len(entries)), 2))
+    asked = {name: filters[name] for name in filters if rnd.random() < 0.4}
+    words = [it for name, (_, word) in asked.items() for it in (f"--{name}", word)] + ["--from", str(first), "--to", str(last)]
+    return words, {**{name: value for name, (value, _) in asked.items()}, "first": first, "last": last}

@@ -111,12 +111,13 @@ def entries_by_times(world):
             entries = [it for it in entries if it.subject == 0]
         what = (words, [it.time for it in found])
         listed = [
-            ([], with_times(found, entries, lambda it: texts.entry_line(opening, it))),
-            (["--json"], objects_with_times(found, entries, lambda it: texts.entry_json(opening, it))),
-            (["--summary"], texts.summary(opening, entries)),
+            ([], lambda: with_times(found, entries, lambda it: texts.entry_line(opening, it))),
+            (["--json"], lambda: objects_with_times(found, entries, lambda it: texts.entry_json(opening, it))),
+            (["--summary"], lambda: texts.summary(opening, entries)),
+            (["--explain"], lambda: with_times(found, entries, lambda it: texts.explained_entry(world.before, opening, it))),
         ]
         form, wanted = rnd.choice(listed)
-        same((what, form, said("journal", *form, *words, *files)), (what, form, wanted))
+        same((what, form, said("journal", *form, *words, *files)), (what, form, wanted()))
 
 
 def states_by_times(world):

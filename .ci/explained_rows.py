@@ -1,0 +1,118 @@
+"""Why entries have their replies: `mls journal --explain`, with answers by hand, with those of `mls explain --at` of each entry alone, and
+with what the policy in Python gives."""
+import question_texts as texts
+import question_worlds as worlds
+from outside import EXAMPLES, TOP, in_its_folder, put, ran_program, same
+from question_rows import EXPLAINED, GIVEN, HELD, MEMO, STANDARD, STRANGE
+
+# The command of the example in FORMATS.md, over the journal of examples/standard.script.
+EXAMPLE = "mls journal --explain --reply no examples/standard.json standard.journal"
+READ, DENIED = (texts.under(dict((line, text) for line, text, _ in EXPLAINED)[asked]) for asked in ("ann get-read plans", "bob get-read memo"))
+MEMO_LINES = [
+    "0 session 0 ann get-read plans: yes\n" + READ, "1 session 0 bob get-read memo: no star\n" + DENIED, "2 session 0 ann release read plans: yes\n",
+]
+GIVEN_LINES = [
+    "0 session 0 sec get-write root: yes\n  discretionary holds: sec is permitted write of root\n  simple holds: maximum T:A,B dominates U of root\n"
+    "  star holds: sec is trusted\n  integrity holds: hi of sec equals hi of root\n",
+    "1 session 0 sec give read bob plans: yes\n  authority holds: sec holds write on root\n",
+    "2 session 0 sec rescind read bob plans: yes\n  authority holds: sec holds write on root\n",
+    "3 session 0 bob get-read plans: no discretionary\n  discretionary fails: bob is not permitted read of plans\n"
+    "  simple fails: maximum C does not dominate S:A of plans\n  star fails: current U does not dominate S:A of plans\n"
+    "  integrity holds: hi of plans dominates lo of bob\n  remedy: none by level\n",
+    "4 session 0 ann give read bob plans: no authority\n  authority fails: ann does not hold write on root\n",
+]
+UNDEFINED = (
+    "2 session 1 sec relabel #4 9:7: undefined\n  security label outside the scheme: 9:7\n"
+    "3 session 1 #9 give read #9 #9: undefined\n  unknown subject: #9\n  inactive object: #9\n"
+)
+# Of examples/held.json, in which ann holds read on plans: accesses in the way stand below their condition here too.
+IN_THE_WAY = b"0 0 0 level 0 no star\n1 0 0 release read 1 yes\n2 0 0 level 0 yes\n"
+IN_THE_WAY_LINES = [
+    "0 session 0 ann level U: no star\n  ceiling holds: maximum S:A dominates new U\n"
+    "  star fails: not all that ann holds meets star at new U\n    plans read\n",
+    "1 session 0 ann release read plans: yes\n",
+    "2 session 0 ann level U: yes\n  ceiling holds: maximum S:A dominates new U\n  star holds: all that ann holds meets star at new U\n",
+]
+
+# What is asked of which journal, and which lines are printed.
+LISTED = [
+    ([STANDARD, "memo.journal"], MEMO_LINES),
+    (["--reply", "no", STANDARD, "memo.journal"], MEMO_LINES[1:2]),
+    (["--by", "ann", "--from", "1", STANDARD, "memo.journal"], MEMO_LINES[2:]),
+    (["--to", "0", STANDARD, "memo.journal"], MEMO_LINES[:1]),
+    (["--session", "1", STANDARD, "memo.journal"], []),
+    ([STANDARD, "given.journal"], GIVEN_LINES),
+    (["--subject", "bob", STANDARD, "given.journal"], GIVEN_LINES[1:]),
+    (["--object", "root", STANDARD, "given.journal"], GIVEN_LINES[:1]),
+    (["--by", "bob", STANDARD, "given.journal"], GIVEN_LINES[3:4]),
+    (["--from", "2", "--to", "3", STANDARD, "strange.journal"], [UNDEFINED]),
+    ([HELD, "way.journal"], IN_THE_WAY_LINES),
+    ([HELD, "empty.journal"], []),
+]
+
+
+def quoted():
+    """What FORMATS.md prints below the command of its example."""
+    with open(f"{TOP}/docs/FORMATS.md", encoding="ascii") as file:
+        lines = file.read().split(f"\n    $ {EXAMPLE}\n")[1].splitlines()
+    count = next(place for place, line in enumerate(lines) if not line.startswith("    "))
+    return "".join(f"{line[4:]}\n" for line in lines[:count])
+
+
+def answered(words, text):
+    found = ran_program(["journal", "--explain", *words])
+    same((words, *found), (words, 0 if text else 4, text.encode(), b""))
+
+
+def refused(words, told, status=1):
+    same((words, *ran_program(["journal", *words])), (words, status, b"", told.encode()))
+
+
+def put_journals():
+    for name, journal in (("memo", MEMO), ("given", GIVEN), ("strange", STRANGE), ("way", IN_THE_WAY), ("empty", b"")):
+        put(f"{name}.journal", journal)
+
+
+def entries_that_are_listed_and_explained():
+    put_journals()
+    for words, lines in LISTED:
+        answered(words, "".join(lines))
+    _, *asked, _, _ = EXAMPLE.split()[2:]
+    answered([*asked, f"{EXAMPLES}/standard.json", "memo.journal"], quoted())
+
+
+def faults_of_entries_that_are_explained():
+    """As without `--explain`; two forms at once ask for nothing."""
+    put_journals()
+    put("torn.journal", MEMO[:-1])
+    put("forged.journal", MEMO.replace(b"no star", b"yes"))
+    names = ["--explain", "--object", "file", "--by", "yan"]
+    refused([*names, "no.json", "memo.journal"], "mls: no.json: file\n")
+    refused([*names, STANDARD, "torn.journal"], "mls: torn.journal: line 3: entry 1 BadForm\n")
+    refused([*names, STANDARD, "forged.journal"], "mls: forged.journal: replay 2 Differs at 1 expected no star\n", 3)
+    refused([*names, "--subject", "zoe", STANDARD, "memo.journal"], "mls: zoe: bad name (bob?)\n")
+    refused([*names, STANDARD, "memo.journal"], "mls: yan: bad name (ann?)\n")
+    refused([*names[:3], STANDARD, "memo.journal"], "mls: file: bad name\n")
+    refused(["--explain", "--from", "2", "--to", "1", "no.json", "no.journal"], "mls: --from 2: above --to 1\n", 2)
+    for first, second in (("--explain", "--json"), ("--json", "--explain"), ("--explain", "--summary"), ("--summary", "--explain"),
+                          ("--explain", "--explain")):
+        status, output, error = ran_program(["journal", first, second, STANDARD, "memo.journal"])
+        same((first, second, status, output, bool(error)), (first, second, 2, b"", True))
+
+
+def entries_listed_and_explained(world):
+    """Some entries of a random journal: what stands under each is what `mls explain --at` prints of it, and what the policy in Python gives."""
+    words, asked = worlds.some_filter(world.rnd, world.opening, world.entries)
+    found = texts.listed(world.opening, world.entries, **asked)
+    text, status = texts.explained_journal(world.before, world.opening, found)
+    files = [world.start, world.journal]
+    same(ran_program(["journal", "--explain", *words, *files]), (status, text.encode(), b""))
+    lines = ran_program(["journal", *words, *files])[1].decode().splitlines(keepends=True)
+    same(len(lines), len(found))
+    alone = [ran_program(["explain", "--journal", world.journal, "--at", str(it.number), world.start])[1].decode() for it in found]
+    same("".join(line + texts.under(told) for line, told in zip(lines, alone)), text)
+
+
+CHECKS = [*map(in_its_folder, [entries_that_are_listed_and_explained, faults_of_entries_that_are_explained])]
+# (it is asked of random starts and journals)
+OF_WORLDS = [entries_listed_and_explained]

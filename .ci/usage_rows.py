@@ -1,0 +1,151 @@
+"""How permissions were used: `mls usage`, with answers by hand, and with answers that usages.py finds in all states of random journals."""
+import json
+
+import usages
+from outside import example, in_its_folder, put, ran_program, same
+from span_rows import ANSWERS, HELD, OPENED, REUSED, SCRIPT, STANDARD, journal_of
+
+# Over the journal of the example in FORMATS.md.
+OF_OPENED = """ann read plans: 3 granted, 0 denied, last 3
+ann write plans: never asked
+ann read memo: never asked
+ann execute tool: never asked
+bob append plans: never asked
+bob read memo: 0 granted, 1 denied, last 1
+bob execute tool: never asked
+sec write root: 1 granted, 0 denied, last 4
+sec write plans: never asked
+sec append memo: never asked
+sec write memo: never asked
+aud read plans: never asked
+12 permissions, 10 never granted
+"""
+# Over the journal of the script of span_rows.py: of each permission the line, where it isn't `never asked`.
+WHOLE = {
+    "ann read plans": "1 granted, 0 denied, last 4", "ann write plans": "", "ann read memo": "", "ann execute tool": "",
+    "ann read #4": "1 granted, 0 denied, last 3", "ann read #5": "2 granted, 0 denied, last 10", "bob append plans": "", "bob read memo": "",
+    "bob execute tool": "", "sec write root": "1 granted, 0 denied, last 0", "sec write plans": "", "sec append memo": "", "sec write memo": "",
+    "sec write #4": "1 granted, 0 denied, last 6", "aud read plans": "",
+}
+PART = {
+    **WHOLE, **dict.fromkeys(("ann read plans", "ann read #4", "sec write root"), "1 granted, 0 denied, last start"),
+    "ann read #5": "1 granted, 0 denied, last 9",
+}
+ENDED = {it: "" for it in WHOLE if "#" not in it and it != "ann read plans"}
+BEGUN = {**ENDED, "sec write root": WHOLE["sec write root"]}
+
+
+def answered(words, text):
+    status = 0 if text.endswith(", 0 never granted\n") else 4
+    same((words, *ran_program(["usage", *words])), (words, status, text.encode(), b""))
+
+
+def refused(words, told, status=1):
+    same((words, *ran_program(["usage", *words])), (words, status, b"", told.encode()))
+
+
+def text_of(rows):
+    lines = "".join(f"{access}: {uses or 'never asked'}\n" for access, uses in rows.items())
+    return lines + f"{len(rows)} permissions, {sum(not it for it in rows.values())} never granted\n"
+
+
+def start_of(name, **members):
+    """A start file like the standard one, with these members."""
+    return put(name, json.dumps({**json.loads(example("standard.json")), **members}).encode())
+
+
+def permissions_and_their_uses():
+    """Permissions of the start and such that are given, over a whole journal and over parts of it."""
+    journal_of(STANDARD, SCRIPT, ANSWERS)
+    order = ["ann read plans", "ann write plans", "ann read memo", "ann execute tool"]
+    assert list(WHOLE)[:4] == order
+    answered([STANDARD, "held.journal"], text_of(WHOLE))
+    answered(["--from", "0", "--to", "18446744073709551615", STANDARD, "held.journal"], text_of(WHOLE))
+    answered(["--from", "5", "--to", "9", STANDARD, "held.journal"], text_of(PART))
+    answered(["--from", "15", STANDARD, "held.journal"], text_of(ENDED))
+    answered(["--from", "14", "--to", "14", STANDARD, "held.journal"], text_of({**ENDED, "sec write root": "1 granted, 0 denied, last start"}))
+    answered(["--to", "0", STANDARD, "held.journal"], text_of({"ann read plans": "", **BEGUN}))
+
+
+def uses_of_what_a_start_opens_with():
+    put("opened.journal", OPENED)
+    put("empty.journal", b"")
+    answered([HELD, "opened.journal"], OF_OPENED)
+    text = "".join(f"{it}: never asked\n" for it in ("ann read plans", *ENDED)) + "12 permissions, 12 never granted\n"
+    answered([STANDARD, "empty.journal"], text)
+    held = text.replace("plans: never asked", "plans: 1 granted, 0 denied, last start", 1).replace("12 never", "11 never")
+    answered([HELD, "empty.journal"], held)
+    answered(["--from", "1", "--to", "2", HELD, "opened.journal"], held.replace("memo: never asked\nbob ex", "memo: 0 granted, 1 denied, last 1\nbob ex"))
+
+
+def gets_without_the_permission():
+    """A get before a permission is given, and one after it is rescinded, are no uses of it; without permissions there is nothing to grant."""
+    start = start_of("few.json", matrix=[{"subject": "sec", "object": "root", "modes": ["write"]}])
+    script = b"ann get-read root\nsec give read ann root\nann get-read root\nsec rescind read ann root\nann get-read root\n"
+    journal_of(start, script, b"no discretionary\nyes\nyes\nyes\nno discretionary\n")
+    last = "sec write root: never asked\n"
+    answered([start, "held.journal"], f"ann read root: 1 granted, 0 denied, last 2\n{last}2 permissions, 1 never granted\n")
+    answered(["--from", "3", start, "held.journal"], f"ann read root: 1 granted, 0 denied, last start\n{last}2 permissions, 1 never granted\n")
+    answered(["--to", "1", start, "held.journal"], f"ann read root: never asked\n{last}2 permissions, 2 never granted\n")
+    answered(["--from", "4", start, "held.journal"], f"{last}1 permission, 1 never granted\n")
+    answered(["--to", "0", start, "held.journal"], f"{last}1 permission, 1 never granted\n")
+    journal_of(start, b"sec get-write root\nsec get-write root\n", b"yes\nyes\n")
+    answered([start, "held.journal"], "sec write root: 2 granted, 0 denied, last 1\n1 permission, 0 never granted\n")
+    answered([start_of("none.json", matrix=[]), put("empty.journal", b"")], "0 permissions, 0 never granted\n")
+
+
+def permissions_of_a_number_that_is_used_again():
+    script = b"sec get-write root\nann get-read plans\nsec delete plans\n$x = sec create root S:A hi\nsec give read ann $x\nann get-read $x\n"
+    journal_of(REUSED, script, b"yes\nyes\nyes\ncreated 1\nyes\nyes\n")
+    status, output, _ = ran_program(["usage", REUSED, "held.journal"])
+    same((status, output.splitlines()[0]), (4, b"ann read plans: 2 granted, 0 denied, last 5"))
+    status, output, _ = ran_program(["usage", "--from", "3", REUSED, "held.journal"])
+    same((status, output.splitlines()[0]), (4, b"ann read plans: 1 granted, 0 denied, last 5"))
+
+
+def faults_of_uses_in_their_order():
+    put("opened.journal", OPENED)
+    put("torn.journal", OPENED[:-1])
+    put("forged.journal", OPENED.replace(b"no star", b"yes"))
+    put("empty.json", b"")
+    refused(["no.json", "no.journal"], "mls: no.json: file\n")
+    refused(["empty.json", "no.journal"], "mls: no.journal: file\n")
+    refused(["empty.json", "torn.journal"], "mls: empty.json: start 1 Json\n")
+    refused([HELD, "torn.journal"], "mls: torn.journal: line 5: entry 1 BadForm\n")
+    refused(["--from", "9", HELD, "forged.journal"], "mls: forged.journal: replay 2 Differs at 1 expected no star\n", 3)
+    refused(["--from", "6", HELD, "opened.journal"], "mls: opened.journal: at most 5\n")
+    refused(["--from", "3", "--to", "2", "no.json", "no.journal"], "mls: --from 3: above --to 2\n", 2)
+
+
+def words_that_ask_for_no_uses():
+    put("opened.journal", OPENED)
+    rows = [[], [HELD], [HELD, "opened.journal", "x"], ["--at", "1", HELD, "opened.journal"], ["--subject", "ann", HELD, "opened.journal"]]
+    rows += [[option, word, HELD, "opened.journal"] for option in ("--from", "--to") for word in ("-1", "x", "", "18446744073709551616")]
+    for words in rows:
+        status, output, error = ran_program(["usage", *words])
+        same((words, status, output, bool(error)), (words, 2, b"", True))
+
+
+def uses_by_chance(world):
+    """The uses of all permissions over a random journal, and over parts of it."""
+    rnd, count = world.rnd, len(world.entries)
+    states = [world.before(number) for number in range(count + 1)]
+    for turn in range(4):
+        words, asked = [], {}
+        first, last = rnd.randrange(count + 1), rnd.randrange(count + 9)
+        which = rnd.choice(("from", "to", "between")) if turn else "all"
+        if which in ("from", "between"):
+            words, asked = ["--from", str(first)], {"first": first}
+        if which in ("to", "between"):
+            last = max(last, first) if which == "between" else last
+            words, asked = [*words, "--to", str(last)], {**asked, "last": last + 1}
+        text, status = usages.listed(states, world.entries, **asked)
+        same((words, *ran_program(["usage", *words, world.start, world.journal])), (words, status, text.encode(), b""))
+
+
+CHECKS = [*map(in_its_folder, [
+    permissions_and_their_uses, uses_of_what_a_start_opens_with, gets_without_the_permission, permissions_of_a_number_that_is_used_again,
+    faults_of_uses_in_their_order, words_that_ask_for_no_uses,
+])]
+# (it is asked of random starts and journals)
+OF_WORLDS = [uses_by_chance]

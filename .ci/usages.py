@@ -1,0 +1,30 @@
+"""How permissions were used, in Python from docs/FORMATS.md ("usage"): from the matrices of all states of a journal, one by one."""
+from policy import MODES
+
+
+def uses(states, entries, access):
+    """Those of some entries that are the get of an access in a state that permits it."""
+    s, o, x = access
+    asked = [it for it in entries if (it.subject, *it.action[:3]) == (s, f"get-{MODES[x]}", x, o) and access in states[it.number].matrix]
+    assert all(it.reply in ("yes", "no simple", "no star", "no integrity") for it in asked)
+    return asked
+
+
+def use_of(opening, first, access, asked):
+    """The line of a permission with these uses, where a state is the first, and whether it was granted."""
+    s, o, x = access
+    is_held = access in first.accesses
+    granted = sum(it.reply == "yes" for it in asked) + is_held
+    last = asked[-1].number if asked else "start"
+    text = f"{granted} granted, {len(asked) + is_held - granted} denied, last {last}" if asked or is_held else "never asked"
+    return f"{opening.subject(s)} {MODES[x]} {opening.object(o)}: {text}\n", granted > 0
+
+
+def listed(states, entries, first=0, last=None):
+    """What `mls usage` prints of the permissions of the states from `first` to `last`, and its status."""
+    last = len(entries) if last is None else min(last, len(entries))
+    permissions = sorted({it for state in states[first : last + 1] for it in state.matrix})
+    rows = [use_of(states[0], states[first], it, uses(states, entries[first:last], it)) for it in permissions]
+    unused = sum(not granted for _, granted in rows)
+    ending = f"{len(rows)} permission{'s' * (len(rows) != 1)}, {unused} never granted\n"
+    return "".join(text for text, _ in rows) + ending, 4 if unused else 0
