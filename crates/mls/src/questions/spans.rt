@@ -6,7 +6,11 @@ use mls_terminal::{HeldWords, Progress, Source, UsageWords};
 use std::process::ExitCode;
 
 /// Reads a start file and a journal.
-fn read_both(progress: &mut Progress<'_>, start: &str, journal: &str) -> Result<Bytes, ExitCode> {
+fn read_both<'x>(
+    progress: &mut Progress<'_>,
+    start: &'x str,
+    journal: &'x str,
+) -> Result<Bytes, ExitCode> {
     let source = Source {
         start,
         journal: Some(journal),
