@@ -12,7 +12,8 @@ EMPTY = hashlib.sha256(b"").hexdigest()
 
 @dataclasses.dataclass
 class Checkpoint:
-    """A batch's number, its revision in etcd and its digest; the entries up to it and their digest; the sessions."""
+    """A batch's number, its revision in etcd and its digest; the entries up to it and their digest; the bytes of marks
+    that were there by then, and their digest; the sessions."""
 
     log: str = ""
     number: int = 0
@@ -20,6 +21,8 @@ class Checkpoint:
     batch: str = EMPTY
     entries: int = 0
     digest: str = EMPTY
+    marks: int = 0
+    marks_digest: str = EMPTY
     sessions: Sessions = dataclasses.field(default_factory=Sessions)
 
     def write(self, name):

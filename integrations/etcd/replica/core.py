@@ -22,16 +22,16 @@ class Core:
     """`mls serve` behind two pipes."""
 
     def __init__(self, program, journal, start):
-        self.words = [program, "serve", "--sessions", "--numbers", "--recover", "--journal", journal, start]
+        self.words, self.start = [program, "serve", "--sessions", "--numbers", "--recover", "--journal", journal], start
         self.child, self.lines, self.due = None, [], collections.deque()
         # (how many answers it owes to the log)
         self.owed, self.is_even = 0, asyncio.Event()
         self.is_even.set()
 
-    async def begin(self, entries):
-        """Starts it over a journal of so many entries."""
-        pipe = asyncio.subprocess.PIPE
-        self.child = await asyncio.create_subprocess_exec(*self.words, stdin=pipe, stdout=pipe, limit=PIECE)
+    async def begin(self, entries, *more):
+        """Starts it over a journal of so many entries, with more words or without."""
+        words, pipe = [*self.words, *more, self.start], asyncio.subprocess.PIPE
+        self.child = await asyncio.create_subprocess_exec(*words, stdin=pipe, stdout=pipe, limit=PIECE)
         ready = await self.child.stdout.readline()
         if not ready:
             await self.end()
@@ -74,6 +74,12 @@ class Core:
             if not self.owed:
                 self.is_even.set()
         await self.end()
+
+    async def relieve(self):
+        """Ends it, which owes nothing: another one goes on."""
+        self.child.stdin.close()
+        if await self.child.stdout.read(1) or await self.child.wait():
+            await self.end()
 
     async def end(self):
         """Ends this replica with its core."""

@@ -19,8 +19,9 @@ def digest(batch):
 class Order:
     """The place in the log up to which this machine has fed it."""
 
-    def __init__(self, log, journal, core, door, peers, words):
-        self.log, self.journal, self.core, self.door, self.peers = log, journal, core, door, peers
+    def __init__(self, log, journal, marks, core, door, peers, words):
+        self.log, self.journal, self.marks = log, journal, marks
+        self.core, self.door, self.peers = core, door, peers
         self.checkpoint_file, self.every = f"{words.journal}.checkpoint", words.every
         self.moved, self.is_found = asyncio.Event(), False
 
@@ -30,6 +31,7 @@ class Order:
         self.number, self.revision, self.batch, self.sessions = at.number, at.revision, at.batch, at.sessions
         # (those that were answered, and those of the last checkpoint)
         self.entries = self.saved = at.entries
+        self.marks.recover(at.marks, at.marks_digest)
         self.journal.recover(at.entries, at.digest)
 
     def place(self):
@@ -128,7 +130,11 @@ class Order:
         self.core.flush()
         await self.core.is_even.wait()
         self.journal.read_to(self.entries)
+        self.marks.read_all()
         if not self.journal.cut:
-            log, place = self.log.config.decode(), (self.number, self.revision, self.batch)
-            Checkpoint(log, *place, self.entries, self.journal.digest(), self.sessions).write(self.checkpoint_file)
+            self.checkpoint().write(self.checkpoint_file)
         self.saved = self.entries
+
+    def checkpoint(self):
+        log, place, marks = self.log.config.decode(), (self.number, self.revision, self.batch), self.marks
+        return Checkpoint(log, *place, self.entries, self.journal.digest(), marks.place, marks.digest(), self.sessions)

@@ -12,6 +12,7 @@ from .ending import CORE_DIED, FILES, REFUSED, stop, tell
 from .etcd import Etcd
 from .journal import Journal
 from .log import Log
+from .marks import Marks
 from .member import Unavailable
 from .order import Order
 from .peers import Peers
@@ -32,12 +33,12 @@ class Replica:
     """The parts of one machine."""
 
     def __init__(self, words):
-        self.words, self.journal = words, Journal(words.journal)
+        self.words, self.journal, self.marks = words, Journal(words.journal), Marks(words.journal)
         self.log, self.core = log_of(words), Core(words.program, words.journal, words.start)
         self.appender = Appender(self.log)
         self.door = Door(self.appender, self.stats)
         self.peers = Peers(self.log, self.journal, words.name, self.door.close)
-        self.order = Order(self.log, self.journal, self.core, self.door, self.peers, words)
+        self.order = Order(self.log, self.journal, self.marks, self.core, self.door, self.peers, words)
         self.reads = Reads(self.log, self.order, self.core)
 
     def stats(self):
@@ -55,37 +56,47 @@ class Replica:
         await self.log.join()
         self.order.begin()
         await self.core.begin(self.order.entries)
-        order = self.order
-        await self.ended(self.core.answers(order.answered), self.log.follow(order.place, order.take), self.serve())
+        await beside(self.make_again(), self.core.answers(self.order.answered))
+        await self.core.relieve()
+        await self.core.begin(self.order.entries, "--marks", self.marks.name)
+        self.marks.are_kept = True
+        await beside(self.serve(), self.core.answers(self.order.answered), self.follow())
 
-    async def serve(self):
-        """Serves clients once this machine has all that the log has."""
-        await self.make_again()
-        await self.door.begin(self.words.socket, self.reads, self.order)
-        tell(f"serving at entry {self.order.entries}")
-        await self.ended(self.appender.serve(), self.reads.serve(), self.reads.look(), self.peers.publish())
+    def follow(self):
+        return self.log.follow(self.order.place, self.order.take)
 
     async def make_again(self):
-        """Feeds what the log has now, and sees that all came out which the journal had."""
-        while True:
-            try:
-                for key, value in await self.log.digests():
-                    self.peers.heard(key, value)
-                await self.reads.catch_up()
-                break
-            except Unavailable as fault:
-                await self.log.wait(fault)
-        await self.core.is_even.wait()
-        self.journal.read_to(self.order.entries)
+        """Feeds what the log has now, to a core without marks, and sees that all came out which the journal had."""
+        await beside(self.reach_head(), self.follow(), self.reads.look())
+        await self.order.save()
         if self.journal.cut:
             stop(REFUSED, f"the journal had more than the log gives, from entry {self.order.entries} on: what it had "
                           f"is in {self.journal.redo}")
 
-    @staticmethod
-    async def ended(*parts):
-        """Runs parts, which have no end, and ends with the first that has one."""
-        tasks = [asyncio.create_task(it) for it in parts]
-        done, _ = await asyncio.wait(tasks, return_when=asyncio.FIRST_COMPLETED)
-        for task in done:
+    async def reach_head(self):
+        while True:
+            try:
+                for key, value in await self.log.digests():
+                    self.peers.heard(key, value)
+                return await self.reads.catch_up()
+            except Unavailable as fault:
+                await self.log.wait(fault)
+
+    async def serve(self):
+        """Serves clients, by a core that keeps marks."""
+        await self.door.begin(self.words.socket, self.reads, self.order)
+        tell(f"serving at entry {self.order.entries}")
+        await beside(self.appender.serve(), self.reads.serve(), self.reads.look(), self.peers.publish())
+
+
+async def beside(deed, *parts):
+    """Does a deed beside parts that have no end: where one has, or the deed fails, the replica ends."""
+    tasks = [asyncio.create_task(it) for it in (deed, *parts)]
+    done, running = await asyncio.wait(tasks, return_when=asyncio.FIRST_COMPLETED)
+    for task in done:
+        if task.exception() or task is not tasks[0]:
             task.print_stack()
             stop(CORE_DIED, f"a part has ended: {task.exception()!r}")
+    for task in running:
+        task.cancel()
+    await asyncio.gather(*running, return_exceptions=True)

@@ -1,5 +1,5 @@
-"""What must be so afterwards, by other code than the replicas': equal journals, the log fed to a fresh service, each
-answer, and the order in real time."""
+"""What must be so afterwards, by other code than the replicas': equal journals, marks of all of them, the log fed to a
+fresh service, each answer, and the order in real time."""
 import json
 import base64
 import os
@@ -66,11 +66,24 @@ def same_journals(cluster):
     return journals[0]
 
 
-def replays(cluster, journal):
-    machine = cluster.machines[0]
+def replays(machine, journal):
     done = subprocess.run([MLS, "replay", machine.start, machine.journal], capture_output=True, text=True, check=False)
     count = journal.count(b"\n")
     assert done.stdout.startswith(f"entries {count}\nsecure yes"), done.stdout + done.stderr
+
+
+def verified(machine, *words):
+    """What `mls verify` says of a machine's journal and marks: its lines, by their first word."""
+    words = [MLS, "verify", *words, machine.start, machine.journal, f"{machine.journal}.marks"]
+    done = subprocess.run(words, capture_output=True, text=True, check=False)
+    assert done.returncode == 0, f"{machine.name}: {done.stdout}{done.stderr}"
+    return dict(line.split(" ", 1) for line in done.stdout.splitlines())
+
+
+def verify(machine, journal):
+    """Each of its entries has a mark."""
+    found = verified(machine)
+    assert found["entries"] == str(journal.count(b"\n")) and "unmarked" not in found, f"{machine.name}: {found}"
 
 
 def check_questions(start, folder, requests, answers, questions):
@@ -122,7 +135,9 @@ def check(cluster, deeds):
     head = cluster.rests()["batch"]
     batches = log_of(cluster, head)
     journal = same_journals(cluster)
-    replays(cluster, journal)
+    for it in cluster.machines:
+        replays(it, journal)
+        verify(it, journal)
     requests = asked_once(batches)
     name = f"{cluster.folder}/fresh"
     answers = served(name, cluster.start, [(session, line) for session, _, line in requests])

@@ -1,0 +1,84 @@
+"""Marks: each machine has its own, over the same journal; and no fault takes one that was noted."""
+import os
+
+import faults
+from oracle import verified
+from rows_rest import checkpoint, ended, is_mended, put
+
+NOTHING = "0" * 64
+
+
+def marks_of(machine):
+    with open(f"{machine.journal}.marks", "rb") as file:
+        return file.read()
+
+
+def noted(machine):
+    """The digest that somebody notes."""
+    return verified(machine)["last"]
+
+
+def test_what_was_noted_is_found_after_faults(world):
+    """Each machine's marks are at their place after kills, with their times; what came meanwhile has a mark."""
+    with world.load() as load:
+        load.goes_on()
+        before = [(it, noted(it), marks_of(it)) for it in world.machines]
+        for it in world.machines:
+            load.goes_on()
+            faults.kill_both(it)
+            load.goes_on()
+            faults.restart_both(it)
+    world.are_same()
+    for it, digest, marks in before:
+        assert digest != NOTHING and verified(it, "--digest", digest)["entries"], it.name
+        assert marks_of(it).startswith(marks), f"{it.name}: its marks are others than they were"
+        assert "unmarked" not in verified(it), it.name
+
+
+def test_marks_survive_their_journal(world):
+    """A machine that makes its journal again from the log still has its marks, and their times."""
+    machine = ended(world)
+    digest, marks = noted(machine), marks_of(machine)
+    for name in ("", ".checkpoint"):
+        os.remove(machine.journal + name)
+    is_mended(world, machine)
+    assert marks_of(machine).startswith(marks) and verified(machine, "--digest", digest)
+
+
+def test_marks_that_were_changed_are_refused(world):
+    """At rest: a time or a digest within what the checkpoint knows, or less than that; a digest behind it."""
+    machine = ended(world)
+    marks, size = marks_of(machine), checkpoint(machine)["marks"]
+    name = f"{machine.journal}.marks"
+    assert 0 < size < len(marks) and marks[size - 1 : size] == b"\n"
+    first = marks.splitlines(keepends=True)[0]
+    late = first.replace(first.split(b" ")[1], b"2019-01-01T00:00:00.000000Z")
+    for changed in (late + marks[len(first) :], marks[:size][: -len(first)], b"x" + marks[1:], b""):
+        put(name, changed)
+        machine.is_refused(f"{name}: differs from its checkpoint within the first {size} bytes")
+    os.remove(name)
+    machine.is_refused(f"{name}: differs from its checkpoint")
+    last = marks[size:].splitlines(keepends=True)[-1]
+    forged = last[:-65] + b"0" * 64 + b"\n"
+    put(name, marks[: -len(last)] + forged)
+    machine.is_refused("the core ended with status 3", f"{name}: differs at entry {int(last.split()[0])}")
+    put(name, marks)
+    is_mended(world, machine)
+
+
+def test_torn_marks_are_made_again(world):
+    """What a crash leaves behind the checkpoint's: fewer, half a mark, or zeros. What they covered is marked anew."""
+    machine = ended(world)
+    marks, size = marks_of(machine), checkpoint(machine)["marks"]
+    for changed in (marks[:size], marks[:-7], marks[:-20] + bytes(20), marks[:size] + bytes(100)):
+        put(f"{machine.journal}.marks", changed)
+        is_mended(world, machine)
+        assert marks_of(machine).startswith(marks[:size]) and "unmarked" not in verified(machine)
+        machine.end_replica()
+    machine.begin_replica()
+    machine.serves()
+
+
+def test_all_answers_are_those_of_the_log_still(world):
+    """Of all that was asked, also in these checks."""
+    world.is_right()
