@@ -70,7 +70,9 @@ class Reads:
         while True:
             before = self.order.number
             try:
-                await asyncio.wait_for(self.catch_up(), patience)
+                # (not wait_for, which may lose that it is cancelled)
+                async with asyncio.timeout(patience):
+                    await self.catch_up()
                 patience = SILENT
             except Unavailable as fault:
                 self.log.complaints.tell(f"etcd: {fault}")
