@@ -18,9 +18,21 @@ def noted(machine):
     return verified(machine)["last"]
 
 
+def ended_with_marks(world):
+    """A machine that has ended, whose checkpoint knows of marks; some stand behind these."""
+    machine = world.machines[1]
+    while not (os.path.exists(f"{machine.journal}.checkpoint") and checkpoint(machine)["marks"]):
+        with world.load(clients=3) as load:
+            load.goes_on(50)
+    machine = ended(world)
+    marks, size = marks_of(machine), checkpoint(machine)["marks"]
+    assert 0 < size < len(marks) and marks[size - 1 : size] == b"\n", f"{size} of {len(marks)} bytes"
+    return machine, marks, size
+
+
 def test_what_was_noted_is_found_after_faults(world):
     """Each machine's marks are at their place after kills, with their times; what came meanwhile has a mark."""
-    with world.load() as load:
+    with world.load(pause=0.1) as load:
         load.goes_on()
         before = [(it, noted(it), marks_of(it)) for it in world.machines]
         for it in world.machines:
@@ -47,10 +59,8 @@ def test_marks_survive_their_journal(world):
 
 def test_marks_that_were_changed_are_refused(world):
     """At rest: a time or a digest within what the checkpoint knows, or less than that; a digest behind it."""
-    machine = ended(world)
-    marks, size = marks_of(machine), checkpoint(machine)["marks"]
+    machine, marks, size = ended_with_marks(world)
     name = f"{machine.journal}.marks"
-    assert 0 < size < len(marks) and marks[size - 1 : size] == b"\n"
     first = marks.splitlines(keepends=True)[0]
     late = first.replace(first.split(b" ")[1], b"2019-01-01T00:00:00.000000Z")
     for changed in (late + marks[len(first) :], marks[:size][: -len(first)], b"x" + marks[1:], b""):
@@ -68,8 +78,7 @@ def test_marks_that_were_changed_are_refused(world):
 
 def test_torn_marks_are_made_again(world):
     """What a crash leaves behind the checkpoint's: fewer, half a mark, or zeros. What they covered is marked anew."""
-    machine = ended(world)
-    marks, size = marks_of(machine), checkpoint(machine)["marks"]
+    machine, marks, size = ended_with_marks(world)
     for changed in (marks[:size], marks[:-7], marks[:-20] + bytes(20), marks[:size] + bytes(100)):
         put(f"{machine.journal}.marks", changed)
         is_mended(world, machine)
