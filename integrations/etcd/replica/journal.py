@@ -96,7 +96,8 @@ class Journal:
             self.read(file, entries)
         if self.entries != entries:
             stop(REFUSED, f"{self.name}: has no entry {self.entries}, which was answered")
-        if self.cut and self.is_made_again():
+        # (also where only a torn end was cut off)
+        if self.is_made_again():
             self.cut = b""
             files.remove(self.redo)
 
