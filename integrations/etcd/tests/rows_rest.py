@@ -75,8 +75,17 @@ def test_a_cut_journal(world):
     lines = journal.splitlines(keepends=True)
     put(machine.journal, b"".join(lines[: count - 1]))
     machine.is_refused(f"has {count - 1} entries, and its checkpoint has {count}")
+    with open(f"{machine.journal}.checkpoint", "rb") as file:
+        before = file.read()
     for rest in (lines[: count + 3], [*lines, b"17 rubbish"], [*lines[:-1], lines[-1][:5], bytes(50)]):
+        # (each start that has made all again has a checkpoint behind it)
+        put(f"{machine.journal}.checkpoint", before)
         put(machine.journal, b"".join(rest))
+        is_mended(world, machine)
+        machine.end_replica()
+        assert not os.path.exists(f"{machine.journal}.redo")
+        # (also where nothing but a torn end stands behind it)
+        put(machine.journal, journal + b"17 rubbish")
         is_mended(world, machine)
         machine.end_replica()
         assert not os.path.exists(f"{machine.journal}.redo")
