@@ -160,7 +160,7 @@ def test_a_machine_that_differs_halts_all(world):
     for it in world.machines:
         it.has_refused("halted: ", "differ in the first", "000 entries")
     world.machines[0].is_refused("halted: ")
-    for name in ("", ".checkpoint"):
+    for name in ("", ".checkpoint", ".marks"):
         os.remove(wrong.journal + name)
     for key in ("mls/halt", f"mls/digest/{wrong.name}"):
         world.etcdctl("del", key, check=True)
@@ -189,7 +189,7 @@ def test_a_log_that_is_cut_off(world):
     revision = checkpoint(other)["revision"]
     world.etcdctl("compact", str(revision), check=True)
     machine.is_refused("the log is cut off before this machine's place")
-    for name in (".checkpoint", ""):
+    for name in (".checkpoint", ".marks", ""):
         shutil.copy(other.journal + name, machine.journal + name)
     os.remove(f"{machine.journal}.redo")
     is_mended(world, machine)
