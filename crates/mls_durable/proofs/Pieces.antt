@@ -1,5 +1,5 @@
 -- How far a client's input is answered.
-use Rattle.std.proofs.Common.{◌≡◌, ℕ, ◌-◌, ◌<◌, ◌≤◌, false, inl, List, [], ◌++◌, length, Option, Some, None, Result, Ok, Err, refl, sym, ap, ◌∙◌, append-nil, subst, arith}
+use Rattle.std.proofs.Common.{◌≡◌, ℕ, ◌+◌, ◌-◌, ◌<◌, ◌≤◌, false, inl, List, [], ◌++◌, length, Option, Some, None, Result, Ok, Err, refl, sym, ap, ◌∙◌, append-nil, subst, arith}
 use Rattle.std.specs.Prelude.{MatchResult}
 use Rattle.std.specs.Io.KnownBytes.{Consumes, Keeps, IsAtEnd}
 use Rattle.std.proofs.KnownBytes.{Consumes-trans, Consumes-nil, Consumes-kept}
@@ -13,14 +13,18 @@ use Rattle.mls_durable.specs.Sessions.{kept_of}
 use Rattle.mls_durable.specs.declared.options.Protocol.{Protocol}
 use Rattle.mls_durable.proofs.KeptLines.{kept_none, kept_some, length-kept_of}
 use Rattle.mls_journal.specs.declared.journal.TheConstants.{JOURNAL_LIMIT}
-use Rattle.mls_durable.specs.History.{Event, Known, seen}
+use Rattle.mls_durable.specs.History.{Event, Known, seen, ahead}
 use Rattle.mls_durable.specs.Moments.{IsSettled}
-use Rattle.mls_durable.specs.Batches.{Pending, SoFar, Stops, Steps}
+use Rattle.mls_durable.specs.Batches.{Pending, SoFar, Stops, Steps, limit_of}
 use Rattle.mls_durable.specs.Attending.{AnswersAll, Attends}
 use Rattle.mls_durable.specs.declared.attend_fault.AttendFault.{AttendFault}
 use Rattle.mls_durable.specs.declared.attend_fault.AttendFault.TheVariants.{Read, Unfinished, Write, File, Memory, TooLong}
 use Rattle.mls_durable.proofs.LineFacts.{after_none}
 use Rattle.mls_durable.proofs.Moving.{stands, all_served, all_in_front, serves_none, so_far_none}
+
+limit_small : (segment : Option ℕ) → limit_of segment ≤ JOURNAL_LIMIT
+limit_small None = omega arith
+limit_small (Some n) = omega arith
 
 pub keeps_itself : (o : Option (List ℕ)) → Keeps o o
 keeps_itself None = tt
@@ -155,11 +159,13 @@ module _ (names : Names) (protocol : Protocol) (first : Standing) where
 
   -- where a client begins, by what is the same
   pub begins : (start : Standing) (before : List Event) (p : Pending) (len : ℕ) → first ≡ start → IsLegal start.start start.entries → IsSettled start.entries before → p.now ≡ first → p.text ≡ [] → p.out ≡ []
-      → len ≡ length (seen before) → p.room ≡ JOURNAL_LIMIT - len → SoFar names protocol first before [] p before
+      → ahead before + len ≡ length (seen before) → p.room ≡ limit_of protocol.segment - len → SoFar names protocol first before [] p before
   begins start before p len same legal settled now text out long room =
       let legal_first : IsLegal first.start first.entries = subst (λ (s : Standing). IsLegal s.start s.entries) (sym same) legal in
       let settled_first : IsSettled first.entries before = subst (λ (s : Standing). IsSettled s.entries before) (sym same) settled in
-      so_far_none names protocol first before p legal_first settled_first now text out (omega (arith, room, long, ap length settled_first.file, settled_first.fits))
+      so_far_none names protocol first before p legal_first settled_first now text out
+      (omega (arith, room, long, ap length settled_first.file, settled_first.fits, limit_small protocol.segment))
+      (λ none. omega (arith, room, long, ap length settled_first.file, settled_first.fits, ap limit_of none))
 
   pub attends_from : {X : Type 0} (start : Standing) (given left : Option (List ℕ)) (entries : List Entry) (before after : List Event) (result : Result X AttendFault) → first ≡ start
       → Attends names protocol first given left entries before after result → Attends names protocol start given left entries before after result

@@ -184,9 +184,10 @@ answers names protocol s [] = []
 answers names protocol s (line ∷ lines) = answer_to names protocol s line
     ++ answers names protocol (after_line names protocol s line) lines
 
--- The protocol of a service whose lines are all of one session, and that tells no numbers. (own)
-abbrev pub one_session : ℕ → Protocol
-one_session k = record { asker = asker.Session k; numbers = false }
+-- The protocol of a service whose lines are all of one session, and that tells no numbers, with files of one journal or
+-- of this many bytes. (own)
+abbrev pub one_session : ℕ → Option ℕ → Protocol
+one_session k segment = record { asker = asker.Session k; numbers = false; segment = segment }
 
 -- The entry that a line adds, where it adds one. (own)
 abbrev pub added_by : Names → Protocol → Standing → List ℕ → Option Entry

@@ -13,7 +13,7 @@ pub enum AttendFault {
     /// Answers couldn't be handed out.
     #[error("the answers couldn't be written")]
     Write,
-    /// The journal's file couldn't be written or synced.
+    /// The journal's file couldn't be written or synced, or another not be begun.
     #[error("the file failed")]
     File,
     /// An allocation failed that a line needs.

@@ -1,7 +1,7 @@
 //! Attending to a client: its lines are read, asked, and answered once their entries are on the disk.
-ghost use Rattle.std.specs.Prelude.{◌≡◌, ◌<◌, ◌≤◌, [], List, Some, length, string_bytes};
+ghost use Rattle.std.specs.Prelude.{◌≡◌, ◌<◌, ◌≤◌, ◌+◌, [], List, Some, length, string_bytes};
 ghost use Rattle.mls_scripts.specs.Script.{standing_of};
-ghost use Rattle.mls_durable.specs.History.{Event, Known, seen};
+ghost use Rattle.mls_durable.specs.History.{Event, Known, ahead, seen};
 ghost use Rattle.mls_durable.specs.Moments.{IsSettled};
 ghost use Rattle.mls_durable.specs.Batches.{SoFar, pending};
 ghost use Rattle.mls_durable.specs.Attending.{Attends};
@@ -9,9 +9,9 @@ ghost use Rattle.mls_durable.specs.Attending.{Attends};
 use crate::attend_fault::AttendFault;
 use crate::batch::Batch;
 use crate::client::Client;
+use crate::limits::file_limit;
 use crate::options::Protocol;
 use crate::outside::Outside;
-use mls_journal::JOURNAL_LIMIT;
 use mls_lines::{Names, Vars};
 use mls_monitor::Monitor;
 use std::alloc::Global;
@@ -53,15 +53,17 @@ fn attend_pieces<R: Read, O: Outside>(
     Err(AttendFault::Read)
 }
 
-/// Answers the lines of a client, to the end of its input, over a monitor whose journal is just what the file holds,
-/// all of it on the disk; the file has `len` bytes. The protocol says of which session a line is, and how it is
+/// Answers the lines of a client, to the end of its input, over a monitor whose journal is just what the files hold,
+/// all of it on the disk; the live file has `len` bytes. The protocol says of which session a line is, and how it is
 /// answered.
 ///
 /// The lines that are complete in what was read are a batch, or more than one where the text of their entries would
 /// pass `BATCH` bytes: the entries are added to the file, which is synced, and then the answers are handed out. A batch
 /// that adds no entry syncs nothing. All of that is done before the reader is called again. A last line without a
 /// newline isn't asked. The monitor forgets an entry once its line is in a batch. There is no limit on the input; a line
-/// has at most `MAX_LINE` bytes, and a session's so many behind what tells its session.
+/// has at most `MAX_LINE` bytes, and a session's so many behind what tells its session. Where the protocol cuts the
+/// journal into files, and the line of one entry more might make the live file longer than a segment, what was asked is
+/// committed, and then another file is begun: so no file is longer than a segment that wasn't when it was found.
 ///
 /// # Errors
 /// The lines before some line are answered, and no other. The monitor's start stays.
@@ -69,11 +71,11 @@ fn attend_pieces<R: Read, O: Outside>(
 /// - `Unfinished`: the input ended within a line; the lines before it are answered. The monitor's journal is the
 ///   file's.
 /// - `Write`: answers broke off; the entries of all lines that were asked are in the file, and synced.
-/// - `File`: no answer of the last batch is handed out; the file may have a front of the text of its entries. The file
-///   has to be recovered.
+/// - `File`: no answer of the last batch is handed out; the file may have a front of the text of its entries; or
+///   another file couldn't be begun. The journal has to be recovered.
 /// - `Memory`: an allocation failed; the line that met it adds no entry to the file.
-/// - `TooLong`: the line of one entry more, of `LONGEST_LINE` bytes, might make the file longer than `JOURNAL_LIMIT`.
-///   The monitor's journal is the file's.
+/// - `TooLong`: no other file is to be begun, and the line of one entry more, of `LONGEST_LINE` bytes, might make the
+///   live file longer than `JOURNAL_LIMIT`. The monitor's journal is the file's.
 ///
 /// After `Write` or `Memory` the monitor's journal is the file's, and maybe one entry more: that of the line for whose
 /// text or answer no memory was left.
@@ -87,7 +89,7 @@ pub fn attend<R: Read, O: Outside>(
     outside: &mut O,
 ) -> Result<(), AttendFault>
     ensures attends { Known (O.history outside.old) (O.history outside.new) (λ before after.
-        IsSettled monitor.old.entries before → len ≡ length (seen before)
+        IsSettled monitor.old.entries before → ahead before + len ≡ length (seen before)
         → Attends names.now protocol (standing_of [] monitor.old) (R.remaining reader.old) (R.remaining reader.new)
         monitor.new.entries before after result) }
     ensures start { monitor.new.start ≡ monitor.old.start }
@@ -101,7 +103,7 @@ pub fn attend<R: Read, O: Outside>(
         vars: Vars::new(alloc),
         text: String::new(alloc),
         answers: Vec::new(alloc),
-        room: JOURNAL_LIMIT.saturating_sub(len),
+        room: file_limit(protocol.segment).saturating_sub(len),
         answer: Vec::new(alloc),
     };
     let line = Vec::new(alloc);

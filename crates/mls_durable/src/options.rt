@@ -10,12 +10,15 @@ pub enum Asker {
     EachLine,
 }
 
-/// How lines are taken, and how they are answered.
+/// How lines are taken, how they are answered, and how their entries are cut into files.
 #[derive(Clone, Copy, Debug, PartialEq, Eq)]
 pub struct Protocol {
     pub asker: Asker,
     /// The number of the entry stands behind an answer that has one.
     pub numbers: bool,
+    /// How many bytes a file of the journal takes before another is begun: at least `LONGEST_LINE`, at most
+    /// `JOURNAL_LIMIT`. Where it is `None` one file takes all entries.
+    pub segment: Option<u32>,
 }
 
 /// How a service takes its lines, what it tells, and what it does with a torn end.

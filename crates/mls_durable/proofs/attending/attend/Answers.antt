@@ -1,4 +1,4 @@
-use Rattle.std.proofs.Common.{[], string_bytes, refl, ap}
+use Rattle.std.proofs.Common.{[], ◌-◌, string_bytes, refl, ap, ◌∙◌}
 use Rattle.mls_scripts.specs.Script.{standing_of}
 use Rattle.mls_durable.specs.Batches.{Pending}
 use Rattle.mls_durable.proofs.Pieces.{attends_nothing, begins, attends_from}
@@ -23,5 +23,5 @@ returns-clause-attends g c = λ before is.
       done.1,
       λ settled len.
           attends_from c.args.names.now c.args.protocol first start (g.R.Read.remaining c.args.reader.now) (g.R.Read.remaining c.attend_pieces.new.reader) c.attend_pieces.new.monitor.entries before done.0 c.attend_pieces.result same
-          (done.2 (begins c.args.names.now c.args.protocol first start before p c.args.len same c.entries.ensures.legal settled refl c.new-2.ensures.bytes c.new-3.ensures.items len c.saturating_sub.ensures)),
+          (done.2 (begins c.args.names.now c.args.protocol first start before p c.args.len same c.entries.ensures.legal settled refl c.new-2.ensures.bytes c.new-3.ensures.items len (c.saturating_sub.ensures ∙ ap (λ n. n - c.args.len) c.file_limit.ensures))),
     )
