@@ -3,23 +3,19 @@
 #![tactic(auto)]
 
 mod commands;
-mod files;
-mod marks;
-mod questions;
-mod service;
 
 ghost use Rattle.std.specs.Prelude.{◌<◌, ◌≤◌, length, vec_len, All};
 
 use crate::commands::{
     RunJournal, check, discard, ended_run, lent, open_run_journal, read_scripts, replay,
-    serve_standard, start_file,
+    serve_standard, verify,
 };
-use crate::marks::verify;
-use crate::questions::answer;
-use crate::service::serve_journal;
 use mls_cli::{run_serial, run_threads};
+use mls_files::start_file;
+use mls_questions::answer;
 use mls_replay::MAX_SCRIPTS;
 use mls_scripts::SCRIPT_LIMIT;
+use mls_service::serve_journal;
 use mls_terminal::{Held, Job, NO_MEMORY, Progress, RunWords, file_refused, read_words, refused};
 use std::env;
 use std::env::FillError;

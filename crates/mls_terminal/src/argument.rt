@@ -29,6 +29,8 @@ pub(crate) enum Kind {
     TimeForAt,
     /// An option with a number of 32 bits.
     Session,
+    /// An option with the bytes of a segment, that can't stand beside this option.
+    SegmentWithout(&'static str),
     /// An option with the number of an entry.
     Entry,
     /// An option with the number of an entry that can't stand beside the options `--from` and `--to`.
@@ -52,6 +54,12 @@ pub(crate) struct Argument {
     pub kind: Kind,
     pub help: &'static str,
 }
+
+/// The least bytes of a segment: there is room for the line of any entry.
+const LEAST_SEGMENT: i64 = 4_096;
+
+/// The most bytes of a segment: those of any file of a journal.
+const GREATEST_SEGMENT: i64 = 268_435_456;
 
 /// The words of modes.
 const MODES: [&str; 4] = ["execute", "read", "append", "write"];
@@ -98,6 +106,9 @@ impl Argument {
             Kind::Session => {
                 Ok(with_value(arg, self.name, "K").value_parser(clap::value_parser!(u32)))
             }
+            Kind::SegmentWithout(other) => with_value(arg, self.name, "BYTES")
+                .value_parser(clap::value_parser!(u32).range(LEAST_SEGMENT..=GREATEST_SEGMENT))
+                .conflicts_with(other),
             Kind::Entry => Ok(with_entry(arg, self.name)),
             Kind::EntryOrRange => with_entry(arg, self.name)
                 .conflicts_with("from")?

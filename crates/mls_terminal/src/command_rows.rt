@@ -131,7 +131,7 @@ const VERIFY_ARGUMENTS: [Argument; 5] = [
 ];
 
 /// The arguments of `serve`.
-const SERVE_ARGUMENTS: [Argument; 9] = [
+const SERVE_ARGUMENTS: [Argument; 11] = [
     Argument {
         name: "session",
         kind: Kind::Session,
@@ -173,6 +173,17 @@ const SERVE_ARGUMENTS: [Argument; 9] = [
         kind: Kind::Text("MARKS"),
         help: "Adds a line to MARKS for each batch of entries: the number of the last, the time, and a digest of the \
             journal so far; MARKS is made where it isn't there",
+    },
+    Argument {
+        name: "segment",
+        kind: Kind::SegmentWithout("marks"),
+        help: "Closes the journal's file before it has more than BYTES bytes, as FILE.N with the number of its first \
+            entry, keeps the state in FILE.state.N, from which the next start begins, and goes on with a new FILE",
+    },
+    Argument {
+        name: "from-start",
+        kind: Kind::FlagBeside("segment"),
+        help: "Replays all segments from START on, and compares each state that was kept",
     },
     START,
 ];

@@ -34,6 +34,10 @@ pub struct ServeWords<'a> {
     pub is_recovering: bool,
     /// Whether damage that no crash leaves is cut off then, too.
     pub is_cutting_damage: bool,
+    /// How many bytes a segment of the journal has at most, where it is in segments.
+    pub segment: Option<u32>,
+    /// Whether all segments are replayed.
+    pub is_from_start: bool,
 }
 
 /// What a verification of marks is asked for.

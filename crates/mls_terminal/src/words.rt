@@ -73,6 +73,8 @@ fn serve_words<'a>(matches: &ArgMatches<'a>) -> ServeWords<'a> {
         has_names: matches.get_flag("names"),
         is_recovering: matches.get_flag("recover"),
         is_cutting_damage: matches.get_flag("cut-damage"),
+        segment: matches.get_one("segment"),
+        is_from_start: matches.get_flag("from-start"),
     }
 }
 

@@ -1,8 +1,8 @@
 //! The scripts of a run: read, lent, and what is printed of the run.
 ghost use Rattle.std.specs.Prelude.{◌≡◌, ◌≤◌, length, vec_len, All, IfOk};
 
-use crate::commands::output::command_refused;
 use crate::commands::run_journal::RunJournal;
+use mls_files::command_refused;
 use mls_replay::{CommandFault, RunText};
 use mls_scripts::SCRIPT_LIMIT;
 use mls_terminal::{FileFault, Held, Input, Progress, RunWords, file_refused, print};

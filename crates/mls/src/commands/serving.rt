@@ -1,5 +1,5 @@
 //! Serving the script on standard input.
-use crate::commands::output::command_refused;
+use mls_files::command_refused;
 use mls_lines::Names;
 use mls_monitor::{Monitor, Start};
 use mls_replay::CommandFault;

@@ -1,0 +1,8 @@
+//! The marks of a journal in a file: how they are read and verified, and what is told of them.
+mod faults;
+mod file;
+mod reading;
+
+pub use faults::{MarksFault, marks_refused, tell_mark};
+pub use file::MarksInput;
+pub use reading::{read_marks, take_pieces};

@@ -1,0 +1,37 @@
+//! The lines that tell why a command over files was refused, which call on a file has failed, and where a journal ends.
+use crate::call_fault::CallFault;
+use mls_replay::{CommandFault, status, write_fault};
+use mls_terminal::{NO_MEMORY, refused};
+use std::io;
+use std::process::ExitCode;
+
+/// Tells why a command over a file was refused.
+pub fn command_refused(rt: &HostRuntime, file: &str, fault: &CommandFault) -> ExitCode {
+    let mut line = String::new(rt.alloc());
+    if write_fault(rt.alloc(), *fault, file, &mut line).is_err() {
+        return refused(rt, NO_MEMORY, 1);
+    }
+    let _ = eprint!(rt; "{line}");
+    ExitCode::from(status(*fault))
+}
+
+/// The file that a fault is about.
+pub fn fault_file<'a>(fault: &CommandFault, start: &'a str, journal: &'a str) -> &'a str {
+    match fault {
+        CommandFault::Load(_) | CommandFault::Thread | CommandFault::Memory => start,
+        CommandFault::Entry { .. } | CommandFault::Replay(_) => journal,
+    }
+}
+
+/// Tells which call on a file has failed, and why.
+pub fn tell_call(rt: &HostRuntime, file: &str, fault: &CallFault) {
+    let _ = eprintln!(rt; "mls: {file}: {fault}");
+}
+
+/// Tells that the end of a journal is torn, or was cut off, behind so many entries.
+pub fn tell_end(rt: &HostRuntime, file: &str, what: &str, entries: u64) -> io::Result<()> {
+    match entries.checked_sub(1) {
+        Some(last) => eprintln!(rt; "mls: {file}: {what} after entry {last}"),
+        None => eprintln!(rt; "mls: {file}: {what} before entry 0"),
+    }
+}

@@ -1,0 +1,155 @@
+//! The command of a question, and how it ends.
+use crate::asking::{ask, explain, who};
+use crate::comparison::compare;
+use crate::empowering::powers;
+use crate::listing::{journal, state};
+use crate::snapshots::start_of_state;
+use crate::spans::{held, usage};
+use crate::starts::{lattice, lint};
+use mls_explain_text::{Sort, fault_line, word_line};
+use mls_files::{command_refused, fault_file};
+use mls_lines::LineFault;
+use mls_replay::QuestionFault;
+use mls_terminal::{NO_MEMORY, Progress, Question, print, refused};
+use mls_wording::Answer;
+use std::alloc::AllocError;
+use std::process::ExitCode;
+
+/// The status of a command whose answer is a negative one.
+const NEGATIVE: u8 = 4;
+
+/// The words that the fault lines of a question name.
+#[derive(Clone, Copy, Debug)]
+pub(crate) struct Named<'a> {
+    pub start: &'a str,
+    pub journal: &'a str,
+    /// The word that is to name a subject.
+    pub subject: &'a str,
+    /// The word that is to name an object.
+    pub object: &'a str,
+    /// The line that is asked about.
+    pub line: &'a str,
+}
+
+impl<'a> Named<'a> {
+    /// The files of a question that names neither a subject nor an object by a word, and is about no line.
+    pub(crate) fn files(start: &'a str, journal: &'a str) -> Named<'a> {
+        Named {
+            start,
+            journal,
+            subject: "",
+            object: "",
+            line: "",
+        }
+    }
+}
+
+/// Writes the line of a fault to standard error.
+fn told(rt: &HostRuntime, line: Result<String, AllocError>) -> ExitCode {
+    match line {
+        Ok(text) => {
+            let status = refused(rt, text.as_str(), 1);
+            drop(text);
+            status
+        }
+        Err(_) => refused(rt, NO_MEMORY, 1),
+    }
+}
+
+/// Tells for which fault a line is refused, by the bytes of the start file.
+fn line_refused(rt: &HostRuntime, start: &[u8], line: &str, fault: LineFault) -> ExitCode {
+    told(rt, fault_line(rt.alloc(), start, line, fault))
+}
+
+/// Tells that a word names no subject, or no object, of the bytes of a start file.
+pub(crate) fn name_refused(rt: &HostRuntime, start: &[u8], sort: Sort, word: &str) -> ExitCode {
+    told(rt, word_line(rt.alloc(), start, sort, word))
+}
+
+/// Tells that a journal has no entry of a number.
+fn entry_refused(rt: &HostRuntime, journal: &str, what: &str, number: u64) -> ExitCode {
+    let _ = eprintln!(rt; "mls: {journal}: {what} {number}");
+    ExitCode::from(1)
+}
+
+/// Tells why a question has no answer, by the bytes of the start file.
+pub(crate) fn question_refused(
+    rt: &HostRuntime,
+    named: Named<'_>,
+    start: &[u8],
+    fault: QuestionFault,
+) -> ExitCode {
+    match fault {
+        QuestionFault::Files(fault) => {
+            command_refused(rt, fault_file(&fault, named.start, named.journal), &fault)
+        }
+        QuestionFault::AtMost(entries) => entry_refused(rt, named.journal, "at most", entries),
+        QuestionFault::NoEntry(entry) => entry_refused(rt, named.journal, "no entry", entry),
+        QuestionFault::Line(fault) => line_refused(rt, start, named.line, fault),
+        QuestionFault::Subject => name_refused(rt, start, Sort::Subject, named.subject),
+        QuestionFault::Object => name_refused(rt, start, Sort::Object, named.object),
+    }
+}
+
+/// Prints an answer.
+pub(crate) fn answered(rt: &HostRuntime, answer: Answer) -> ExitCode {
+    let Answer { text, is_positive } = answer;
+    let printed = print(rt, text.as_bytes());
+    drop(text);
+    if is_positive || printed != ExitCode::SUCCESS {
+        printed
+    } else {
+        ExitCode::from(NEGATIVE)
+    }
+}
+
+/// Ends a command over the bytes of a start file: prints the answer, or tells why there is none.
+pub(crate) fn ended(
+    progress: &mut Progress<'_>,
+    named: Named<'_>,
+    start: &[u8],
+    done: Result<Answer, QuestionFault>,
+) -> ExitCode {
+    progress.end();
+    match done {
+        Ok(answer) => answered(progress.rt(), answer),
+        Err(fault) => question_refused(progress.rt(), named, start, fault),
+    }
+}
+
+/// Answers a question about start files or journals on standard output. The status is 0 where the answer is a positive
+/// one, and 4 where it is a negative one.
+pub fn answer(progress: &mut Progress<'_>, question: &Question<'_>) -> ExitCode {
+    match question {
+        Question::Ask { source, line } => ask(progress, source, line),
+        Question::Explain { source, line } => explain(progress, source, *line),
+        Question::Who {
+            source,
+            object,
+            mode,
+        } => who(progress, source, object, *mode),
+        Question::Powers {
+            source,
+            subject,
+            downgrades,
+        } => powers(progress, source, *subject, *downgrades),
+        Question::Lint { start } => lint(progress, start),
+        Question::Lattice { start } => lattice(progress, start),
+        Question::Journal(words) => journal(progress, words),
+        Question::State {
+            source,
+            is_start: false,
+        } => state(progress, source),
+        Question::State {
+            source,
+            is_start: true,
+        } => start_of_state(progress, source),
+        Question::Held(words) => held(progress, words),
+        Question::Usage(words) => usage(progress, words),
+        Question::Compare {
+            first,
+            second,
+            journal,
+        } => compare(progress, first, second, *journal),
+    }
+}

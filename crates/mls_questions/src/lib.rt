@@ -1,0 +1,14 @@
+//! The commands that answer questions about start files and journals, over files.
+#![tactic(auto)]
+
+mod answering;
+mod asking;
+mod comparison;
+mod empowering;
+mod listing;
+mod snapshots;
+mod sources;
+mod spans;
+mod starts;
+
+pub use answering::answer;

@@ -1,0 +1,142 @@
+//! The commands that list what a journal has, and the state that it leads to.
+use crate::answering::{Named, answered, ended, name_refused, question_refused};
+use crate::sources::{Bytes, read_source};
+use mls_explain_text::{Sort, list_explained};
+use mls_marks::Marks;
+use mls_reports::{Filter, ListFault, Words, list_journal, list_state};
+use mls_terminal::{JournalWords, Progress, Source};
+use std::process::ExitCode;
+
+/// Tells why the entries of a journal aren't listed, by the bytes of the start file.
+fn list_refused(
+    rt: &HostRuntime,
+    words: &JournalWords<'_>,
+    start: &[u8],
+    fault: ListFault,
+) -> ExitCode {
+    let filter = &words.filter;
+    match fault {
+        ListFault::Question(fault) => {
+            let named = Named {
+                start: words.start,
+                journal: words.journal,
+                subject: filter.subject.unwrap_or(""),
+                object: filter.object.unwrap_or(""),
+                line: "",
+            };
+            question_refused(rt, named, start, fault)
+        }
+        ListFault::By => name_refused(rt, start, Sort::Subject, filter.by.unwrap_or("")),
+    }
+}
+
+/// The greater of two numbers of first entries, where they are asked for.
+fn later(from: Option<u64>, since: Option<u64>) -> Option<u64> {
+    match (from, since) {
+        (Some(from), Some(since)) => Some(from.max(since)),
+        (from, since) => from.or(since),
+    }
+}
+
+/// The lesser of two numbers of last entries, where they are asked for.
+fn earlier(to: Option<u64>, until: Option<u64>) -> Option<u64> {
+    match (to, until) {
+        (Some(to), Some(until)) => Some(to.min(until)),
+        (to, until) => to.or(until),
+    }
+}
+
+/// The numbers of the first and of the last entry that are asked for, by number and by time. Where no mark has such a
+/// time the first is the greatest number, which no entry has.
+fn range(words: &JournalWords<'_>, marks: Option<&Marks>) -> (Option<u64>, Option<u64>) {
+    let mut from = words.filter.from;
+    let mut to = words.filter.to;
+    let Some(marks) = marks else {
+        return (from, to);
+    };
+    if let Some(time) = &words.since {
+        let first = marks.since(time).unwrap_or(u64::MAX);
+        from = later(from, Some(first));
+    }
+    if let Some(time) = &words.until {
+        match marks.until(time) {
+            Some(last) => to = earlier(to, Some(last)),
+            None => from = Some(u64::MAX),
+        }
+    }
+    (from, to)
+}
+
+/// Which entries are asked for, those between two times among them.
+fn marked_filter<'a>(words: &JournalWords<'a>, marks: Option<&Marks>) -> Words<'a> {
+    let (from, to) = range(words, marks);
+    Filter {
+        subject: words.filter.subject,
+        by: words.filter.by,
+        object: words.filter.object,
+        session: words.filter.session,
+        reply: words.filter.reply,
+        from,
+        to,
+    }
+}
+
+/// Prints the entries of a journal that are asked for.
+pub(crate) fn journal(progress: &mut Progress<'_>, words: &JournalWords<'_>) -> ExitCode {
+    let source = Source {
+        start: words.start,
+        journal: Some(words.journal),
+        at: None,
+        marks: words.marks,
+        when: None,
+    };
+    let bytes = match read_source(progress, &source) {
+        Ok(bytes) => bytes,
+        Err(status) => return status,
+    };
+    let journal = bytes.journal.as_deref().unwrap_or(b"".as_slice());
+    let marks = bytes.marks.as_ref();
+    let filter = marked_filter(words, marks);
+    progress.begin("listing");
+    let rt = progress.rt();
+    let done = if words.is_explained {
+        list_explained(rt.alloc(), &bytes.start, journal, marks, &filter)
+    } else {
+        list_journal(
+            rt.alloc(),
+            &bytes.start,
+            journal,
+            marks,
+            &filter,
+            words.form,
+        )
+    };
+    progress.end();
+    let status = match done {
+        Ok(answer) => answered(rt, answer),
+        Err(fault) => list_refused(rt, words, &bytes.start, fault),
+    };
+    drop(bytes);
+    status
+}
+
+/// Prints the state that a journal leads to.
+pub(crate) fn state(progress: &mut Progress<'_>, source: &Source<'_>) -> ExitCode {
+    let bytes = match read_source(progress, source) {
+        Ok(bytes) => bytes,
+        Err(status) => return status,
+    };
+    let Bytes {
+        start,
+        journal,
+        at,
+        ..
+    } = &bytes;
+    let journal = journal.as_deref().unwrap_or(b"".as_slice());
+    progress.begin("listing");
+    let done = list_state(progress.rt().alloc(), start, journal, *at);
+    let named = Named::files(source.start, source.journal.unwrap_or(""));
+    let status = ended(progress, named, start, done);
+    drop(bytes);
+    status
+}

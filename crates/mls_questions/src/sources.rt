@@ -1,0 +1,122 @@
+//! The files of a question, read.
+use mls_files::{MarksInput, marks_refused, read_journal, read_marks, start_file};
+use mls_marks::Marks;
+use mls_terminal::{FileFault, Progress, Source, file_refused};
+use std::process::ExitCode;
+
+/// The bytes of a start file, and those of a journal where there is one, with its marks where these are read.
+#[derive(Drop)]
+pub(crate) struct Bytes {
+    pub start: Vec<u8>,
+    pub journal: Option<Vec<u8>>,
+    /// The marks, which agree with the journal.
+    pub marks: Option<Marks>,
+    /// The number of the entry before which the state is looked at, where that is told.
+    pub at: Option<u64>,
+}
+
+/// The bytes of a journal, where there is one.
+fn read_any(progress: &mut Progress<'_>, path: Option<&str>) -> Result<Option<Vec<u8>>, FileFault> {
+    match path {
+        Some(path) => Ok(Some(read_journal(progress, path)?)),
+        None => Ok(None),
+    }
+}
+
+/// Opens the file of marks, where there is one.
+fn open_marks(
+    progress: &mut Progress<'_>,
+    path: Option<&str>,
+) -> Result<Option<MarksInput>, ExitCode> {
+    let Some(path) = path else {
+        return Ok(None);
+    };
+    match MarksInput::open(progress.rt(), path) {
+        Ok(input) => Ok(Some(input)),
+        Err(_) => Err(file_refused(progress, path, FileFault::File)),
+    }
+}
+
+/// Reads marks over a journal that was read, where there are marks.
+fn marks_over(
+    progress: &mut Progress<'_>,
+    path: Option<&str>,
+    input: &Option<MarksInput>,
+    journal: Option<&[u8]>,
+) -> Result<Option<Marks>, ExitCode> {
+    let (Some(path), Some(input), Some(journal)) = (path, input, journal) else {
+        return Ok(None);
+    };
+    progress.begin("verifying");
+    match read_marks(progress.rt().alloc(), input, journal) {
+        Ok(marks) => Ok(Some(marks)),
+        Err(fault) => {
+            progress.end();
+            Err(marks_refused(progress.rt(), path, fault))
+        }
+    }
+}
+
+/// The number of the entry before which the state is looked at: the one that is told, or the one behind the last batch
+/// by a time.
+fn place_of(
+    progress: &mut Progress<'_>,
+    source: &Source<'_>,
+    marks: Option<&Marks>,
+) -> Result<Option<u64>, ExitCode> {
+    let (Some(time), Some(marks)) = (source.when, marks) else {
+        return Ok(source.at);
+    };
+    match marks.until(&time) {
+        Some(last) => Ok(Some(last.saturating_add(1))),
+        None => Err(no_mark(progress, source.marks.unwrap_or(""))),
+    }
+}
+
+/// Tells that no mark has the time that is asked for or one before it.
+fn no_mark(progress: &mut Progress<'_>, marks: &str) -> ExitCode {
+    progress.end();
+    let _ = eprintln!(progress.rt(); "mls: {marks}: no mark by then");
+    ExitCode::from(1)
+}
+
+/// What was read of the start and the journal, with the marks.
+fn with_marks(
+    progress: &mut Progress<'_>,
+    source: &Source<'_>,
+    input: &Option<MarksInput>,
+    start: Vec<u8>,
+    journal: Option<Vec<u8>>,
+) -> Result<Bytes, ExitCode> {
+    let marks = marks_over(progress, source.marks, input, journal.as_deref())?;
+    let at = place_of(progress, source, marks.as_ref())?;
+    Ok(Bytes {
+        start,
+        journal,
+        marks,
+        at,
+    })
+}
+
+/// Reads the files of a question, the start's first. The file of marks is opened before the journal is read: what a
+/// service adds to both meanwhile isn't looked at.
+///
+/// # Errors
+/// The status to end with: it is told which file couldn't be read, or why the marks are refused.
+pub(crate) fn read_source(
+    progress: &mut Progress<'_>,
+    source: &Source<'_>,
+) -> Result<Bytes, ExitCode> {
+    let start = match start_file(source.start).read(progress) {
+        Ok(start) => start,
+        Err(fault) => return Err(file_refused(progress, source.start, fault)),
+    };
+    let input = open_marks(progress, source.marks)?;
+    match read_any(progress, source.journal) {
+        Ok(journal) => with_marks(progress, source, &input, start, journal),
+        Err(fault) => {
+            drop(start);
+            Err(file_refused(progress, source.journal.unwrap_or(""), fault))
+        }
+    }
+}

@@ -1,0 +1,16 @@
+//! `mls serve` over a real file: how its journal is opened, locked and synced, and what is told of it.
+#![tactic(auto)]
+
+mod command;
+mod faults;
+mod file_outside;
+mod marked;
+mod marked_service;
+mod marks_file;
+mod marks_opening;
+mod opening;
+mod segmented;
+mod syncing;
+mod torn_file;
+
+pub use command::serve_journal;
