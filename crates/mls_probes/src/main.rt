@@ -1,10 +1,12 @@
-//! A program for checks and benchmarks. It makes the calls that take the global allocator, each once more where it was
-//! out of memory: `.ci/check-refusals` has always the same of its allocations refused; the first word says how many it
-//! makes before the calls, so that each of theirs has its turn, and the second which call it makes. Where the first word
-//! is `gate` or `mutex`, threads take turns at one monitor, for `bench/gate_turns.sh` to time.
+//! A program for checks and benchmarks; where it is given no word, it begins with an example of the library in use
+//! (`example.rt`). It makes the calls that take the global allocator, each once more where it was out of memory:
+//! `.ci/check-refusals` has always the same of its allocations refused; the first word says how many it makes before
+//! the calls, so that each of theirs has its turn, and the second which call it makes. Where the first word is `gate`
+//! or `mutex`, threads take turns at one monitor, for `bench/gate_turns.sh` to time.
 #![tactic(auto)]
 
 mod calls;
+mod example;
 mod keeper;
 mod monitors;
 mod offices;
@@ -15,12 +17,14 @@ mod turns;
 mod verdict;
 
 use calls::{ask_check, ask_line, ask_read, ask_replay, ask_run, ask_standard, ask_threads};
+use example::show_example;
 use mls_cli::{CommandFault, LoadFault};
 use mls_monitor::StartFault;
 use offices::ask_office;
 use script::ask_script;
 use sessions::ask_sessions;
 use std::alloc::Global;
+use std::env::FillError;
 use std::io;
 use std::rt::Env;
 use std::sync::Wait;
@@ -164,9 +168,17 @@ fn asks_for_turns(env: &impl Env) -> bool {
     env.arg(1, &mut word).is_ok() && (word.starts_with(b"gate") || word == *b"mutex")
 }
 
+/// Whether the program is given no word.
+fn has_no_word(env: &impl Env) -> bool {
+    matches!(env.arg(1, &mut [0u8; 1]), Err(FillError::NotPresent))
+}
+
 fn main(rt: HostRuntime) -> io::Result<()> {
     if asks_for_turns(&rt) {
         return time_turns(&rt, &rt);
+    }
+    if has_no_word(&rt) {
+        show_example(&rt)?;
     }
     pass_over(rt.alloc(), number(&rt, 1));
     let call = number(&rt, 2);

@@ -1,5 +1,5 @@
-//! Tests that cross crates, of what only calls show: streams that fail, allocations that are refused, and what is read
-//! beside the tables.
+//! Tests that cross crates, of what only calls show: streams that fail, allocations that are refused, what is read
+//! beside the tables, journals and the services over them, and sessions.
 #![tactic(auto)]
 
 #[cfg(test)]
@@ -8,10 +8,13 @@ mod changes;
 mod faults;
 #[cfg(test)]
 mod feeds;
+mod journal;
 #[cfg(test)]
 mod one_line;
 #[cfg(test)]
 mod serving;
+#[cfg(test)]
+mod sessions;
 #[cfg(test)]
 mod standard;
 #[cfg(test)]
@@ -20,3 +23,5 @@ mod standard_file;
 mod tables;
 #[cfg(test)]
 mod vars;
+
+pub use journal::{Call, Memory, MemoryMarks, Shelf};

@@ -6,7 +6,7 @@ use mls_start_file::{Loaded, standard_start};
 use std::alloc::{AllocError, Allocator};
 
 /// The start alone.
-fn without_names<A: Allocator>(loaded: Loaded<A>) -> Start<A> {
+pub fn without_names<A: Allocator>(loaded: Loaded<A>) -> Start<A> {
     let (names, start) = loaded.into_parts();
     drop(names);
     start

@@ -1,5 +1,5 @@
-//! Tests of what only calls show of starts, states, the rules and the monitor. The worked scripts and journals are in
-//! .ci/check-rows, which the program answers.
+//! Tests of what only calls show of labels, tables, the tree, starts, states, the rules and the monitor. The words of
+//! requests and replies, and the worked scripts and journals, are in .ci/check-rows, which the program answers.
 #![tactic(auto)]
 
 #[cfg(test)]
@@ -28,3 +28,5 @@ mod standard;
 mod starts;
 #[cfg(test)]
 mod steps;
+#[cfg(test)]
+mod values;

@@ -1,0 +1,19 @@
+use Rattle.std.proofs.Common.{◌≡◌, ℕ, List, [], ◌∷◌, Option, Some, refl, sym, ap, ◌∙◌, subst}
+use Rattle.mls_durable.specs.History.{Event, Found, IsAtRest, ahead}
+use Rattle.mls_marks.specs.Serving.{IsQuiet}
+use Rattle.mls_tests.proofs.Pushed.{first_file}
+use Rattle.mls_tests.proofs.journal.marked_service.run.Goals as goal
+
+opened : (h : List Event) (bytes : List ℕ) → h ≡ Found bytes ∷ [] → IsAtRest h × IsQuiet h
+opened h bytes is = subst (λ (k : List Event). IsAtRest k × IsQuiet k) (sym is) (record { sound = refl; cut = refl; durable = λ disk file left. left }, refl)
+
+one_history : (a b : List Event) → ◌≡◌ {A = Option (List Event)} (Some a) (Some b) → a ≡ b
+one_history a b same = cc
+
+pub serve_marked-served-requires : goal.serve_marked-served-requires
+serve_marked-served-requires c = record {
+  at_rest = λ h is. (opened h c.requires.0 (one_history h (Found c.requires.0 ∷ []) (sym is ∙ c.requires.1))).0;
+  quiet = λ h is. (opened h c.requires.0 (one_history h (Found c.requires.0 ∷ []) (sym is ∙ c.requires.1))).1;
+  behind = λ h is. first_file c.requires.0 h c.in-Ok-open.monitor.entries c.requires.1 is c.in-Ok-open.ensures.ok.entries;
+  one_file = λ h is. ap ahead (one_history h (Found c.requires.0 ∷ []) (sym is ∙ c.requires.1));
+}

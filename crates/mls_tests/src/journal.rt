@@ -1,0 +1,28 @@
+//! Tests of journals: the lines of entries; the service over an outside in memory whose calls fail from some call on,
+//! which shows that the trait can be met, and over one whose journal is cut into files; marks, verified in pieces and
+//! made by a service.
+#[cfg(test)]
+mod entries;
+#[cfg(test)]
+mod files;
+#[cfg(test)]
+mod journals;
+mod keeper;
+#[cfg(test)]
+mod marked_service;
+#[cfg(test)]
+mod marks_verified;
+mod memory;
+#[cfg(test)]
+mod refusals;
+#[cfg(test)]
+mod rows;
+#[cfg(test)]
+mod seen;
+mod shelf;
+#[cfg(test)]
+mod tests;
+
+pub use keeper::MemoryMarks;
+pub use memory::{Call, Memory};
+pub use shelf::Shelf;

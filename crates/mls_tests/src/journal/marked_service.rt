@@ -1,0 +1,210 @@
+//! A service over an outside in memory whose journal has marks.
+ghost use Rattle.std.specs.Prelude.{◌≡◌, ◌∷◌, [], ℕ, List, Some};
+ghost use Rattle.mls_durable.specs.History.{Found};
+ghost use Rattle.mls_tests.specs.Calls.{memory_history};
+
+use super::{Call, Memory, MemoryMarks};
+use mls_durable::{Asker, AttendFault, Options, Protocol, RecoverFault, ServiceFault, TornEnd};
+use mls_marks::{Chain, Digest, MarkFault, Served, Time, serve_marked};
+use mls_monitor::Monitor;
+use mls_start_file::standard_start;
+use std::alloc::{AllocError, Global};
+use std::process::Abort;
+
+/// A request and a check.
+const SCRIPT: &[u8] = b"ann get-read plans\nann check read plans\n";
+
+/// The line of the request's entry.
+const LINE: &[u8] = b"0 0 0 get-read 1 yes\n";
+
+/// The line of its mark. The digest is that of Python's hashlib.
+const MARK: &[u8] =
+    b"0 2026-11-27T11:12:26.736512Z 899c2cfb011b90cd5b0eec4174e340189117785e03f8995f0cbe33892662f344\n";
+
+/// A service over a file in memory, with the marks that are there.
+#[derive(Clone, Copy)]
+struct Setting<'a> {
+    found: &'a [u8],
+    chain: Chain,
+    script: &'a [u8],
+    /// How many marks are added before each fails.
+    good: usize,
+}
+
+/// What a service leaves: its result, why a call was refused, a letter for each call, and the marks.
+#[derive(Clone, Copy)]
+struct Wanted<'a> {
+    outcome: Result<(), ServiceFault>,
+    fault: Option<MarkFault>,
+    calls: &'a [u8],
+    marks: &'a [u8],
+}
+
+/// A letter for a call.
+fn letter(call: &Call) -> u8 {
+    match call {
+        Call::Appended(_) => b'A',
+        Call::Synced => b'S',
+        Call::Told(_) => b'T',
+        _ => b'?',
+    }
+}
+
+/// The letters of calls.
+fn letters(alloc: Global, calls: &[Call]) -> Result<Vec<u8>, AllocError> {
+    let mut text = Vec::new(alloc);
+    for call in calls {
+        text.push(letter(call))?;
+    }
+    Ok(text)
+}
+
+/// Runs a service over an outside whose file was just opened.
+fn run(
+    alloc: Global,
+    setting: &Setting<'_>,
+    outside: Memory,
+    keeper: MemoryMarks,
+) -> Result<Served<Memory, MemoryMarks>, AllocError>
+    requires { (bytes : List ℕ) × (memory_history outside ≡ Some (Found bytes ∷ [])) }
+{
+    let Ok(loaded) = standard_start(alloc) else {
+        return Err(AllocError);
+    };
+    let (names, start) = loaded.into_parts();
+    let Ok(monitor) = Monitor::open(alloc, start) else {
+        return Err(AllocError);
+    };
+    let mut reader = setting.script;
+    let options = Options {
+        protocol: Protocol {
+            asker: Asker::Session(0),
+            numbers: false,
+            segment: None,
+        },
+        names: false,
+        torn: TornEnd::Refuse,
+    };
+    let served = serve_marked(
+        alloc,
+        &names,
+        options,
+        monitor,
+        &mut reader,
+        outside,
+        keeper,
+        setting.chain,
+    );
+    drop(names);
+    Ok(served)
+}
+
+/// Asserts what a service leaves.
+fn assert_served(
+    rt: &impl Abort,
+    alloc: Global,
+    served: &Served<Memory, MemoryMarks>,
+    wanted: &Wanted<'_>,
+) {
+    assert_eq!(rt; served.outcome, wanted.outcome);
+    assert_eq!(rt; served.fault, wanted.fault);
+    assert_eq!(rt; served.keeper.lines.as_slice(), wanted.marks);
+    match letters(alloc, served.outside.calls()) {
+        Ok(text) => assert_eq!(rt; text.as_slice(), wanted.calls),
+        Err(_) => panic!(rt; "out of memory"),
+    }
+}
+
+/// Asserts what a service leaves over a setting.
+fn assert_leaves(rt: &impl Abort, alloc: Global, setting: &Setting<'_>, wanted: &Wanted<'_>) {
+    let Some(time) = Time::read(b"2026-11-27T11:12:26.736512Z") else {
+        panic!(rt; "a time");
+    };
+    match Vec::from_slice(alloc, setting.found) {
+        Ok(found) => {
+            let outside = Memory::new(alloc, found, 100);
+            let keeper = MemoryMarks {
+                lines: Vec::new(alloc),
+                time,
+                good: setting.good,
+            };
+            match run(alloc, setting, outside, keeper) {
+                Ok(served) => assert_served(rt, alloc, &served, wanted),
+                Err(_) => panic!(rt; "out of memory"),
+            }
+        }
+        Err(_) => panic!(rt; "out of memory"),
+    }
+}
+
+#[test]
+fn a_batch_has_its_mark(rt: HostRuntime) {
+    let setting = Setting {
+        found: b"",
+        chain: Chain::begin(Digest::zeros()),
+        script: SCRIPT,
+        good: 100,
+    };
+    let wanted = Wanted {
+        outcome: Ok(()),
+        fault: None,
+        calls: b"TAST",
+        marks: MARK,
+    };
+    assert_leaves(&rt, rt.alloc(), &setting, &wanted);
+}
+
+#[test]
+fn what_was_found_without_a_mark_gets_one(rt: HostRuntime) {
+    let setting = Setting {
+        found: LINE,
+        chain: Chain::begin(Digest::zeros()),
+        script: b"ann check read plans\n",
+        good: 100,
+    };
+    let wanted = Wanted {
+        outcome: Ok(()),
+        fault: None,
+        calls: b"TT",
+        marks: MARK,
+    };
+    assert_leaves(&rt, rt.alloc(), &setting, &wanted);
+}
+
+#[test]
+fn without_its_mark_no_entry_is_answered(rt: HostRuntime) {
+    let setting = Setting {
+        found: b"",
+        chain: Chain::begin(Digest::zeros()),
+        script: SCRIPT,
+        good: 0,
+    };
+    let wanted = Wanted {
+        outcome: Err(ServiceFault::Attend(AttendFault::Write)),
+        fault: None,
+        calls: b"TAS",
+        marks: b"",
+    };
+    assert_leaves(&rt, rt.alloc(), &setting, &wanted);
+}
+
+#[test]
+fn a_journal_that_lacks_marked_entries_is_refused(rt: HostRuntime) {
+    let setting = Setting {
+        found: LINE,
+        chain: Chain {
+            digest: Digest::zeros(),
+            entries: 2,
+            len: 42,
+        },
+        script: SCRIPT,
+        good: 100,
+    };
+    let wanted = Wanted {
+        outcome: Err(ServiceFault::Recover(RecoverFault::Memory)),
+        fault: Some(MarkFault::Differs { entry: 1 }),
+        calls: b"",
+        marks: b"",
+    };
+    assert_leaves(&rt, rt.alloc(), &setting, &wanted);
+}

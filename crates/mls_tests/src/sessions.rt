@@ -1,0 +1,9 @@
+//! Sessions that need nothing private of their crate: offices, and runs of feeds in threads.
+mod asker;
+mod feeds;
+mod many;
+mod offices;
+mod pair;
+mod runs;
+mod single;
+mod standard;

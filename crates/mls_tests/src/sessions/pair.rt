@@ -1,0 +1,107 @@
+//! Two sessions of one office.
+ghost use Rattle.mls_sessions.specs.Sessions.{IsOf, Ascending};
+
+use super::standard::{ANN, BOB, PLANS, get, level, release};
+use mls_requests::{Reply, Request};
+use mls_sessions::{Office, Session};
+use mls_tables::Mode;
+use std::process::Abort;
+use std::sync::Wait;
+
+/// What two sessions do.
+#[derive(Clone, Copy)]
+pub enum Deeds {
+    AskAndMeet,
+    GiveUpAndOn,
+}
+
+/// Whether a session is granted what it asks for, by entry `number` of session `made_by`.
+fn is_granted<R: Wait>(
+    rt: &R,
+    office: &Office,
+    session: &mut Session,
+    request: Request,
+    number: u64,
+    made_by: u32,
+) -> bool
+    requires { IsOf office.now session.old }
+    ensures { IsOf office.now session.new }
+{
+    match session.submit(office, rt, request) {
+        Ok(entry) => {
+            entry.number == number && entry.session == made_by && entry.reply == Reply::Yes
+        }
+        Err(_) => false,
+    }
+}
+
+/// Whether a session has seen so many entries, and made so many.
+fn knows(session: &Session, seen: u64, made: u64) -> bool {
+    session.seen() == seen && session.made() == made
+}
+
+/// The first session gets read access and knows of it, the second changes its level. Then they meet.
+fn ask_and_meet<R: Wait + Abort>(rt: &R, office: &Office, first: &mut Session, second: &mut Session)
+    requires { IsOf office.now first.old × IsOf office.now second.old }
+{
+    assert!(rt; is_granted(rt, office, first, get(ANN, Mode::Read, PLANS), 0, 0));
+    assert!(rt; first.check(office, rt, ANN, PLANS, Mode::Read));
+    assert!(rt; is_granted(rt, office, second, level(BOB, 1), 1, 1));
+    assert!(rt; knows(first, 1, 1) && knows(second, 2, 1));
+    first.meet(second, office);
+    assert!(rt; knows(first, 2, 1) && knows(second, 2, 1));
+}
+
+/// What the second session gives up the first no longer has, and what it is given the first knows of, though they never
+/// met.
+fn give_up_and_on<R: Wait + Abort>(
+    rt: &R,
+    office: &Office,
+    first: &mut Session,
+    second: &mut Session,
+)
+    requires { IsOf office.now first.old × IsOf office.now second.old }
+{
+    assert!(rt; is_granted(rt, office, first, get(ANN, Mode::Read, PLANS), 0, 0));
+    assert!(rt; is_granted(rt, office, second, release(ANN, Mode::Read, PLANS), 1, 1));
+    assert!(rt; !first.check(office, rt, ANN, PLANS, Mode::Read) && knows(first, 2, 1));
+    assert!(rt; is_granted(rt, office, second, get(ANN, Mode::Read, PLANS), 2, 1));
+    assert!(rt; first.check(office, rt, ANN, PLANS, Mode::Read));
+    assert!(rt; knows(first, 3, 1) && knows(second, 3, 2));
+}
+
+/// Has the two sessions do that.
+fn meet_over<R: Wait + Abort>(
+    rt: &R,
+    office: &Office,
+    mut first: Session,
+    second: &mut Session,
+    deeds: Deeds,
+)
+    requires { IsOf office.now first × IsOf office.now second.old }
+{
+    assert!(rt; first.number() == 0 && second.number() == 1);
+    match deeds {
+        Deeds::AskAndMeet => ask_and_meet(rt, office, &mut first, second),
+        Deeds::GiveUpAndOn => give_up_and_on(rt, office, &mut first, second),
+    }
+    drop(first);
+}
+
+/// Has the two sessions of an office do that.
+#[tactic(auto, using(crate::proofs::Lists::ascending_last))]
+pub fn over_two<R: Wait + Abort>(rt: &R, office: Office, mut sessions: Vec<Session>, deeds: Deeds)
+    requires { Ascending office 0 sessions.items }
+{
+    assert!(rt; office.base() == 0);
+    let Some(mut second) = sessions.pop() else {
+        panic!(rt; "two sessions")
+    };
+    let Some(first) = sessions.pop() else {
+        panic!(rt; "two sessions")
+    };
+    drop(sessions);
+    meet_over(rt, &office, first, &mut second, deeds);
+    drop(second);
+    drop(office);
+}

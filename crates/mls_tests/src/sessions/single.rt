@@ -1,0 +1,95 @@
+//! One session of an office, and offices of no session and of too many.
+ghost use Rattle.mls_sessions.specs.Sessions.{IsOf, Ascending};
+
+use super::standard::{ANN, PLANS, get};
+use crate::standard::standard_monitor;
+use mls_monitor::Monitor;
+use mls_requests::Reply;
+use mls_sessions::{MAX_SESSIONS, Office, OfficeFaultKind, Session};
+use mls_tables::Mode;
+use std::alloc::Global;
+use std::process::Abort;
+
+/// Whether so many sessions are refused, with an empty journal handed back.
+fn is_bad_count(alloc: Global, monitor: Monitor, n: u16) -> bool {
+    match Office::open(alloc, monitor, n) {
+        Ok(opened) => {
+            drop(opened);
+            false
+        }
+        Err(fault) => {
+            let is_bad = fault.kind == OfficeFaultKind::BadCount;
+            let is_empty = fault.monitor.entries().is_empty();
+            drop(fault);
+            is_bad && is_empty
+        }
+    }
+}
+
+#[test]
+fn an_office_has_one_to_sixty_four_sessions(rt: HostRuntime) {
+    for n in [0, MAX_SESSIONS + 1, 65535] {
+        match standard_monitor(rt.alloc()) {
+            Ok(monitor) => assert!(rt; is_bad_count(rt.alloc(), monitor, n)),
+            Err(_) => panic!(rt; "out of memory"),
+        }
+    }
+}
+
+/// Whether a session is told that the access is held in this mode, where it is told: nobody else asks beside.
+fn held(office: &Office, session: &mut Session, mode: Mode) -> Option<bool>
+    requires { IsOf office.now session.old }
+    ensures { IsOf office.now session.new }
+{
+    match session.try_check(office, ANN, PLANS, mode) {
+        Ok(held) => Some(held),
+        Err(_) => None,
+    }
+}
+
+/// Asks for read access, which nobody else does beside: whether that made entry `number` of session 0, and was granted.
+fn is_granted(office: &Office, session: &mut Session, number: u64) -> bool
+    requires { IsOf office.now session.old }
+    ensures { IsOf office.now session.new }
+{
+    match session.try_submit(office, get(ANN, Mode::Read, PLANS)) {
+        Ok(entry) => entry.number == number && entry.session == 0 && entry.reply == Reply::Yes,
+        Err(_) => false,
+    }
+}
+
+/// What a journal comes to that an office is opened over.
+#[derive(Clone, Copy)]
+pub struct Before {
+    pub entries: u64,
+    /// Whether ann reads the plans.
+    pub is_held: bool,
+}
+
+/// The only session tries, and is answered: over a journal, which it has seen and goes on with.
+fn tries(rt: &impl Abort, office: &Office, session: &mut Session, before: Before)
+    requires { IsOf office.now session.old }
+{
+    let base = before.entries;
+    assert!(rt; (session.seen(), session.made()) == (base, 0));
+    assert!(rt; held(office, session, Mode::Read) == Some(before.is_held));
+    assert!(rt; is_granted(office, session, base));
+    assert!(rt; held(office, session, Mode::Read) == Some(true));
+    assert!(rt; held(office, session, Mode::Write) == Some(false));
+    assert!(rt; (session.seen(), session.made()) == (base.wrapping_add(1), 1));
+}
+
+/// The only session of an office tries.
+#[tactic(auto, using(crate::proofs::Lists::ascending_last))]
+pub fn over_one(rt: &impl Abort, office: Office, mut sessions: Vec<Session>, before: Before)
+    requires { Ascending office 0 sessions.items }
+{
+    assert!(rt; office.base() == before.entries);
+    let Some(mut only) = sessions.pop() else {
+        panic!(rt; "one session")
+    };
+    tries(rt, &office, &mut only, before);
+    drop(only);
+    drop(sessions);
+    drop(office);
+}

@@ -1,5 +1,0 @@
-use Rattle.mls_labels.proofs.Laws.{labels_same}
-use Rattle.mls_tests_base.proofs.labels.is_same.Goals as goal
-
-pub returns : goal.returns
-returns c = rw c.eq.ensures (labels_same c.args.a c.args.b)

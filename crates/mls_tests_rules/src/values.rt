@@ -1,0 +1,10 @@
+//! Tests of labels, tables and the tree, each mostly a table of steps.
+mod beside;
+mod labels;
+mod lists;
+mod matrices;
+mod orders;
+mod schemes;
+mod seen;
+mod sets;
+mod trees;
