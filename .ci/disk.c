@@ -1,12 +1,13 @@
 /*
  * Stands between a program and the system's calls on its files, by LD_PRELOAD. Counted are the calls of write, fsync,
- * fdatasync and ftruncate, in their order, but for writes to standard output and standard error. By the environment:
+ * fdatasync, ftruncate, rename and link, in their order, but for writes to standard output and standard error. Of a rename
+ * and of a link the file is the one that has the new name. By the environment:
  *
  *   DISK_FAIL=N    the Nth of them fails, with the errno of DISK_ERRNO; where it is a write, the first DISK_FRONT bytes are
  *                  in the file all the same
  *   DISK_KILL=N    before the Nth of them the program is killed
  *   DISK_OF=FILE, DISK_CALL=CALL    no calls are counted but those on FILE (the last part of its name), and of CALL alone:
- *                  `write`, `sync` or `cut`. A program with threads makes its calls in no order, but on each file in one.
+ *                  `write`, `sync`, `cut`, `rename` or `link`. A program with threads makes its calls in no order, but on each file in one.
  *   DISK_REFUSE=CALL    each `flock` (of DISK_OF, where that is given), or each `read` of DISK_JOURNAL, fails with the errno
  *                  of DISK_ERRNO
  *   DISK_PIECE=K   no write to a file takes more than K bytes
@@ -39,6 +40,8 @@ static int (*true_flock)(int, int);
 static int (*true_fsync)(int);
 static int (*true_fdatasync)(int);
 static int (*true_ftruncate)(int, off_t);
+static int (*true_rename)(const char *, const char *);
+static int (*true_link)(const char *, const char *);
 static int (*true_clock)(clockid_t, struct timespec *);
 static long counted;
 
@@ -49,6 +52,8 @@ __attribute__((constructor)) static void find(void) {
     *(void **)&true_fsync = dlsym(RTLD_NEXT, "fsync");
     *(void **)&true_fdatasync = dlsym(RTLD_NEXT, "fdatasync");
     *(void **)&true_ftruncate = dlsym(RTLD_NEXT, "ftruncate");
+    *(void **)&true_rename = dlsym(RTLD_NEXT, "rename");
+    *(void **)&true_link = dlsym(RTLD_NEXT, "link");
     *(void **)&true_clock = dlsym(RTLD_NEXT, "clock_gettime");
 }
 
@@ -72,41 +77,55 @@ static long size_of(int fd) {
     return fstat(fd, &found) ? -1 : (long)found.st_size;
 }
 
-static void note(const char *asked, int fd, long bytes, int is_done) {
-    char name[4096], line[4200];
-    const char *notes = getenv("DISK_NOTES"), *last;
+static void note_name(const char *asked, const char *name, long bytes, int is_done) {
+    char line[4200];
+    const char *notes = getenv("DISK_NOTES"), *last = strrchr(name, '/');
     int error = errno, to, count;
     if (!notes) return;
-    name_of(fd, name, sizeof name);
-    last = strrchr(name, '/');
-    count = snprintf(line, sizeof line, "%s %s %ld %s\n", asked, fd == 1 ? "out" : last ? last + 1 : name, bytes,
-                     is_done ? "ok" : "failed");
+    count = snprintf(line, sizeof line, "%s %s %ld %s\n", asked, last ? last + 1 : name, bytes, is_done ? "ok" : "failed");
     to = open(notes, O_WRONLY | O_APPEND | O_CREAT, 0600);
     if (to < 0 || true_write(to, line, count) != count) abort();
     close(to);
     errno = error;
 }
 
+static void note(const char *asked, int fd, long bytes, int is_done) {
+    char name[4096];
+    name_of(fd, name, sizeof name);
+    note_name(asked, fd == 1 ? "out" : name, bytes, is_done);
+}
+
+/* Whether a name is the one of DISK_OF, or none is given. */
+static int is_name_of(const char *name) {
+    const char *of = getenv("DISK_OF"), *last = strrchr(name, '/');
+    return !of || (last && !strcmp(last + 1, of));
+}
+
 /* Whether an open file is the one of DISK_OF, or none is given. */
 static int is_of(int fd) {
     char name[4096];
-    const char *of = getenv("DISK_OF"), *last;
-    if (!of) return 1;
     name_of(fd, name, sizeof name);
-    last = strrchr(name, '/');
-    return last && !strcmp(last + 1, of);
+    return is_name_of(name);
 }
 
-/* Counts one call more, where it is one that is counted. Says whether it is the one that is to fail. */
-static int is_failing(const char *call, int fd) {
+/* Counts one call more on a file of this name, where it is one that is counted. Says whether it is the one that is to
+ * fail. */
+static int is_failing_on(const char *call, const char *name) {
     const char *only = getenv("DISK_CALL");
     long place;
-    if ((only && strcmp(only, call)) || !is_of(fd)) return 0;
+    if ((only && strcmp(only, call)) || !is_name_of(name)) return 0;
     place = __atomic_add_fetch(&counted, 1, __ATOMIC_SEQ_CST);
     if (place == number("DISK_KILL")) kill(getpid(), SIGKILL);
     if (place != number("DISK_FAIL")) return 0;
     errno = (int)number("DISK_ERRNO");
     return 1;
+}
+
+/* The same of an open file. */
+static int is_failing(const char *call, int fd) {
+    char name[4096];
+    name_of(fd, name, sizeof name);
+    return is_failing_on(call, name);
 }
 
 /* Whether an open file has the name that the environment has by this one. */
@@ -134,7 +153,7 @@ static void copy(int fd, const char *by) {
         if (true_write(to, piece, count) != count) abort();
     close(from);
     close(to);
-    if (rename(new, copy)) abort();
+    if (true_rename(new, copy)) abort();
     errno = error;
 }
 
@@ -214,3 +233,15 @@ int ftruncate(int fd, off_t length) {
 }
 
 int ftruncate64(int fd, off_t length) { return ftruncate(fd, length); }
+
+int rename(const char *from, const char *to) {
+    int failed = is_failing_on("rename", to) || true_rename(from, to);
+    note_name("rename", to, 0, !failed);
+    return failed ? -1 : 0;
+}
+
+int link(const char *from, const char *to) {
+    int failed = is_failing_on("link", to) || true_link(from, to);
+    note_name("link", to, 0, !failed);
+    return failed ? -1 : 0;
+}

@@ -11,6 +11,14 @@ from serving import LINES, REQUESTS, Due, Serving, content, is_refused, mode_of,
 TOOL = f"{TOP}/bin/ship-journal"
 
 
+def is_content(name, wanted):
+    """Whether a file is there, which is renamed now and then, and has these bytes."""
+    try:
+        return content(name) == wanted
+    except FileNotFoundError:
+        return False
+
+
 class Shipping:
     """The tool, in a loop as SERVICE.md has it."""
 
@@ -32,7 +40,7 @@ class Shipping:
     def until(self, copy, wanted):
         """Waits until the copy has these bytes, and the tool has said so."""
         ends, line = time.monotonic() + SECONDS, b"entries %d\n" % wanted.count(b"\n")
-        while not (os.path.exists(copy) and content(copy) == wanted and content(self.said_in).endswith(line)):
+        while not (is_content(copy, wanted) and content(self.said_in).endswith(line)):
             assert time.monotonic() < ends, "it isn't shipped"
             time.sleep(0.02)
 
