@@ -13,6 +13,8 @@ RUNS = int(os.environ.get("SEGMENTS_RUNS", "3"))
 BYTES = "1048576"
 # More entries than this need more bytes than one file of a journal may have.
 MOST_IN_ONE_FILE = 3_000_000
+# How many lines are made at once.
+PIECE = 10_000
 # Gets, releases and denials: each has an entry, and no answer depends on what was asked before.
 LINES = [b"ann get-read plans\n", b"ann release read plans\n", b"bob get-read memo\n", b"bob get-execute tool\n", b"sec get-write root\n"]
 
@@ -64,15 +66,18 @@ def question_words(question):
     return [START, path("cut")] if question == "state" else ["--journal", path("cut"), START]
 
 
-def put_lines(name, lines):
+def put_lines(name, count):
+    """Writes so many lines by chance, the same each time. (They are few at once: a program that is started counts this one's memory as its
+    own at first.)"""
+    chance = random.Random(1)
     with open(path(name), "wb") as file:
-        file.writelines(lines)
+        for _ in range(count // PIECE):
+            file.write(b"".join(chance.choices(LINES, k=PIECE)))
 
 
 def main():
-    lines = random.Random(1).choices(LINES, k=REQUESTS)
-    few = lines[:MOST_IN_ONE_FILE]
-    put_lines("lines", lines)
+    few = min(REQUESTS, MOST_IN_ONE_FILE)
+    put_lines("lines", REQUESTS)
     put_lines("few", few)
     plain = ["serve", "--journal", path("plain"), START]
     cut = ["serve", "--segment", BYTES, "--journal", path("cut"), START]
@@ -85,15 +90,15 @@ def main():
         seconds, _, memory = run(cut, path("lines"))
         times["with"].append(seconds)
         most = max(most, memory)
-    without, within = min(times["without"]) / len(few), min(times["with"]) / REQUESTS
+    without, within = min(times["without"]) / few, min(times["with"]) / REQUESTS
     print(f"{REQUESTS} requests, {len(glob.glob(path('cut.0*')))} closed segments; the least of {RUNS} runs:")
-    print(f"  a line: {without * 1e9:.0f} ns over {len(few)} without --segment, with it {within * 1e9:.0f} ns, {within / without:.3f}")
+    print(f"  a line: {without * 1e9:.0f} ns over {few} without --segment, with it {within * 1e9:.0f} ns, {within / without:.3f}")
     print(f"  the most memory: {most} KiB")
     print(f"  the first answer of a start: {min(first_answer(cut) for _ in range(RUNS)) * 1000:.0f} ms")
-    replay, _, memory = min(run(["replay", START, path("cut")]) for _ in range(RUNS))
-    whole = min(run([*cut[:3], "--from-start", *cut[3:]])[0] for _ in range(RUNS))
-    print(f"  mls replay: {replay:.2f} s, {memory} KiB; --from-start: {whole:.2f} s, {whole / replay:.2f}")
-    for question in ("state", "explain"):
+    replay = min(run(["replay", START, path("plain")])[0] for _ in range(RUNS)) / few
+    whole = min(run([*cut[:3], "--from-start", *cut[3:]])[0] for _ in range(RUNS)) / REQUESTS
+    print(f"  an entry: mls replay of one file {replay * 1e9:.0f} ns, --from-start {whole * 1e9:.0f} ns, {whole / replay:.2f}")
+    for question in ("state", "explain") if REQUESTS <= MOST_IN_ONE_FILE else ():
         seconds, memory = slowest(question)
         print(f"  {question} --at, the slowest of some: {seconds * 1000:.0f} ms, {memory} KiB")
 
