@@ -300,6 +300,7 @@ def run_over_a_disk(**words):
 CALLS = {"write": "append", "sync": "sync", "rename": "rename", "link": "link"}
 
 
+@needs_proof
 def step_that_fails():
     """Each write, sync, rename and link of a run fails in turn: it is told, nothing is answered that isn't in the files, and the next service
     goes on. The sync of the state comes before its renaming, that of the folder before the link, and all of them before the new file is
@@ -368,6 +369,7 @@ def kills_between_segments():
     assert many > KILLS // 4, f"only {many} were killed after an answer"
 
 
+@needs_proof
 def kill_before_each_step():
     """A kill before each call on a file, in turn, loses nothing that was answered."""
     _, _, _, _, _, calls = run_over_a_disk()
