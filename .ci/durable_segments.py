@@ -7,7 +7,7 @@ import subprocess
 import threading
 from errno import EIO, ENOSPC
 
-from outside import SECONDS, in_its_folder, needs_proof, put, ran_program, same, shown
+from outside import IS_PROVED, SECONDS, in_its_folder, needs_proof, put, ran_program, same, shown, some
 from segments import joined, numbered, remove, segment, state
 from serving import LINES, STANDARD, Due, Serving, content, failed, is_kept, is_refused, mode_of, ready, served, shim, status_of, words_of
 
@@ -29,7 +29,7 @@ def asked(journal, due, *flags):
     return error
 
 
-def filled(journal, count=1_500):
+def filled(journal, count=1_500 if IS_PROVED else 1_100):
     """A journal in segments, anew, of so many lines; returns what is due."""
     remove(journal)
     due = drawn(count)
@@ -56,11 +56,13 @@ def is_cut_well(journal, whole):
 
 
 def journal_that_is_cut():
-    """The files together are what a service without segments has, each file is within its bytes, and each state is that of its entry."""
+    """The files together are what a service without segments has, each file is within its bytes, and was closed where the longest line might
+    have no room; and each state is that of its entry."""
     due = filled("c")
     is_cut_well("c", due.journal)
     closed, states = numbered("c"), numbered("c", "state.")
     assert len(closed) > 5 and closed[0] == 0, closed
+    assert all(SEGMENT - 2_265 < len(content(segment("c", number))) for number in closed), closed
     assert states[:-1] == closed[1:] and states[-1] == due.next - content("c").count(b"\n"), (closed, states)
     same(sorted(name for name in os.listdir(".") if name.endswith(".new")), [])
 
@@ -91,7 +93,7 @@ def readers_of_segments():
     marks = put("no.marks", b"")
     questions = [
         ["replay", STANDARD, "J"], ["journal", "--summary", STANDARD, "J"], ["journal", "--reply", "no", STANDARD, "J"],
-        ["state", STANDARD, "J"], ["state", "--at", "700", STANDARD, "J"], ["held", STANDARD, "J"], ["usage", STANDARD, "J"],
+        ["state", STANDARD, "J"], ["state", "--at", "500", STANDARD, "J"], ["held", STANDARD, "J"], ["usage", STANDARD, "J"],
         ["explain", "--journal", "J", "--at", "2", STANDARD], ["compare", STANDARD, STANDARD, "J"], ["verify", STANDARD, "J", marks],
     ]
     for words in questions:
@@ -109,24 +111,32 @@ def service_without_segments():
 
 
 def other_start():
-    """Another start, by one byte, is refused."""
+    """Another start, by one byte, is refused, and any where the copy that was kept isn't there."""
     filled("s")
     put("other.json", content(STANDARD) + b"\n")
     is_refused(b"other.json: differs from s.start", "s", *CUT, status=3, start="other.json")
+    os.remove("s.start")
+    is_refused(b"s.start: file", "s", *CUT)
 
 
 def segments_elsewhere():
     """Segments before the last state may be moved away: a service goes on, and --from-start, replay and journal are refused."""
     due = filled("m")
-    last = numbered("m", "state.")[-1]
-    for number in numbered("m"):
+    closed, last = numbered("m"), numbered("m", "state.")[-1]
+
+    def lacks_its_first_entries(first):
+        told = lambda name: (3, b"", b"mls: %s: replay 1 Number at 0\n" % name.encode())
+        same(served(b"", "m", *CUT), (0, ready(due.next), b""))
+        same(served(b"", "m", *CUT, "--from-start"), told(first))
+        for words in (["replay", STANDARD, "m"], ["journal", STANDARD, "m"]):
+            same((words, ran_program(words)), (words, told("m")))
+
+    os.remove(segment("m", closed[0]))
+    lacks_its_first_entries(segment("m", closed[1]))
+    for number in closed[1:]:
         if number < last:
             os.remove(segment("m", number))
-    same(served(b"", "m", *CUT), (0, ready(due.next), b""))
-    status, output, error = served(b"", "m", *CUT, "--from-start")
-    same((status, output), (3, b""))
-    assert b"replay" in error, error
-    same(ran_program(["replay", STANDARD, "m"])[0], 3)
+    lacks_its_first_entries("m")
 
 
 def segment_that_is_missing():
@@ -208,9 +218,88 @@ def file_that_is_empty():
     for number in closed[:-1]:
         os.remove(segment("i", number))
     same(served(b"", "i", *CUT), (0, ready(last), b""))
-    same(served(b"", "i", *CUT, "--from-start"), refused)
+    for words in (served(b"", "i", *CUT, "--from-start"), ran_program(["replay", STANDARD, "i"])):
+        same(words, refused)
     put("i", held)
     same(served(b"", "i", *CUT), (0, ready(due.next), b""))
+
+
+def is_behind(journal, number, *flags, before=b""):
+    """A service tells that this state is behind the last entry, behind what it told before, and answers nothing."""
+    told = before + b"mls: " + state(journal, number).encode() + b": behind the last entry\n"
+    asked = b"ann get-read plans\n"
+    same((number, flags, served(asked, journal, *CUT, *flags)), (number, flags, (3, b"", told)))
+
+
+def is_left_behind(journal, number, *flags):
+    """The same of a plain service and of --from-start, which leave all as it was, and of replay."""
+    before = {name: content(name) for name in os.listdir(".")}
+    for more in ((), ("--from-start",), ("--recover",)):
+        is_behind(journal, number, *flags, *more)
+    told = b"mls: " + state(journal, number).encode() + b": behind the last entry\n"
+    same(ran_program(["replay", STANDARD, journal]), (3, b"", told))
+    same({name: content(name) for name in os.listdir(".")}, before)
+
+
+def state_behind_the_entries():
+    """Where the live file has entries, too, a state behind the last of them is refused by a service and by replay. One before the entry that
+    is next is what a crash leaves."""
+    due = filled("v", 1_050)
+    held, first, last = content("v"), numbered("v", "state.")[-1], due.next
+    put("whole", due.journal)
+    put(state("v", last), ran_program(["state", STANDARD, "whole"])[1])
+    for flags in ((), ("--from-start",), ("--recover", "--cut-damage")):
+        same(served(b"", "v", *CUT, *flags), (0, ready(last), b""))
+    same(ran_program(["replay", STANDARD, "v"]), ran_program(["replay", STANDARD, "whole"]))
+    os.rename(state("v", last), state("v", last + 1))
+    is_left_behind("v", last + 1)
+    os.link("v", segment("v", first))
+    is_left_behind("v", last + 1)
+    os.remove(segment("v", first))
+    # an older copy of the live file, from before the state was named, and one of its first entry alone
+    os.rename(state("v", last + 1), state("v", last))
+    lines = held.splitlines(True)
+    assert len(lines) > 5, len(lines)
+    for count in (len(lines) - 1, 1):
+        put("v", b"".join(lines[:count]))
+        is_left_behind("v", last)
+    # what is refused before: a fault of the journal
+    put("v", b"".join(lines[:-1]).replace(b" yes\n", b" no star\n", 1))
+    for status, output, error in (served(b"", "v", *CUT), ran_program(["replay", STANDARD, "v"])):
+        same((status, output), (3, b""))
+        assert error.startswith(b"mls: v: replay "), error
+
+
+def state_behind_a_cut():
+    """A torn end, and damage, is cut off before; once the state is taken away the service goes on."""
+    due = filled("y", 1_050)
+    whole, lines, last = content("y"), content("y").splitlines(True), due.next
+    shutil.copy(state("y", numbered("y", "state.")[-1]), state("y", last))
+    torn = b"".join(lines[:-1]) + lines[-1][:-1]
+    damaged = b"".join([*lines[:3], b"damaged\n", *lines[4:]])
+    for text, count, flags in ((torn, len(lines) - 1, ("--recover",)), (damaged, 3, ("--recover", "--cut-damage"))):
+        for more in ((), ("--from-start",)):
+            put("y", text)
+            next_number = last - len(lines) + count
+            assert served(b"", "y", *CUT, *more)[:2] == (1, b"")
+            is_behind("y", last, *flags, *more, before=b"mls: y: cut after entry %d\n" % (next_number - 1))
+            same(content("y"), b"".join(lines[:count]))
+    is_left_behind("y", last)
+    os.remove(state("y", last))
+    same(served(b"", "y", *CUT, "--from-start"), (0, ready(next_number), b""))
+    put("y", whole)
+    same(served(b"", "y", *CUT, "--from-start"), (0, ready(last), b""))
+
+
+def state_behind_the_marks():
+    """The same with --marks."""
+    flags, due = ("--marks", "m"), drawn(700)
+    same(asked("u", due, *flags), b"")
+    text = content(state("u", numbered("u", "state.")[-1]))
+    put(state("u", due.next + 1), text)
+    is_left_behind("u", due.next + 1, *flags)
+    os.remove(state("u", due.next + 1))
+    same(asked("u", drawn(50, due.next), *flags), b"")
 
 
 def file_whose_first_line_is_damaged():
@@ -276,7 +365,7 @@ def moments_between_the_steps():
         os.rename("x.new", "x")
 
     assert live
-    for prepare in (lambda _: None, beside, named, linked, made, begun):
+    for prepare in some((lambda _: None, beside, named, linked, made, begun), 2):
         again(prepare)
 
 
@@ -380,8 +469,8 @@ def kill_before_each_step():
 
 
 def bytes_of_a_segment():
-    """From 4,096 to 268,435,456 bytes; and --marks beside --segment, or --from-start without it, isn't understood."""
-    for words in (("--segment", "4095"), ("--segment", "268435457"), ("--segment", "x"), ("--from-start",), (*CUT, "--marks", "b.marks")):
+    """From 4,096 to 268,435,456 bytes; and --from-start without --segment isn't understood."""
+    for words in (("--segment", "4095"), ("--segment", "268435457"), ("--segment", "x"), ("--from-start",)):
         status, output, _ = served(b"", "b", *words)
         same((words, status, output, os.path.exists("b")), (words, 2, b"", False))
 
@@ -399,6 +488,9 @@ CHECKS = [*map(in_its_folder, [
     state_that_is_forged,
     file_that_is_missing,
     file_that_is_empty,
+    state_behind_the_entries,
+    state_behind_a_cut,
+    state_behind_the_marks,
     file_whose_first_line_is_damaged,
     folder_with_other_names,
     moments_between_the_steps,

@@ -3,7 +3,9 @@ mod over_files;
 mod run_journal;
 mod scripts;
 mod serving;
+mod verified_text;
 mod verifying;
+mod verifying_segments;
 
 pub use over_files::{check, replay};
 pub use run_journal::{RunJournal, open_run_journal};

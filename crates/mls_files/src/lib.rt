@@ -11,10 +11,15 @@ mod telling;
 
 pub use call_fault::{CallFault, FileCall, of_call};
 pub use inputs::{journal_file, judge_start, load_start, start_file};
-pub use marks::{MarksFault, MarksInput, marks_refused, read_marks, take_pieces, tell_mark};
+pub use marks::{
+    MarksFault, MarksInput, MarksJudge, first_line, marks_refused, read_marks, take_pieces,
+    tell_mark,
+};
 pub use opening::{OpenFault, PRIVATE, is_named, open_locked, sync_folder};
 pub use segments::{
-    Lines, Listing, compare_state, compare_states, is_last, list_beside, list_files, other_path,
-    read_journal, real_path, segment_path, state_path,
+    Goal, KeptFault, Lines, Listing, Seen, Wanted, compare_state, count_judged, find_behind,
+    first_number, go_on, is_last, kept_refused, last_number, list_beside, list_files, other_path,
+    probe_files, read_front, read_journal, real_path, refuse_behind, resume, see, segment_path,
+    segments_of, state_path, tell_behind,
 };
-pub use telling::{command_refused, fault_file, tell_call, tell_end};
+pub use telling::{command_refused, fault_file, tell_call, tell_differing, tell_end};

@@ -1,7 +1,8 @@
 //! The lines that tell why a command over files was refused, which call on a file has failed, and where a journal ends.
 use crate::call_fault::CallFault;
 use mls_replay::{CommandFault, status, write_fault};
-use mls_terminal::{NO_MEMORY, refused};
+use mls_terminal::{NO_MEMORY, Progress, refused};
+use std::fmt::Display;
 use std::io;
 use std::process::ExitCode;
 
@@ -13,6 +14,20 @@ pub fn command_refused(rt: &HostRuntime, file: &str, fault: &CommandFault) -> Ex
     }
     let _ = eprint!(rt; "{line}");
     ExitCode::from(status(*fault))
+}
+
+/// The status where a file is another than the one that is due.
+pub(crate) const DIFFERS: u8 = 3;
+
+/// Tells what is wrong with a file that another doesn't agree with.
+pub fn tell_differing(
+    progress: &mut Progress<'_>,
+    path: &str,
+    what: impl Display + Drop,
+) -> ExitCode {
+    progress.end();
+    let _ = eprintln!(progress.rt(); "mls: {path}: {what}");
+    ExitCode::from(DIFFERS)
 }
 
 /// The file that a fault is about.

@@ -76,12 +76,14 @@ fn number(words: &[String], place: usize) -> u64 {
 }
 
 /// Does the job that the words name: gate or mutex, then how many threads, turns each, and rounds of work between two
-/// turns. Prints how many entries that left.
+/// turns; for the gate also how many threads look beside them, and how often each. Prints how many entries that left.
 pub fn time_turns<R: Threads + Wait + Sync>(threads: &R, rt: &HostRuntime) -> io::Result<()> {
     let words = env::args(rt)?.collect::<Vec<String>>(rt.alloc())?;
     let job = Job {
         turns: number(&words, 3),
         rounds: number(&words, 4),
+        lookers: number(&words, 5),
+        looks: number(&words, 6),
     };
     let count = number(&words, 2);
     let is_gate = words.get(1).is_some_and(|word| word.as_str() == "gate");

@@ -9,11 +9,14 @@ use mls_tables::{Mode, ObjectId, SubjectId};
 use std::alloc::{AllocError, Global};
 use std::sync::{Mutex, Wait};
 
-/// How many turns a thread takes, and how many rounds it works between two.
+/// How many turns a thread takes, and how many rounds it works between two; how many threads look, which take so many
+/// looks.
 #[derive(Clone, Copy, Debug)]
 pub struct Job {
     pub turns: u64,
     pub rounds: u64,
+    pub lookers: u64,
+    pub looks: u64,
 }
 
 /// Works so many rounds, of some eight instructions each.
@@ -45,12 +48,18 @@ pub fn take_turns<R: Wait>(rt: &R, monitor: &Mutex<Monitor>, job: Job) {
     }
 }
 
-/// A feed that takes the turns of a job.
+/// What a look asks for.
+fn look(number: u64) -> Ask {
+    Ask::Check(SubjectId(0), ObjectId((number % 4) as u16), Mode::Read)
+}
+
+/// A feed that takes the turns of a job, or that looks.
 #[derive(Drop)]
 pub struct Turns {
     left: u64,
     rounds: u64,
     number: u64,
+    is_looking: bool,
     stage: Stage,
 }
 
@@ -62,6 +71,20 @@ impl Turns {
             left: job.turns,
             rounds: job.rounds,
             number: 1,
+            is_looking: false,
+            stage: Stage::Ready,
+        }
+    }
+
+    /// A feed that looks.
+    fn looker(job: Job) -> Turns
+        ensures { result.stage ≡ Stage.Ready }
+    {
+        Turns {
+            left: job.looks,
+            rounds: 0,
+            number: 1,
+            is_looking: true,
             stage: Stage::Ready,
         }
     }
@@ -88,6 +111,10 @@ impl Feed for Turns {
         self.left -= 1;
         self.number = work(self.number, self.rounds);
         self.stage = Stage::Waiting;
+        if self.is_looking {
+            self.number = self.number.wrapping_add(1);
+            return Some(look(self.number));
+        }
         Some(Ask::Submit(release(self.number)))
     }
 
@@ -98,7 +125,7 @@ impl Feed for Turns {
     fn stopped(&mut self) {}
 }
 
-/// A feed for each of so many threads.
+/// A feed for each of so many threads that take turns, and for each that looks.
 #[tactic(auto, using(crate::proofs::Lists::at_snoc))]
 pub fn make_feeds(alloc: Global, threads: u64, job: Job) -> Result<Vec<Turns>, AllocError>
     ensures { IfOk result (λ v. AllAt (λ f. f.stage) Stage.Ready v.items) }
@@ -106,6 +133,9 @@ pub fn make_feeds(alloc: Global, threads: u64, job: Job) -> Result<Vec<Turns>, A
     let mut all = Vec::new(alloc);
     for _ in 0..threads {
         all.push(Turns::new(job))?;
+    }
+    for _ in 0..job.lookers {
+        all.push(Turns::looker(job))?;
     }
     Ok(all)
 }

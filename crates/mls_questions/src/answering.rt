@@ -3,8 +3,9 @@ use crate::asking::{ask, explain, who};
 use crate::comparison::compare;
 use crate::empowering::powers;
 use crate::listing::{journal, state};
+use crate::segmented::answer_in_segments;
 use crate::snapshots::start_of_state;
-use crate::spans::{held, usage};
+use crate::spans::{held, usage, who_ever};
 use crate::starts::{lattice, lint};
 use mls_explain_text::{Sort, fault_line, word_line};
 use mls_files::{command_refused, fault_file};
@@ -117,9 +118,8 @@ pub(crate) fn ended(
     }
 }
 
-/// Answers a question about start files or journals on standard output. The status is 0 where the answer is a positive
-/// one, and 4 where it is a negative one.
-pub fn answer(progress: &mut Progress<'_>, question: &Question<'_>) -> ExitCode {
+/// Answers a question, of a journal over all that it holds.
+fn answer_whole(progress: &mut Progress<'_>, question: &Question<'_>) -> ExitCode {
     match question {
         Question::Ask { source, line } => ask(progress, source, line),
         Question::Explain { source, line } => explain(progress, source, *line),
@@ -128,6 +128,7 @@ pub fn answer(progress: &mut Progress<'_>, question: &Question<'_>) -> ExitCode 
             object,
             mode,
         } => who(progress, source, object, *mode),
+        Question::WhoEver(words) => who_ever(progress, words),
         Question::Powers {
             source,
             subject,
@@ -151,5 +152,14 @@ pub fn answer(progress: &mut Progress<'_>, question: &Question<'_>) -> ExitCode 
             second,
             journal,
         } => compare(progress, first, second, *journal),
+    }
+}
+
+/// Answers a question about start files or journals on standard output. The status is 0 where the answer is a positive
+/// one, and 4 where it is a negative one.
+pub fn answer(progress: &mut Progress<'_>, question: &Question<'_>) -> ExitCode {
+    match answer_in_segments(progress, question) {
+        Some(status) => status,
+        None => answer_whole(progress, question),
     }
 }

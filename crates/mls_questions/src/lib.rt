@@ -6,6 +6,8 @@ mod asking;
 mod comparison;
 mod empowering;
 mod listing;
+mod one_state;
+mod segmented;
 mod snapshots;
 mod sources;
 mod spans;

@@ -39,7 +39,7 @@ fn later(from: Option<u64>, since: Option<u64>) -> Option<u64> {
 }
 
 /// The lesser of two numbers of last entries, where they are asked for.
-fn earlier(to: Option<u64>, until: Option<u64>) -> Option<u64> {
+pub(crate) fn earlier(to: Option<u64>, until: Option<u64>) -> Option<u64> {
     match (to, until) {
         (Some(to), Some(until)) => Some(to.min(until)),
         (to, until) => to.or(until),

@@ -2,7 +2,12 @@
 use crate::answering::{Named, question_refused};
 use crate::sources::{Bytes, read_source};
 use mls_compare::{SnapshotFault, snapshot};
+use mls_lines::Names;
+use mls_replay::{CommandFault, QuestionFault, START_LIMIT};
+use mls_rules::State;
+use mls_snapshots::{StateStart, StateStartFault, start_of_state as start_in};
 use mls_terminal::{Progress, Source, print, refused};
+use std::alloc::Global;
 use std::process::ExitCode;
 
 /// Tells why there is no start file.
@@ -26,6 +31,45 @@ fn printed(rt: &HostRuntime, text: String) -> ExitCode {
     status
 }
 
+/// The start file that opens with a state.
+///
+/// # Errors
+/// `TooLong` where it has too many bytes, `Differs` where it doesn't open with the state, `Question` where an
+/// allocation failed.
+pub(crate) fn snapshot_in(
+    alloc: Global,
+    names: &Names,
+    state: &State,
+) -> Result<String, SnapshotFault> {
+    match start_in(alloc, names, state) {
+        Ok(StateStart { text, order }) => {
+            drop(order);
+            if text.len() > START_LIMIT {
+                return Err(SnapshotFault::TooLong);
+            }
+            Ok(text)
+        }
+        Err(StateStartFault::Memory) => Err(SnapshotFault::Question(QuestionFault::Files(
+            CommandFault::Memory,
+        ))),
+        Err(StateStartFault::Differs) => Err(SnapshotFault::Differs),
+    }
+}
+
+/// Ends the command over the bytes of a start file: prints the start file that was written, or tells why there is none.
+pub(crate) fn ended_start(
+    progress: &mut Progress<'_>,
+    named: Named<'_>,
+    start: &[u8],
+    done: Result<String, SnapshotFault>,
+) -> ExitCode {
+    progress.end();
+    match done {
+        Ok(text) => printed(progress.rt(), text),
+        Err(fault) => snapshot_refused(progress.rt(), named, start, fault),
+    }
+}
+
 /// Prints a start file that opens with the state that a journal leads to.
 pub(crate) fn start_of_state(progress: &mut Progress<'_>, source: &Source<'_>) -> ExitCode {
     let bytes = match read_source(progress, source) {
@@ -40,16 +84,9 @@ pub(crate) fn start_of_state(progress: &mut Progress<'_>, source: &Source<'_>) -
     } = &bytes;
     let journal = journal.as_deref().unwrap_or(b"".as_slice());
     progress.begin("writing");
-    let rt = progress.rt();
-    let done = snapshot(rt.alloc(), start, journal, *at);
-    progress.end();
-    let status = match done {
-        Ok(text) => printed(rt, text),
-        Err(fault) => {
-            let named = Named::files(source.start, source.journal.unwrap_or(""));
-            snapshot_refused(rt, named, start, fault)
-        }
-    };
+    let done = snapshot(progress.rt().alloc(), start, journal, *at);
+    let named = Named::files(source.start, source.journal.unwrap_or(""));
+    let status = ended_start(progress, named, start, done);
     drop(bytes);
     status
 }

@@ -1,8 +1,10 @@
 //! The commands that look at all states of a journal.
 use crate::answering::{Named, ended};
+use crate::listing::earlier;
 use crate::sources::{Bytes, read_source};
-use mls_spans::{list_held, list_usage};
-use mls_terminal::{HeldWords, Progress, Source, UsageWords};
+use mls_marks::{Marks, Time};
+use mls_spans::{States, list_ever, list_held, list_usage};
+use mls_terminal::{EverWords, HeldWords, Progress, Source, UsageWords};
 use std::process::ExitCode;
 
 /// Reads a start file and a journal.
@@ -59,6 +61,89 @@ pub(crate) fn usage(progress: &mut Progress<'_>, words: &UsageWords<'_>) -> Exit
         start,
         done,
     );
+    drop(bytes);
+    status
+}
+
+/// The number of the first state at a time or behind it: the one before the first entry of the first batch whose time
+/// is that or later, or, where there is none, the one behind the last batch.
+fn state_since(marks: &Marks, time: &Time) -> u64 {
+    match (marks.since(time), marks.rows().last()) {
+        (Some(first), _) => first,
+        (None, Some(row)) => row.last.saturating_add(1),
+        (None, None) => 0,
+    }
+}
+
+/// The number of the last state by a time: the one behind the last batch whose time is that or earlier, or, where there
+/// is none, the first.
+fn state_until(marks: &Marks, time: &Time) -> u64 {
+    match marks.until(time) {
+        Some(last) => last.saturating_add(1),
+        None => 0,
+    }
+}
+
+/// The states that are asked about, by number and by time.
+fn states_of(words: &EverWords<'_>, marks: Option<&Marks>) -> States {
+    let States { first, last } = States::between(words.from, words.to);
+    let Some(marks) = marks else {
+        return States { first, last };
+    };
+    let since = match &words.since {
+        Some(time) => state_since(marks, time),
+        None => 0,
+    };
+    let until = match &words.until {
+        Some(time) => Some(state_until(marks, time)),
+        None => None,
+    };
+    States {
+        first: first.max(since),
+        last: earlier(last, until),
+    }
+}
+
+/// Prints who could ever get an object over a journal.
+pub(crate) fn who_ever(progress: &mut Progress<'_>, words: &EverWords<'_>) -> ExitCode {
+    let source = Source {
+        start: words.start,
+        journal: Some(words.journal),
+        at: None,
+        marks: words.marks,
+        when: None,
+    };
+    let bytes = match read_source(progress, &source) {
+        Ok(bytes) => bytes,
+        Err(status) => return status,
+    };
+    let Bytes {
+        start,
+        journal,
+        marks,
+        ..
+    } = &bytes;
+    let journal = journal.as_deref().unwrap_or(b"".as_slice());
+    let marks = marks.as_ref();
+    let states = states_of(words, marks);
+    progress.begin("looking");
+    let done = list_ever(
+        progress.rt().alloc(),
+        start,
+        journal,
+        marks,
+        states,
+        words.object,
+        words.mode,
+    );
+    let named = Named {
+        start: words.start,
+        journal: words.journal,
+        subject: "",
+        object: words.object,
+        line: "",
+    };
+    let status = ended(progress, named, start, done);
     drop(bytes);
     status
 }

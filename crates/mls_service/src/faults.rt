@@ -4,8 +4,7 @@ use mls_files::{
     CallFault, FileCall, OpenFault, command_refused, list_beside, list_files, tell_call, tell_end,
 };
 use mls_replay::CommandFault;
-use mls_terminal::{NO_MEMORY, NOT_WRITTEN, Progress, ServeWords, refused};
-use std::fmt::Display;
+use mls_terminal::{NO_MEMORY, NOT_WRITTEN, ServeWords, refused};
 use std::fs;
 use std::process::ExitCode;
 
@@ -13,17 +12,6 @@ use std::process::ExitCode;
 fn tell_file(rt: &HostRuntime, file: &str, what: &str) -> ExitCode {
     let _ = eprintln!(rt; "mls: {file}: {what}");
     ExitCode::from(1)
-}
-
-/// Tells what is wrong with a file that another doesn't agree with.
-pub(crate) fn tell_differing(
-    progress: &mut Progress<'_>,
-    path: &str,
-    what: impl Display + Drop,
-) -> ExitCode {
-    progress.end();
-    let _ = eprintln!(progress.rt(); "mls: {path}: {what}");
-    ExitCode::from(3)
 }
 
 /// Tells why a file wasn't opened.
@@ -102,6 +90,15 @@ fn file_failed(rt: &HostRuntime, failure: Option<u8>) -> ExitCode {
     }
 }
 
+/// The status where nothing was handed out, or a front of it: a state was refused before, and that was told; or the
+/// output couldn't be written.
+fn not_told(rt: &HostRuntime, failure: Option<u8>) -> ExitCode {
+    match failure {
+        Some(status) => ExitCode::from(status),
+        None => refused(rt, NOT_WRITTEN, 1),
+    }
+}
+
 /// Tells why a journal isn't one to go on from.
 fn recover_refused(
     rt: &HostRuntime,
@@ -134,7 +131,7 @@ fn attend_refused(
     match fault {
         AttendFault::Read => refused(rt, "mls: input: read", 1),
         AttendFault::Unfinished => refused(rt, "mls: input: unfinished line", 1),
-        AttendFault::Write => refused(rt, NOT_WRITTEN, 1),
+        AttendFault::Write => not_told(rt, failure),
         AttendFault::Memory => refused(rt, NO_MEMORY, 1),
         AttendFault::TooLong => tell_file(rt, journal, "too long"),
         AttendFault::File => file_failed(rt, failure),

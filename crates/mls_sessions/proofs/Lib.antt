@@ -1,7 +1,11 @@
 mod OwnEntries
 mod Exchanges
 mod Learnt
+mod Bits
+mod Touching
 mod StepsKeep
+mod CellsKeep
+mod Handing
 mod Turns
 mod SeatsKeep
 mod Meetings

@@ -1,5 +1,5 @@
 -- The steps of a meeting keep the gate's rule.
-use Rattle.std.proofs.Common.{◌≡◌, ◌≢◌, ℕ, ◌<◌, ◌≤◌, eqb, Bool, List, [], ◌∷◌, length, refl, sym, ap, ◌∙◌, subst, inr, arith, eq-eqb, ne_eqb, le-ltb, lt-ltb}
+use Rattle.std.proofs.Common.{◌≡◌, ◌≢◌, ℕ, ◌<◌, ◌≤◌, eqb, Bool, List, [], ◌∷◌, length, length-append, refl, sym, ap, ◌∙◌, subst, inr, arith, eq-eqb, ne_eqb, le-ltb, lt-ltb}
 use Rattle.std.specs.Prelude.{if◌then◌else◌}
 use mathlib.Core.List.{IsPrefix}
 use mathlib.Core.Option as maybe
@@ -16,7 +16,7 @@ use Rattle.mls_sessions.specs.Journals.{Charter}
 use Rattle.mls_monitor.specs.Entries.{of_session}
 use Rattle.mls_sessions.specs.Rule.{member, Gated}
 use Rattle.mls_sessions.specs.Steps.{Seat, longer, Agree, looked, both_of}
-use Rattle.mls_sessions.specs.Sessions.{seated}
+use Rattle.mls_sessions.specs.Sessions.{seated, Meets, history}
 use Rattle.mls_sessions.proofs.OwnEntries.{prefix_shorter, own-between}
 use Rattle.mls_sessions.proofs.StepsKeep.{running, same_state}
 use Rattle.mls_sessions.proofs.SeatsKeep.{cuts, fits_goes, goes_to, goes_hit, goes_miss}
@@ -80,3 +80,8 @@ module _ (key : Charter) where
   -- what the seat has after the join
   pub joined_as : (mine theirs whole now : Seat) (x y : Member) → mine ≡ seated key x → theirs ≡ seated key y → whole ≡ (theirs.0, []) → now ≡ (both_of mine.0 whole.0, mine.1) → now ≡ (Sessions key (x ∷ y ∷ []), [])
   joined_as mine theirs whole now x y a b is did = did ∙ (λ k. (both_of (a k).0 ((is ∙ (λ j. ((b j).0, []))) k).0, (a k).1))
+
+-- two sessions that met have seen as much as either
+pub met_counts : (v w v' w' : View) (a b : ℕ) → Meets v w v' w' → a ≤ length (history v) → b ≤ length (history w) → (a ≤ length (history v')) × (b ≤ length (history v')) × (a ≤ length (history w')) × (b ≤ length (history w'))
+met_counts v w v' w' a b met x y = let p = ap (λ (xs : List Entry). length xs) met.first.1 in let q = ap (λ (xs : List Entry). length xs) met.second.1 in let r = ap (λ (xs : List Entry). length xs) met.same in
+    let m = length-append (history v) met.first.0 in let n = length-append (history w) met.second.0 in (omega arith, omega arith, omega arith, omega arith)

@@ -1,5 +1,5 @@
 -- Each step of the gate keeps its rule.
-use Rattle.std.proofs.Common.{le_refl, ◌≡◌, ◌≢◌, ℕ, zero, suc, ◌+◌, ◌%◌, ◌<◌, eqb, List, [], ◌∷◌, ◌++◌, get_or, set, refl, sym, ap, ◌∙◌, subst, inl, inr, ⊎_elim, arith, eq-eqb, ne_eqb, length-set, get_or-set_same, append-nil, append_assoc, Option, Some, None}
+use Rattle.std.proofs.Common.{le_refl, ◌≡◌, ◌≢◌, ℕ, zero, suc, ◌+◌, ◌%◌, ◌<◌, eqb, List, [], ◌∷◌, ◌++◌, get_or, set, refl, sym, ap, ◌∙◌, subst, inl, inr, ⊎_elim, arith, eq-eqb, ne_eqb, length-set, get_or-set_same, get_or-set_other, append-nil, append_assoc, Option, Some, None}
 use mathlib.Core.Logic.{dite}
 use mathlib.Core.Option.{some, some-injective, some-ne-none}
 use mathlib.Core.Option as maybe
@@ -12,15 +12,17 @@ use Rattle.atomic_table.specs.Table.{State, Act, step, keeps, takes, gives, open
 use Rattle.atomic_table.proofs.Lists.{at_set, set_again, set_here}
 use Rattle.mls_requests.specs.declared.entry.Entry.{Entry}
 use Rattle.mls_sessions.specs.Journals.{Stands, Journal, journal, Charter}
-use Rattle.mls_monitor.specs.Entries.{of_session, AllBelow}
+use Rattle.mls_monitor.specs.Entries.{of_session}
+use Rattle.std.proofs.lemmas.List.{length-replicate, get_or-replicate}
+use Rattle.mls_monitor.specs.Journal.{fold}
+use Rattle.mls_sessions.specs.Cells.{Tells}
 use Rattle.mls_sessions.specs.Rule.{member, word_of, Names, base, present, IsMember, Fits, IsUnused, Knows, Running, IsEmpty, IsFilling, Gated, news, begun}
 use Rattle.mls_sessions.specs.Steps.{Seat, filled, settled, Taken, won, kept_view, kept, marked, updated_view, updated}
 use Rattle.mls_sessions.specs.declared.gate_table.Member.{Member}
 use Rattle.mls_sessions.specs.declared.gate_table.View.{View}
 use Rattle.mls_sessions.specs.declared.gate_table.View.TheVariants.{Spent, Starting, Filling, Giving, Sessions, Holding}
 use Rattle.mls_sessions.specs.Sessions.{member_of, taken_of, seated}
-use Rattle.mls_monitor.specs.Entries.{AllOf}
-use Rattle.mls_sessions.proofs.OwnEntries.{own-append, below-append, prefix_refl, prefix_more, own-none, below-all}
+use Rattle.mls_sessions.proofs.OwnEntries.{own-append, prefix_refl, prefix_more}
 
 -- a word that names a session isn't free
 pub names_some : (w k : ℕ) → Names w k → 0 < w
@@ -45,7 +47,7 @@ tag (Starting c) = 1
 tag (Filling c) = 2
 tag (Giving c g) = 3
 tag (Sessions c is) = 4
-tag (Holding c i t) = 5
+tag (Holding c i t b) = 5
 
 pub one_view : (a b : View) (id : ℕ) → get_elem? (a ∷ []) id ≡ some b → a ≡ b
 one_view a b zero e = some-injective a b e
@@ -71,6 +73,10 @@ pub at_here : (vs : List View) (id : ℕ) (v w : View) → get_elem? vs id ≡ s
 at_here [] id v w e = absurd (some-ne-none v (sym e))
 at_here (x ∷ vs) zero v w e = refl
 at_here (x ∷ vs) (suc id) v w e = at_here vs id v w e
+
+-- a step on the gate's word leaves the words of accesses
+pub still : (P : ℕ → ℕ → Type 0) (ws : List ℕ) (x m : ℕ) → ((i : ℕ) → i < m → P i (get_or ws (i + 1) 0)) → (i : ℕ) → i < m → P i (get_or (set ws 0 x) (i + 1) 0)
+still P ws x m all i small = subst (P i) (sym (get_or-set_other ws 0 (i + 1) x 0 (λ e. absurd (omega arith)))) (all i small)
 
 -- a step that changes nothing
 pub same_state : (s : St) (id : ℕ) (c : List (ℕ × Option Journal)) (v : View) → get_elem? s.views id ≡ some v → stepped s 0 (get_or s.words 0 0) id c v keeps ≡ s
@@ -100,26 +106,26 @@ module _ (key : Charter) where
     unused_moves : (g : ℕ) → IsUnused key later owner i g → IsUnused key (later ++ added) owner' j g
     unused_moves g u k low high = let t = u k low high in ((moves k high t.0).0, sym (still_own k high t.0) ∙ t.1)
 
-    knows_moves : (h w h' w' : ℕ) (v : View) → tag v ≢ 5 → Knows key later owner i h w v → Knows key (later ++ added) owner' j h' w' v
+    pub knows_moves : (h w h' w' : ℕ) (v : View) → tag v ≢ 5 → Knows key later owner i h w v → Knows key (later ++ added) owner' j h' w' v
     knows_moves h w h' w' Spent not k = tt
     knows_moves h w h' w' (Starting c) not k = absurd k
     knows_moves h w h' w' (Filling c) not k = absurd k
     knows_moves h w h' w' (Giving c g) not k = (k.0, k.1, unused_moves g k.2)
     knows_moves h w h' w' (Sessions c xs) not k = (k.0, fits_moves xs k.1)
-    knows_moves h w h' w' (Holding c x t) not k = absurd (not refl)
+    knows_moves h w h' w' (Holding c x t b) not k = absurd (not refl)
 
   -- a step changes the view of one seat
   pub others : (P Q : ℕ → View → Type 0) (vs : List View) (id : ℕ) (w : View) → ((j : ℕ) (v : View) → get_elem? vs j ≡ some v → P j v) → Q id w → ((j : ℕ) (v : View) → j ≢ id → P j v → Q j v)
       → (j : ℕ) (v : View) → get_elem? (set vs id w) j ≡ some v → Q j v
   others P Q vs id w all mine rest j v e = ⊎_elim (λ (t : (j ≡ id) × (w ≡ v)). subst (λ (z : ℕ × View). Q z.0 z.1) (λ k. (sym t.0 k, t.1 k)) mine) (λ (t : (j ≢ id) × (get_elem? vs j ≡ some v)). rest j v t.0 (all j v t.1)) (at_set vs id j w v e)
 
-  holds_word : (later : List Entry) (owner : ℕ → ℕ) (j h w : ℕ) (v : View) → Knows key later owner j h w v → tag v ≡ 5 → (0 < w) × (j ≡ h)
+  pub holds_word : (later : List Entry) (owner : ℕ → ℕ) (j h w : ℕ) (v : View) → Knows key later owner j h w v → tag v ≡ 5 → (0 < w) × (j ≡ h)
   holds_word later owner j h w Spent k e = absurd (omega arith)
   holds_word later owner j h w (Starting c) k e = absurd k
   holds_word later owner j h w (Filling c) k e = absurd k
   holds_word later owner j h w (Giving c g) k e = absurd (omega arith)
   holds_word later owner j h w (Sessions c xs) k e = absurd (omega arith)
-  holds_word later owner j h w (Holding c x t) k e = (names_some w x.number k.1, k.2)
+  holds_word later owner j h w (Holding c x t b) k e = (names_some w x.number k.1, k.2)
 
   -- while the gate is free nobody holds it, so no view speaks of the holder or of the word
   free_knows : (later : List Entry) (owner : ℕ → ℕ) (j h h' w w' : ℕ) → w ≡ 0 → (v : View) → Knows key later owner j h w v → Knows key later owner j h' w' v
@@ -128,7 +134,7 @@ module _ (key : Charter) where
   free_knows later owner j h h' w w' free (Filling c) k = absurd k
   free_knows later owner j h h' w w' free (Giving c g) k = k
   free_knows later owner j h h' w w' free (Sessions c xs) k = k
-  free_knows later owner j h h' w w' free (Holding c x t) k = let a = names_some w x.number k.1 in absurd (omega arith)
+  free_knows later owner j h h' w w' free (Holding c x t b) k = let a = names_some w x.number k.1 in absurd (omega arith)
 
   -- the word may change while it names the same session
   word_knows : (later : List Entry) (owner : ℕ → ℕ) (j h w w' : ℕ) → ((k : ℕ) → Names w k → Names w' k) → (v : View) → Knows key later owner j h w v → Knows key later owner j h w' v
@@ -137,7 +143,7 @@ module _ (key : Charter) where
   word_knows later owner j h w w' same (Filling c) k = absurd k
   word_knows later owner j h w w' same (Giving c g) k = k
   word_knows later owner j h w w' same (Sessions c xs) k = k
-  word_knows later owner j h w w' same (Holding c x t) k = (k.0, same x.number k.1, k.2, k.3, k.4)
+  word_knows later owner j h w w' same (Holding c x t b) k = (k.0, same x.number k.1, k.2, k.3, k.4)
 
   abbrev charter_or : View → Charter
   charter_or (Sessions c xs) = c
@@ -148,12 +154,12 @@ module _ (key : Charter) where
   only d v = d
 
   -- what was said of a session's view is said however the view is written
-  as_seen : (P : Charter → Member → Type 0) (i : Member) → P key i → (c : Charter) (x : Member) → Sessions key (i ∷ []) ≡ Sessions c (x ∷ []) → P c x
+  pub as_seen : (P : Charter → Member → Type 0) (i : Member) → P key i → (c : Charter) (x : Member) → Sessions key (i ∷ []) ≡ Sessions c (x ∷ []) → P c x
   as_seen P i p c x e = subst (λ (z : Charter × Member). P z.0 z.1) (λ k. (charter_or (e k), only i (e k))) p
 
   -- a holder other than the session's own seat shows that there are two sessions
   not_alone : (s : St) (r : Running key s) (id : ℕ) (i : Member) → get_elem? s.views id ≡ some (Sessions key (i ∷ [])) → get_or s.words 0 0 ≢ 0 → key.count ≢ 1
-  not_alone s r id i at held one = let h = r.away held in let mine = (r.each_seat id (Sessions key (i ∷ [])) at).1.0 in let theirs = (r.each_seat r.holder (Holding key h.0 r.later) h.1).4 in
+  not_alone s r id i at held one = let h = r.away held in let mine = (r.each_seat id (Sessions key (i ∷ [])) at).1.0 in let theirs = (r.each_seat r.holder (Holding key h.0 r.later r.blanks) h.1).4 in
       let a = mine.known in let b = theirs.known in let same : i.number ≡ h.0.number = omega arith in
       let seat : id ≡ r.holder = sym mine.here ∙ (ap r.owner same ∙ theirs.here) in
       let two = ap tag (some-injective _ _ (sym at ∙ (ap (λ (j : ℕ). get_elem? s.views j) seat ∙ h.1))) in absurd (omega arith)
@@ -173,6 +179,9 @@ module _ (key : Charter) where
         at_home = λ z. absurd (omega arith);
         away = λ _. let h = r.away held in (h.0, h.1, same h.0.number h.2);
         each_seat = λ j u e. word_knows r.later r.owner j r.holder was (get_or (set s.words 0 x) 0 0) same u (r.each_seat j u e);
+        blanks = r.blanks;
+        tells = still (Tells (fold (begun key) (base key ++ r.later))) s.words x key.cells r.tells;
+        blank = still (λ _ w. w ≡ 0) s.words x r.blanks r.blank;
       })
 
   pub marks : (slots id y x : ℕ) (i : Member) → y ≢ 0 → y % 2 ≡ 0 → x ≡ y + 1
@@ -195,8 +204,8 @@ module _ (key : Charter) where
       ))
 
   takes_out : (s : St) (r : Running key s) (id x : ℕ) (i : Member) → Names x i.number → get_elem? s.views id ≡ some (Sessions key (i ∷ [])) → get_or s.words 0 0 ≡ 0
-      → Running key (stepped s 0 x id [] (Holding key i r.later) (takes 0 (Some (present key r.later))))
-  takes_out s r id x i named at free = let up = names_some x i.number named in let w : View = Holding key i r.later in let wide = r.wide in let now : get_or (set s.words 0 x) 0 0 ≡ x = get_or-set_same s.words 0 x 0 (omega arith) in let named' : Names (get_or (set s.words 0 x) 0 0) i.number = subst (λ (y : ℕ). Names y i.number) (sym now) named in record {
+      → Running key (stepped s 0 x id [] (Holding key i r.later 0) (takes 0 (Some (present key r.later))))
+  takes_out s r id x i named at free = let up = names_some x i.number named in let w : View = Holding key i r.later 0 in let wide = r.wide in let now : get_or (set s.words 0 x) 0 0 ≡ x = get_or-set_same s.words 0 x 0 (omega arith) in let named' : Names (get_or (set s.words 0 x) 0 0) i.number = subst (λ (y : ℕ). Names y i.number) (sym now) named in record {
     later = r.later;
     owner = r.owner;
     holder = id;
@@ -209,12 +218,15 @@ module _ (key : Charter) where
     each_seat = others (λ j v. Knows key r.later r.owner j r.holder (get_or s.words 0 0) v) (λ j v. Knows key r.later r.owner j id (get_or (set s.words 0 x) 0 0) v) s.views id w r.each_seat
         (refl, named', refl, refl, (r.each_seat id (Sessions key (i ∷ [])) at).1.0)
         (λ j v ne k. free_knows r.later r.owner j r.holder id (get_or s.words 0 0) (get_or (set s.words 0 x) 0 0) free v k);
+    blanks = 0;
+    tells = still (Tells (fold (begun key) (base key ++ r.later))) s.words x key.cells r.tells;
+    blank = λ i small. absurd (omega arith);
   }
 
   pub wins : (slots id x : ℕ) (i : Member) → Names x i.number
       → Allows (Gated key) slots id (Sessions key (i ∷ []), []) 0 (λ y. either (eqb y 0) x y) (won (step slots 0 0 x maybe.none) (Sessions key (i ∷ []), []))
   wins slots id x i up s g deep at small = let v : View = Sessions key (i ∷ []) in let r = running key s g id v at (omega arith) in let now : ℕ = get_or s.words 0 0 in dite (ℕ_discrete now 0)
-      (λ free. let w : View = Holding key i r.later in let a : Act (Option Journal) = takes 0 (Some (present key r.later)) in let ok = (r.each_seat id v at).1.0 in (
+      (λ free. let w : View = Holding key i r.later 0 in let a : Act (Option Journal) = takes 0 (Some (present key r.later)) in let ok = (r.each_seat id v at).1.0 in (
         w,
         a,
         r.at_home free,
@@ -229,38 +241,39 @@ module _ (key : Charter) where
         λ c y e. ((λ free. absurd (held free)), λ _. (refl, as_seen (λ c y. c.count ≢ 1) i (not_alone s r id i at held) c y e)),
       ))
 
-  -- the holder puts the monitor home, with these entries more, and has the view x from then on
-  puts_home : (s : St) (r : Running key s) (id : ℕ) (i x : Member) (t added : List Entry) → get_elem? s.views id ≡ some (Holding key i t) → ((k : ℕ) → k ≢ i.number → of_session k added ≡ [])
-      → AllBelow n added → Stands (begun key) (base key ++ (r.later ++ added)) → IsMember key (r.later ++ added) r.owner id x
-      → Running key (stepped s 0 0 id ((0, Some (present key (r.later ++ added))) ∷ []) (Sessions key (x ∷ [])) gives)
-  puts_home s r id i x t added at mine_only few legal ok = let w : View = Sessions key (x ∷ []) in let wide = r.wide in let deep = r.deep in let mine = r.each_seat id (Holding key i t) at in record {
-    later = r.later ++ added;
-    owner = r.owner;
-    holder = r.holder;
-    wide = length-set s.words 0 0 ∙ wide;
-    deep = length-set s.homes 0 (some (Some (present key (r.later ++ added)))) ∙ deep;
-    legal = legal;
-    theirs = below-append n r.later added r.theirs few;
-    at_home = λ _. set_here s.homes 0 (some (Some (present key (r.later ++ added)))) (omega arith);
-    away = λ held. absurd (held (get_or-set_same s.words 0 0 0 (omega arith)));
-    each_seat = others (λ j v. Knows key r.later r.owner j r.holder (get_or s.words 0 0) v) (λ j v. Knows key (r.later ++ added) r.owner j r.holder (get_or (set s.words 0 0) 0 0) v) s.views id w r.each_seat
-        (refl, (ok, tt, tt))
-        (λ j v ne k. knows_moves r.later added r.owner r.owner j j
-        (λ m small here. (here, mine_only m (λ same. ne (sym here ∙ (ap r.owner same ∙ mine.4.here)))))
-        r.holder (get_or s.words 0 0) r.holder (get_or (set s.words 0 0) 0 0) v (λ five. ne ((holds_word r.later r.owner j r.holder (get_or s.words 0 0) v k five).1 ∙ sym mine.2)) k);
-  }
+  -- the holder puts the monitor home, and has the view x from then on
+  puts_home : (s : St) (r : Running key s) (id : ℕ) (i x : Member) (t : List Entry) → get_elem? s.views id ≡ some (Holding key i t 0) → IsMember key r.later r.owner id x
+      → Running key (stepped s 0 0 id ((0, Some (present key r.later)) ∷ []) (Sessions key (x ∷ [])) gives)
+  puts_home s r id i x t at ok = let w : View = Sessions key (x ∷ []) in let wide = r.wide in let deep = r.deep in let mine = r.each_seat id (Holding key i t 0) at in
+      let none : (k : ℕ) → of_session k [] ≡ [] = λ k. refl in let same : r.later ++ [] ≡ r.later = append-nil r.later in record {
+        later = r.later;
+        owner = r.owner;
+        holder = r.holder;
+        wide = length-set s.words 0 0 ∙ wide;
+        deep = length-set s.homes 0 (some (Some (present key r.later))) ∙ deep;
+        legal = r.legal;
+        theirs = r.theirs;
+        at_home = λ _. set_here s.homes 0 (some (Some (present key r.later))) (omega arith);
+        away = λ held. absurd (held (get_or-set_same s.words 0 0 0 (omega arith)));
+        each_seat = others (λ j v. Knows key r.later r.owner j r.holder (get_or s.words 0 0) v) (λ j v. Knows key r.later r.owner j r.holder (get_or (set s.words 0 0) 0 0) v) s.views id w r.each_seat
+            (refl, (ok, tt, tt))
+            (λ j v ne k. subst (λ es. Knows key es r.owner j r.holder (get_or (set s.words 0 0) 0 0) v) same (knows_moves r.later [] r.owner r.owner j j (λ m small here. (here, refl))
+            r.holder (get_or s.words 0 0) r.holder (get_or (set s.words 0 0) 0 0) v (λ five. ne ((holds_word r.later r.owner j r.holder (get_or s.words 0 0) v k five).1 ∙ sym mine.2)) k));
+        blanks = 0;
+        tells = still (Tells (fold (begun key) (base key ++ r.later))) s.words 0 key.cells r.tells;
+        blank = λ i small. absurd (omega arith);
+      }
 
-  module _ (slots id : ℕ) (i : Member) (t : List Entry) (m : Journal) (legal : Stands m.start m.entries) where
+  module _ (slots id : ℕ) (i : Member) (t : List Entry) (m : Journal) (is : m ≡ present key t) where
     abbrev out : List (ℕ × Option Journal)
     out = (0, Some m) ∷ []
 
-    pub updates : (added : List Entry) → m ≡ present key (t ++ added) → ((k : ℕ) → k ≢ i.number → of_session k added ≡ []) → (i.number < n → AllBelow n added)
-        → Allows (Gated key) slots id (Holding key i t, out) 0 (λ _. 0) (λ _. updated (step slots 0 0 0 maybe.none) (Holding key i t, out) 0)
-    updates added is mine_only few s g deep at small = let v : View = Holding key i t in let r = running key s g id v at (omega arith) in let mine = r.each_seat id v at in
-        let is' : m ≡ present key (r.later ++ added) = is ∙ ap (λ es. present key (es ++ added)) mine.3 in
-        let seen : news key m ≡ r.later ++ added = ap (news key) is' ∙ drop-append_seam (base key) (r.later ++ added) in
-        let home = puts_home s r id i (member i.number (r.later ++ added)) t added at mine_only (few mine.4.known) (subst (λ (b : Journal). Stands b.start b.entries) is' legal)
-        record { known = mine.4.known; here = mine.4.here; front = prefix_refl (r.later ++ added); own = refl } in (
+    pub updates : Allows (Gated key) slots id (Holding key i t 0, out) 0 (λ _. 0) (λ _. updated (step slots 0 0 0 maybe.none) (Holding key i t 0, out) 0)
+    updates s g deep at small = let v : View = Holding key i t 0 in let r = running key s g id v at (omega arith) in let mine = r.each_seat id v at in
+        let is' : m ≡ present key r.later = is ∙ ap (present key) mine.3 in
+        let seen : news key m ≡ r.later = ap (news key) is' ∙ drop-append_seam (base key) r.later in
+        let home = puts_home s r id i (member i.number r.later) t at
+        record { known = mine.4.known; here = mine.4.here; front = prefix_refl r.later; own = refl } in (
           updated_view v out,
           gives,
           tt,
@@ -268,12 +281,10 @@ module _ (key : Charter) where
           refl,
         )
 
-    pub keeps_seen : m ≡ present key t → Allows (Gated key) slots id (Holding key i t, out) 0 (λ _. 0) (λ _. kept (step slots 0 0 0 maybe.none) (Holding key i t, out) 0)
-    keeps_seen is s g deep at small = let v : View = Holding key i t in let r = running key s g id v at (omega arith) in let mine = r.each_seat id v at in
-        let more : r.later ++ [] ≡ r.later = append-nil r.later in
-        let is' : m ≡ present key (r.later ++ []) = is ∙ ap (present key) (mine.3 ∙ sym more) in
-        let home = puts_home s r id i i t [] at (λ _ _. refl) tt (subst (λ (b : Journal). Stands b.start b.entries) is' legal)
-        (subst (λ es. IsMember key es r.owner id i) (sym more) mine.4) in (
+    pub keeps_seen : Allows (Gated key) slots id (Holding key i t 0, out) 0 (λ _. 0) (λ _. kept (step slots 0 0 0 maybe.none) (Holding key i t 0, out) 0)
+    keeps_seen s g deep at small = let v : View = Holding key i t 0 in let r = running key s g id v at (omega arith) in let mine = r.each_seat id v at in
+        let is' : m ≡ present key r.later = is ∙ ap (present key) mine.3 in
+        let home = puts_home s r id i i t at mine.4 in (
           kept_view v,
           gives,
           tt,
@@ -282,14 +293,17 @@ module _ (key : Charter) where
         )
 
   -- the office is opened: the empty slot is taken, and the monitor is put home
-  pub starts : Gated key (opening (0 ∷ []) (replicate 1 None) (Starting key))
+  pub starts : Gated key (opening (0 ∷ replicate key.cells 0) (replicate 1 None) (Starting key))
   starts = inl refl
 
+  pub starts_with : (ws : List ℕ) → ws ≡ replicate (key.cells + 1) 0 → Gated key (opening ws (replicate 1 None) (Starting key))
+  starts_with ws is = let up : key.cells + 1 ≡ suc key.cells = omega arith in subst (λ (xs : List ℕ). Gated key (opening xs (replicate 1 None) (Starting key))) (sym (is ∙ ap (λ (m : ℕ). replicate m 0) up)) starts
+
   abbrev empty : St
-  empty = record { words = 0 ∷ []; homes = some None ∷ []; views = Starting key ∷ [] }
+  empty = record { words = 0 ∷ replicate key.cells 0; homes = some None ∷ []; views = Starting key ∷ [] }
 
   abbrev filling : St
-  filling = record { words = 2 ∷ []; homes = maybe.none ∷ []; views = Filling key ∷ [] }
+  filling = record { words = 2 ∷ replicate key.cells 0; homes = maybe.none ∷ []; views = Filling key ∷ [] }
 
   module _ (slots : ℕ) where
     abbrev Fills : ℕ → St → Type 0
@@ -308,7 +322,7 @@ module _ (key : Charter) where
 
     module _ (m : Journal) (is : m ≡ journal (begun key) key.forgotten (base key)) (legal : Stands m.start m.entries) where
       abbrev home : St
-      home = record { words = 0 ∷ []; homes = some (Some m) ∷ []; views = Giving key n ∷ [] }
+      home = record { words = 0 ∷ replicate key.cells 0; homes = some (Some m) ∷ []; views = Giving key n ∷ [] }
 
       at_start : m ≡ present key []
       at_start = is ∙ ap (journal (begun key) key.forgotten) (sym (append-nil (base key)))
@@ -318,13 +332,17 @@ module _ (key : Charter) where
         later = [];
         owner = λ _. 0;
         holder = 0;
-        wide = refl;
+        wide = ap suc (length-replicate key.cells 0) ∙ (let up : suc key.cells ≡ key.cells + 1 = omega arith in up);
         deep = refl;
         legal = subst (λ (b : Journal). Stands b.start b.entries) at_start legal;
         theirs = tt;
         at_home = λ _. ap (λ (b : Journal). some (some (Some b))) at_start;
         away = λ held. absurd (held refl);
         each_seat = λ j v e. subst (λ (z : ℕ × View). Knows key [] (λ _. 0) z.0 0 0 z.1) (λ k. (sym (one_id (Giving key n) v j e) k, one_view (Giving key n) v j e k)) (refl, le_refl n, λ _ _ _. (refl, refl));
+        blanks = 0;
+        tells = λ i small known. let zeros : List ℕ = 0 ∷ replicate key.cells 0 in let up : suc i ≡ i + 1 = omega arith in
+            absurd (known (subst (λ (k : ℕ). get_or zeros k 0 ≡ 0) up (get_or-replicate {A = ℕ} key.cells i 0 0 small)));
+        blank = λ i small. absurd (omega arith);
       }
 
       abbrev Settles : ℕ → St → Type 0
@@ -351,7 +369,7 @@ module _ (key : Charter) where
   marks_at slots id y x me is some_one even up = subst (λ (m : Seat). Allows (Gated key) slots id m 0 (λ n. either (eqb n y) x n) (marked (step slots 0 y x maybe.none) m)) (sym is) (marks slots id y x (member_of me.0) some_one even up)
 
   -- the holder's view, as it is
-  module _ (slots id : ℕ) (v : View) (is : v ≡ Holding key (member_of v) (taken_of v)) (m : Journal) (took : m ≡ present key (taken_of v)) where
+  module _ (slots id : ℕ) (v : View) (is : v ≡ Holding key (member_of v) (taken_of v) 0) (m : Journal) (took : m ≡ present key (taken_of v)) where
     abbrev i : Member
     i = member_of v
 
@@ -362,10 +380,6 @@ module _ (key : Charter) where
       pub grown_is : m' ≡ present key (t ++ added)
       grown_is = adds ∙ (ap (λ (b : Journal). journal b.start b.forgotten (b.entries ++ added)) took ∙ ap (journal (begun key) key.forgotten) (append_assoc (base key) t added))
 
-      pub grows_at : AllOf i.number added → Stands m'.start m'.entries → Allows (Gated key) slots id (v, (0, Some m') ∷ []) 0 (λ _. 0) (λ _. updated (step slots 0 0 0 maybe.none) (v, (0, Some m') ∷ []) 0)
-      grows_at mine legal = subst (λ (w : View). Allows (Gated key) slots id (w, (0, Some m') ∷ []) 0 (λ _. 0) (λ _. updated (step slots 0 0 0 maybe.none) (w, (0, Some m') ∷ []) 0)) (sym is)
-          (updates slots id i t m' legal added grown_is (λ k other. own-none i.number k added mine other) (λ known. below-all n i.number added known mine))
-
       pub grows_as : (updated_view v ((0, Some m') ∷ []), []) ≡ seated key (member i.number (t ++ added))
       grows_as = ap (λ (w : View). (updated_view w ((0, Some m') ∷ []), [])) is ∙ ap (λ es. seated key (member i.number es)) (ap (news key) grown_is ∙ drop-append_seam (base key) (t ++ added))
 
@@ -373,18 +387,14 @@ module _ (key : Charter) where
       pub longer_is : m' ≡ present key (t ++ e ∷ [])
       longer_is = grown_is m' (e ∷ []) adds
 
-      pub records_at : e.session ≡ i.number → Stands m'.start m'.entries → Allows (Gated key) slots id (v, (0, Some m') ∷ []) 0 (λ _. 0) (λ _. updated (step slots 0 0 0 maybe.none) (v, (0, Some m') ∷ []) 0)
-      records_at by legal = grows_at m' (e ∷ []) adds (by, tt) legal
-
       pub records_as : (updated_view v ((0, Some m') ∷ []), []) ≡ seated key (member i.number (t ++ e ∷ []))
       records_as = grows_as m' (e ∷ []) adds
 
-    pub stays_at : Stands m.start m.entries → Allows (Gated key) slots id (v, (0, Some m) ∷ []) 0 (λ _. 0) (λ _. kept (step slots 0 0 0 maybe.none) (v, (0, Some m) ∷ []) 0)
-    stays_at legal = subst (λ (w : View). Allows (Gated key) slots id (w, (0, Some m) ∷ []) 0 (λ _. 0) (λ _. kept (step slots 0 0 0 maybe.none) (w, (0, Some m) ∷ []) 0)) (sym is) (keeps_seen slots id i t m legal took)
+    pub stays_at : Allows (Gated key) slots id (v, (0, Some m) ∷ []) 0 (λ _. 0) (λ _. kept (step slots 0 0 0 maybe.none) (v, (0, Some m) ∷ []) 0)
+    stays_at = subst (λ (w : View). Allows (Gated key) slots id (w, (0, Some m) ∷ []) 0 (λ _. 0) (λ _. kept (step slots 0 0 0 maybe.none) (w, (0, Some m) ∷ []) 0)) (sym is) (keeps_seen slots id i t m took)
 
-    pub looks_at : Stands m.start m.entries → Allows (Gated key) slots id (v, (0, Some m) ∷ []) 0 (λ _. 0) (λ _. updated (step slots 0 0 0 maybe.none) (v, (0, Some m) ∷ []) 0)
-    looks_at legal = subst (λ (w : View). Allows (Gated key) slots id (w, (0, Some m) ∷ []) 0 (λ _. 0) (λ _. updated (step slots 0 0 0 maybe.none) (w, (0, Some m) ∷ []) 0)) (sym is)
-        (updates slots id i t m legal [] (took ∙ ap (present key) (sym (append-nil t))) (λ _ _. refl) (λ _. tt))
+    pub looks_at : Allows (Gated key) slots id (v, (0, Some m) ∷ []) 0 (λ _. 0) (λ _. updated (step slots 0 0 0 maybe.none) (v, (0, Some m) ∷ []) 0)
+    looks_at = subst (λ (w : View). Allows (Gated key) slots id (w, (0, Some m) ∷ []) 0 (λ _. 0) (λ _. updated (step slots 0 0 0 maybe.none) (w, (0, Some m) ∷ []) 0)) (sym is) (updates slots id i t m took)
 
     pub looks_as : (updated_view v ((0, Some m) ∷ []), []) ≡ seated key (member i.number t)
     looks_as = ap (λ (w : View). (updated_view w ((0, Some m) ∷ []), [])) is ∙ ap (λ es. seated key (member i.number es)) (ap (news key) took ∙ drop-append_seam (base key) t)

@@ -1,4 +1,6 @@
 pub mod Journals
+pub mod Cells
+pub mod Touches
 pub mod Rule
 pub mod Steps
 pub mod Sessions

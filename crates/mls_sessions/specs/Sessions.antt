@@ -7,7 +7,9 @@ use Rattle.atomic_table.specs.Seated.{TableId, table_id_coded}
 use Rattle.mls_requests.specs.declared.entry.Entry.{Entry}
 use Rattle.mls_requests.specs.declared.request.Request.{Request}
 use Rattle.mls_sessions.specs.Journals.{Journal, Charter, charter_code, Stands}
-use Rattle.mls_monitor.specs.Entries.{of_session, AllBelow}
+use Rattle.mls_monitor.specs.Entries.{of_session, AllBelow, AllOf}
+use Rattle.mls_rules.specs.Rules.{reply}
+use Rattle.mls_monitor.specs.Journal.{fold}
 use Rattle.mls_sessions.specs.Rule.{begun, base, present, news, member}
 use Rattle.mls_sessions.specs.Steps.{Seat}
 use Rattle.mls_sessions.specs.declared.gate_table.Member.{Member}
@@ -42,13 +44,17 @@ is_count n = nat_le 1 n && nat_le n MAX_SESSIONS
 -- The session of a seat that has one. (own)
 abbrev pub member_of : View → Member
 member_of (Sessions c (m ∷ rest)) = m
-member_of (Holding c m taken) = m
+member_of (Holding c m taken blanks) = m
 member_of v = member 0 []
 
 -- What was added to the journal that a holder took, since the office was opened. (own)
 abbrev pub taken_of : View → List Entry
-taken_of (Holding c m taken) = taken
+taken_of (Holding c m taken blanks) = taken
 taken_of v = []
+
+-- A session's number. (own)
+abbrev pub number_of : View → ℕ
+number_of v = (member_of v).number
 
 -- The seat of one session that doesn't hold the gate. (own)
 abbrev pub seated : Charter → Member → Seat
@@ -56,25 +62,34 @@ seated key m = (Sessions key (m ∷ []), [])
 
 -- The seat of a session that holds the gate, with the monitor in hand. (own)
 abbrev pub holding : Charter → Member → List Entry → Seat
-holding key m taken = (Holding key m taken, (0, None) ∷ [])
+holding key m taken = (Holding key m taken 0, (0, None) ∷ [])
+
+-- The same, where it made so many words of accesses blank. (own)
+abbrev pub blanking : Charter → Member → List Entry → ℕ → Seat
+blanking key m taken blanks = (Holding key m taken blanks, (0, None) ∷ [])
 
 -- The seat holds the gate, and this is the journal of the monitor that it took. (own)
 abbrev pub Holds : Charter → Journal → Seat → Type 0
 Holds key j me = (me ≡ holding key (member_of me.0) (taken_of me.0)) × (j ≡ present key (taken_of me.0))
 
+-- The monitor in hand has these entries more than the present journal, all of the holder's session. (own)
+pub record HasMore (key : Charter) (me : Seat) (added : List Entry) (j : Journal) : Type 0 where
+  pub grown : j ≡ present key (taken_of me.0 ++ added)
+  pub mine : AllOf (number_of me.0) added
+
+-- An entry has the reply that the rules give after the journal that the holder took. (own)
+abbrev pub IsAnswered : Charter → Seat → Entry → Type 0
+IsAnswered key me e = e.reply ≡ reply (fold (begun key) (base key ++ taken_of me.0)) e.request
+
 -- The session took out the monitor with this journal, which begins with its history and has just its own part. (own)
 abbrev pub TookOut : Charter → Member → Journal → Seat → Type 0
-TookOut key m j me = (later : List Entry) × (j ≡ present key later) × (me ≡ (Holding key m later, (0, None) ∷ []))
+TookOut key m j me = (later : List Entry) × (j ≡ present key later) × (me ≡ (Holding key m later 0, (0, None) ∷ []))
     × IsPrefix m.later later × (of_session m.number m.later ≡ of_session m.number later)
 
 -- The session was given by the office. (own)
 abbrev pub IsOf : Office → Session → Type 0
 IsOf o s = (s.table ≡ o.table) × (s.view ≡ Sessions o.charter (member_of s.view ∷ []))
     × ((member_of s.view).number < o.charter.count)
-
--- A session's number. (own)
-abbrev pub number_of : View → ℕ
-number_of v = (member_of v).number
 
 -- A session's history: the journal as it has seen it. (own)
 abbrev pub history : View → List Entry
@@ -114,9 +129,9 @@ pub record Meets (x y x' y' : View) : Type 0 where
   pub first_number : number_of x' ≡ number_of x
   pub second_number : number_of y' ≡ number_of y
 
--- The counts of a session: the lengths of its own part and of its history. (own)
+-- The counts of a session: the length of its own part, and a length that its history has at least. (own)
 abbrev pub IsCounted : Counts → View → Type 0
-IsCounted c v = (c.made ≡ length (own v)) × (c.seen ≡ length (history v))
+IsCounted c v = (c.made ≡ length (own v)) × (c.seen ≤ length (history v))
 
 -- The first k sessions of an office as it is opened: numbered from 0, each with the monitor's journal as its history.
 -- (own)

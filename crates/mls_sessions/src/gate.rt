@@ -1,16 +1,19 @@
 //! The gate's word, and the two functions that take the monitor out and put it home.
-ghost use Rattle.std.specs.Prelude.{◌≡◌, ◌≢◌, ◌%◌, ◌∷◌, [], ℕ, Some, None, MatchResult, IfOk};
+ghost use Rattle.std.specs.Prelude.{◌≡◌, ◌+◌, ◌≢◌, ◌<◌, ◌%◌, ◌∷◌, [], ℕ, Some, None, MatchResult, IfOk};
 ghost use Rattle.std.specs.Bool.{Decides};
 ghost use mathlib.Core.Option as maybe;
 ghost use Rattle.atomic_table.specs.Table.{step, Allows};
 ghost use Rattle.mls_sessions.specs.Journals.{Stands};
-ghost use Rattle.mls_sessions.specs.Rule.{Gated, Names, word_of};
-ghost use Rattle.mls_sessions.specs.Sessions.{member_of, seated, TookOut};
+ghost use Rattle.mls_sessions.specs.Rule.{Gated, Names, word_of, begun};
+ghost use Rattle.mls_sessions.specs.Sessions.{member_of, seated, TookOut, Sees, IsCounted, history, number_of};
+ghost use Rattle.mls_sessions.specs.declared.counts.Counts.{Counts};
+ghost use Rattle.mls_monitor.specs.Journal.{fold};
+ghost use Rattle.mls_sessions.specs.Cells.{Tells};
 ghost use Rattle.mls_sessions.specs.Steps.{kept_view};
 
 use crate::boxed_monitor::BoxedMonitor;
 use crate::gate_table::{Gate, GateSeat, View};
-use crate::steps::{Mark, Win};
+use crate::steps::{Glance, Mark, Win};
 use atomic_table::Play;
 use std::hint::spin_loop;
 
@@ -43,7 +46,7 @@ fn is_marked(word: u64) -> bool
 /// Looks at the word so often and once more, as long as the gate is held and nobody may sleep. It returns what it saw
 /// last. It looks once at least, or a session would never see that the gate is free.
 pub(crate) fn look(gate: &Gate, looks: u64) -> u64
-    requires { gate.now.table_id.words ≡ 1 }
+    requires { gate.now.table_id.words ≡ gate.now.key.cells + 1 }
 {
     for _ in 0..looks {
         let seen = gate.peek(WORD);
@@ -57,7 +60,7 @@ pub(crate) fn look(gate: &Gate, looks: u64) -> u64
 
 /// Marks the word that was seen, since someone may sleep. It returns the marked word, unless another word was found.
 pub(crate) fn mark(gate: &Gate, seat: &mut GateSeat, seen: u64) -> Option<u64>
-    requires office { (seat.old.table_id ≡ gate.now.table_id) × (gate.now.table_id.words ≡ 1) }
+    requires office { (seat.old.table_id ≡ gate.now.table_id) × (gate.now.table_id.words ≡ gate.now.key.cells + 1) }
     requires session { seat.old.me ≡ seated gate.now.key (member_of seat.old.me.0) }
     requires held { seen ≢ 0 }
     ensures seat { (seat.new.table_id ≡ seat.old.table_id) × (seat.new.id ≡ seat.old.id) }
@@ -70,10 +73,27 @@ pub(crate) fn mark(gate: &Gate, seat: &mut GateSeat, seen: u64) -> Option<u64>
     if found == seen { Some(seen + 1) } else { None }
 }
 
+/// Reads a word of accesses by one load. Where it isn't blank, the session has now seen the present journal, and the
+/// word tells of the state which that leads to.
+pub(crate) fn glance(gate: &Gate, seat: &mut GateSeat, place: u32) -> u64
+    requires office { (seat.old.table_id ≡ gate.now.table_id) × (gate.now.table_id.words ≡ gate.now.key.cells + 1) }
+    requires session { seat.old.me ≡ seated gate.now.key (member_of seat.old.me.0) }
+    requires place { place < gate.now.key.cells }
+    ensures seat { (seat.new.table_id ≡ seat.old.table_id) × (seat.new.id ≡ seat.old.id) }
+    ensures session { (seat.new.me ≡ seated gate.now.key (member_of seat.new.me.0))
+        × (number_of seat.new.me.0 ≡ number_of seat.old.me.0) }
+    ensures blank { result ≡ 0 → seat.new.me ≡ seat.old.me }
+    ensures seen { result ≢ 0 → Sees gate.now.key seat.old.me.0 seat.new.me.0 }
+    ensures tells { result ≢ 0 → Tells (fold (begun gate.now.key) (history seat.new.me.0)) place result }
+    ensures counts { (c : Counts) → IsCounted c seat.old.me.0 → IsCounted c seat.new.me.0 }
+{
+    gate.load::<Glance>(seat, place as usize + 1)
+}
+
 /// Takes the monitor out where the gate is free, and leaves this word in it, which names the session. Or else it
 /// returns the word that it found.
 pub(crate) fn win(gate: &Gate, seat: &mut GateSeat, held: u64) -> Result<BoxedMonitor, u64>
-    requires office { (seat.old.table_id ≡ gate.now.table_id) × (gate.now.table_id.words ≡ 1) }
+    requires office { (seat.old.table_id ≡ gate.now.table_id) × (gate.now.table_id.words ≡ gate.now.key.cells + 1) }
     requires session { seat.old.me ≡ seated gate.now.key (member_of seat.old.me.0) }
     requires held { Names held (member_of seat.old.me.0).number }
     ensures seat { (seat.new.table_id ≡ seat.old.table_id) × (seat.new.id ≡ seat.old.id) }
@@ -97,7 +117,7 @@ pub(crate) fn put_home<M: Play<Option<BoxedMonitor>, View>>(
     seat: &mut GateSeat,
     monitor: BoxedMonitor,
 )
-    requires office { (seat.old.table_id ≡ gate.now.table_id) × (gate.now.table_id.words ≡ 1)
+    requires office { (seat.old.table_id ≡ gate.now.table_id) × (gate.now.table_id.words ≡ gate.now.key.cells + 1)
         × (seat.old.me.1 ≡ (0, None) ∷ []) }
     requires rule { Stands monitor.start monitor.entries
         → Allows (Gated gate.now.key) gate.now.table_id.slots seat.old.id (seat.old.me.0, (0, Some monitor) ∷ []) 0

@@ -1,7 +1,9 @@
-//! The table that the sessions of an office share: one word, the gate, and one slot, which holds the monitor.
+//! The table that the sessions of an office share: one word, the gate, one slot, which holds the monitor, and the words
+//! in which the current accesses stand.
 //!
-//! The word is 0 where the gate is free. Else it names the session k that holds it, as 2 (k + 1), and is one more, the
-//! mark, where someone may sleep.
+//! The gate's word is 0 where the gate is free. Else it names the session k that holds it, as 2 (k + 1), and is one
+//! more, the mark, where someone may sleep. A word of accesses is written by the session that holds the gate, and read
+//! by any.
 ghost use Rattle.std.specs.Prelude.{◌≡◌};
 
 use crate::boxed_monitor::BoxedMonitor;
@@ -13,11 +15,12 @@ use std::collections::LinkedList;
 use std::marker::Model;
 use std::snapshot::Snapshot;
 
-/// What an office was opened with: the monitor, and how many sessions.
+/// What an office was opened with: the monitor, how many sessions, and how many words of accesses.
 #[derive(Drop)]
 pub struct Charter {
     opened: Snapshot<Monitor>,
     count: u64,
+    cells: u64,
 }
 
 impl Model for Charter {
@@ -32,19 +35,21 @@ impl Model for Charter {
       forgotten = c.opened.value.forgotten;
       entries = c.opened.value.entries;
       count = c.count;
+      cells = c.cells;
     } };
 }
 
 impl Charter {
     ghost use Rattle.mls_sessions.specs.Journals.{charter_of};
 
-    /// The monitor, and so many sessions.
-    pub(crate) fn of(monitor: &Monitor, count: u64) -> Charter
-        ensures { result ≡ charter_of monitor.now count }
+    /// The monitor, so many sessions, and so many words of accesses.
+    pub(crate) fn of(monitor: &Monitor, count: u64, cells: u64) -> Charter
+        ensures { result ≡ charter_of monitor.now count cells }
     {
         Charter {
             opened: Snapshot::of(monitor),
             count,
+            cells,
         }
     }
 }
@@ -67,8 +72,9 @@ pub enum View {
     Giving(Charter, u64),
     /// The sessions that it stands for.
     Sessions(Charter, LinkedList<Member>),
-    /// Its session holds the gate, and took the monitor out with this journal since the opening.
-    Holding(Charter, Member, LinkedList<Entry>),
+    /// Its session holds the gate, and took the monitor out, or published it, with this journal since the opening. So
+    /// many words of accesses are blank.
+    Holding(Charter, Member, LinkedList<Entry>, u64),
 }
 
 /// The gate's rule, which each atomic step keeps.

@@ -1,5 +1,5 @@
 //! How two sessions meet.
-ghost use Rattle.std.specs.Prelude.{◌≡◌};
+ghost use Rattle.std.specs.Prelude.{◌≡◌, ◌+◌};
 ghost use Rattle.mls_sessions.specs.Rule.{member};
 ghost use Rattle.mls_sessions.specs.Steps.{longer, Agree};
 ghost use Rattle.mls_sessions.specs.Sessions.{member_of, seated};
@@ -11,7 +11,7 @@ use crate::steps::{Gather, Look, Move, Part};
 /// Joins the seats of two sessions, looks, and parts them again, both with the longer of the two histories.
 pub(crate) fn meet_at(gate: &Gate, mine: &mut GateSeat, theirs: &mut GateSeat)
     requires office { (mine.old.table_id ≡ gate.now.table_id) × (theirs.old.table_id ≡ gate.now.table_id)
-        × (gate.now.table_id.words ≡ 1) }
+        × (gate.now.table_id.words ≡ gate.now.key.cells + 1) }
     requires sessions { (mine.old.me ≡ seated gate.now.key (member_of mine.old.me.0))
         × (theirs.old.me ≡ seated gate.now.key (member_of theirs.old.me.0)) }
     ensures office { (mine.new.table_id ≡ gate.now.table_id) × (theirs.new.table_id ≡ gate.now.table_id) }

@@ -6,6 +6,7 @@ ghost use Rattle.mls_sessions.specs.Rule.{begun, base, base_length};
 ghost use Rattle.mls_sessions.specs.Sessions.{is_count, newcomers, Ascending, Leaves};
 
 use crate::backoff::Backoff;
+use crate::cells::cells_for;
 use crate::closing::take_home;
 use crate::gate_table::GateTable;
 use crate::limits::MAX_SESSIONS;
@@ -25,12 +26,13 @@ use std::marker::Model;
 pub struct Office {
     pub(crate) table: GateTable,
     pub(crate) lobby: Lobby,
+    pub(crate) cells: u32,
     count: u32,
     base: u64,
 }
 
 impl Model for Office {
-    ghost use Rattle.std.specs.Prelude.{◌≡◌, ◌<◌};
+    ghost use Rattle.std.specs.Prelude.{◌≡◌, ◌<◌, ◌+◌};
     ghost use Rattle.mls_sessions.specs.Rule.{base_length};
     ghost use Rattle.mls_sessions.specs.Sessions.{Office, office_at, office_code};
 
@@ -40,8 +42,9 @@ impl Model for Office {
 
     ghost view = { λ o. office_at o.table.shared.table_id o.table.shared.key };
 
-    ghost invariant = { λ o. (o.table.shared.table_id.words ≡ 1) × (o.table.shared.table_id.slots ≡ 1) × (0 < o.count)
-        × (o.count ≡ o.table.shared.key.count) × (o.base ≡ base_length o.table.shared.key) };
+    ghost invariant = { λ o. (o.table.shared.table_id.words ≡ o.cells + 1) × (o.table.shared.table_id.slots ≡ 1)
+        × (0 < o.count) × (o.count ≡ o.table.shared.key.count) × (o.cells ≡ o.table.shared.key.cells)
+        × (o.base ≡ base_length o.table.shared.key) };
 }
 
 impl Office {
@@ -83,7 +86,8 @@ impl Office {
             });
         };
         let base = monitor.next_number();
-        let (table, mut seat) = match open_table(alloc, monitor, count) {
+        let cells = cells_for(monitor.state().subject_count());
+        let (table, mut seat) = match open_table(alloc, monitor, count, cells) {
             Ok(made) => made,
             Err(fault) => return Err(fault),
         };
@@ -91,6 +95,7 @@ impl Office {
         let office = Office {
             table,
             lobby: Lobby::new(Backoff::standard(), n),
+            cells,
             count,
             base,
         };
@@ -126,6 +131,7 @@ impl Office {
         let Office {
             table,
             lobby: _,
+            cells: _,
             count: _,
             base: _,
         } = self;

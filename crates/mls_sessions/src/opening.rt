@@ -1,5 +1,5 @@
 //! How an office opens: the monitor is put in, and each session gets a seat.
-ghost use Rattle.std.specs.Prelude.{◌≡◌, ◌≤◌, [], vec_len, vec_capacity, IfOk, IfErr};
+ghost use Rattle.std.specs.Prelude.{◌≡◌, ◌+◌, ◌≤◌, [], vec_len, vec_capacity, IfOk, IfErr};
 ghost use Rattle.mls_sessions.specs.declared.gate_table.View.TheVariants.{Starting, Giving};
 ghost use Rattle.mls_sessions.specs.Journals.{journal, charter_of};
 ghost use Rattle.mls_sessions.specs.Rule.{begun, base, base_length};
@@ -16,7 +16,7 @@ use std::alloc::Global;
 
 /// Puts the monitor into the empty slot.
 pub(crate) fn settle(gate: &Gate, seat: &mut GateSeat, monitor: BoxedMonitor)
-    requires office { (seat.old.table_id ≡ gate.now.table_id) × (gate.now.table_id.words ≡ 1) }
+    requires office { (seat.old.table_id ≡ gate.now.table_id) × (gate.now.table_id.words ≡ gate.now.key.cells + 1) }
     requires first { (seat.old.me ≡ (Starting gate.now.key, []))
         × (monitor ≡ journal (begun gate.now.key) gate.now.key.forgotten (base gate.now.key)) }
     ensures seat { (seat.new.table_id ≡ seat.old.table_id) × (seat.new.id ≡ seat.old.id) }
@@ -27,7 +27,7 @@ pub(crate) fn settle(gate: &Gate, seat: &mut GateSeat, monitor: BoxedMonitor)
     put_home::<Settle>(gate, seat, monitor);
 }
 
-/// A table for so many sessions, with the monitor in its slot, and its first seat.
+/// A table for so many sessions, with so many words of accesses and the monitor in its slot, and its first seat.
 ///
 /// # Errors
 /// `Memory` where an allocation failed, with the monitor as it was handed in.
@@ -35,15 +35,23 @@ pub(crate) fn open_table(
     alloc: Global,
     monitor: Monitor,
     count: u32,
+    cells: u32,
 ) -> Result<(GateTable, GateSeat), OfficeFault>
-    ensures table { IfOk result (λ r. (r.0.shared.table_id.words ≡ 1) × (r.0.shared.table_id.slots ≡ 1)) }
-    ensures charter { IfOk result (λ r. r.0.shared.key ≡ charter_of monitor count) }
+    ensures table { IfOk result
+        (λ r. (r.0.shared.table_id.words ≡ r.0.shared.key.cells + 1) × (r.0.shared.table_id.slots ≡ 1)) }
+    ensures charter { IfOk result (λ r. r.0.shared.key ≡ charter_of monitor count cells) }
     ensures seat { IfOk result
         (λ r. (r.1.table_id ≡ r.0.shared.table_id) × (r.1.me ≡ (Giving r.0.shared.key count, []))) }
     ensures err { IfErr result (λ fault. (fault.kind ≡ OfficeFaultKind.Memory) × (fault.monitor ≡ monitor)) }
 {
-    let charter = Charter::of(&monitor, u64::from(count));
-    let made: Result<(GateTable, GateSeat), _> = GateTable::vacant(alloc, &[FREE], 1, &charter);
+    let charter = Charter::of(&monitor, u64::from(count), u64::from(cells));
+    let Ok(words) = Vec::from_elem(alloc, FREE, cells as usize + 1) else {
+        return Err(OfficeFault {
+            kind: OfficeFaultKind::Memory,
+            monitor,
+        });
+    };
+    let made: Result<(GateTable, GateSeat), _> = GateTable::vacant(alloc, &words, 1, &charter);
     let Ok((table, mut seat)) = made else {
         return Err(OfficeFault {
             kind: OfficeFaultKind::Memory,
@@ -70,7 +78,7 @@ pub(crate) fn give_all(
     count: u32,
     base: u64,
 )
-    requires office { (seat.old.table_id ≡ gate.now.table_id) × (gate.now.table_id.words ≡ 1) }
+    requires office { (seat.old.table_id ≡ gate.now.table_id) × (gate.now.table_id.words ≡ gate.now.key.cells + 1) }
     requires first { (seat.old.me ≡ (Giving gate.now.key count, [])) × (count ≡ gate.now.key.count)
         × (base ≡ base_length gate.now.key) }
     requires room { (sessions.old.items ≡ []) × (count ≤ vec_capacity sessions.old) }

@@ -1,10 +1,11 @@
 //! A session: what one thread asks of the monitor, and what it has seen of the journal.
-ghost use Rattle.std.specs.Prelude.{◌≡◌, [], length};
+ghost use Rattle.std.specs.Prelude.{◌≡◌, ◌≤◌, [], length};
 ghost use Rattle.mls_sessions.specs.Journals.{Charter};
 ghost use Rattle.mls_sessions.specs.Rule.{member, base_length};
 ghost use Rattle.mls_sessions.specs.Sessions.{session_at, seated, IsOf, Meets, history, own, number_of};
 
 mod asking;
+mod checking;
 
 use crate::counts::Counts;
 use crate::gate_table::GateSeat;
@@ -80,14 +81,16 @@ impl Session {
         self.counts.made
     }
 
-    /// How long the session's history is: how many entries of the journal it has seen.
+    /// A length that the session's history has at least: that of the journal when the session, or one that it met, last
+    /// had the gate.
     pub fn seen(&self) -> u64
-        ensures { result ≡ length (history self.now.view) }
+        ensures { result ≤ length (history self.now.view) }
     {
         self.counts.seen
     }
 
     /// Gives both sessions the longer of their two histories; the shorter was a prefix of it. It doesn't wait.
+    #[tactic(auto, using(crate::proofs::Meetings::met_counts))]
     pub fn meet(&mut self, other: &mut Session, office: &Office)
         requires { IsOf office.now self.old × IsOf office.now other.old }
         ensures office { IsOf office.now self.new × IsOf office.now other.new }

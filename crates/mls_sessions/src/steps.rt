@@ -1,6 +1,6 @@
 //! The kinds of atomic step, each with what it tells the seat that makes it.
 ghost use Rattle.mls_sessions.specs.Steps.{filled, settled, won, marked, kept, updated, looked, left_of, right_of};
-ghost use Rattle.mls_sessions.specs.Steps.{both_of, first_of_two, second_of_two};
+ghost use Rattle.mls_sessions.specs.Steps.{both_of, first_of_two, second_of_two, glanced, read, published, blanked};
 ghost use Rattle.mls_sessions.specs.declared.gate_table.View.TheVariants.{Spent};
 
 use crate::boxed_monitor::BoxedMonitor;
@@ -47,6 +47,34 @@ pub struct Update;
 
 impl Play<Option<BoxedMonitor>, View> for Update {
     ghost then = { updated };
+}
+
+/// A session reads a word of accesses with no lock.
+pub struct Glance;
+
+impl Play<Option<BoxedMonitor>, View> for Glance {
+    ghost then = { glanced };
+}
+
+/// The holder reads a word of accesses.
+pub struct Read;
+
+impl Play<Option<BoxedMonitor>, View> for Read {
+    ghost then = { read };
+}
+
+/// The entries of the monitor in the slot are in the present journal from here on.
+pub struct Publish;
+
+impl Play<Option<BoxedMonitor>, View> for Publish {
+    ghost then = { published };
+}
+
+/// The holder makes the next word of accesses blank.
+pub struct Blank;
+
+impl Play<Option<BoxedMonitor>, View> for Blank {
+    ghost then = { blanked };
 }
 
 /// Two sessions in one seat look at what they know.

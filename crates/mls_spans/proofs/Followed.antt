@@ -95,7 +95,7 @@ begun_is v w n s (Delete o) = refl
 begun_is v w n s (SubjectLevel l) = refl
 begun_is v w n s (ObjectLevel o l) = refl
 
-fold-push : (v : State) (es : List Entry) (e : Entry) → fold v (es ++ e ∷ []) ≡ after (fold v es) e.request
+pub fold-push : (v : State) (es : List Entry) (e : Entry) → fold v (es ++ e ∷ []) ≡ after (fold v es) e.request
 fold-push v [] e = refl
 fold-push v (x ∷ es) e = fold-push (after v x.request) es e
 

@@ -12,3 +12,10 @@ mod UsageRows
 mod Usages
 mod KeptSteps
 mod Texts
+mod Reaching
+mod TurnSteps
+mod Turned
+mod Pairing
+mod EverRows
+mod EverListed
+mod EverTimes

@@ -8,3 +8,8 @@ pub mod Uses
 pub mod Kept
 pub mod UsageLines
 pub mod UsageListings
+pub mod Windows
+pub mod Turning
+pub mod Permissions
+pub mod EverLines
+pub mod EverListings

@@ -1,22 +1,33 @@
-//! The spans of states in which an access is held, and how permissions are used over states.
+//! The spans of states in which an access is held or would be granted, and how permissions are used over states.
 #![tactic(auto)]
 
 mod choosing;
+mod ever;
+mod ever_lines;
 mod following;
+mod granting;
 mod held;
 mod held_lines;
 mod opening;
+mod permissions;
+mod reach;
 mod span;
 mod states;
 mod sweeping;
 mod tally;
 mod tallying;
+mod turn;
+mod turning;
+mod turns_over;
 mod usage;
 mod usage_lines;
 mod uses;
 mod using;
+mod window;
+mod windows;
 
 pub use choosing::{Choice, Filter, Words};
+pub use ever::list_ever;
 pub use held::list_held;
 pub use span::{Ending, Span};
 pub use states::States;

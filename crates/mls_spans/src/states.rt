@@ -1,8 +1,10 @@
 //! Which states are asked about.
 ghost use Rattle.std.specs.Prelude.{◌≡◌, Some};
 ghost use Rattle.mls_spans.specs.Asked.{state_before, state_after, first_state, is_up_to, meets};
+ghost use Rattle.mls_spans.specs.Asked.{has_window, is_some_state};
 
 use crate::span::Span;
+use crate::window::Window;
 
 /// The states that are asked about, by their numbers: state N is the one before entry N, and the last one is behind all
 /// entries.
@@ -59,5 +61,30 @@ impl States {
             None => true,
         };
         self.is_begun(span) && is_late
+    }
+
+    /// Whether a span in which a get would be granted has one of them.
+    pub(crate) fn have(&self, window: &Window) -> bool
+        ensures { result ≡ has_window self.now window.now }
+    {
+        let is_begun = match (window.opened, self.last) {
+            (Some(opened), Some(last)) => opened < last,
+            _ => true,
+        };
+        let is_late = match window.closed {
+            Some(closed) => self.first <= closed,
+            None => true,
+        };
+        is_begun && is_late
+    }
+
+    /// Whether there is one of them.
+    pub(crate) fn are_some(&self) -> bool
+        ensures { result ≡ is_some_state self.now }
+    {
+        match self.last {
+            Some(last) => self.first <= last,
+            None => true,
+        }
     }
 }

@@ -39,7 +39,7 @@ fn entries_from(entries: &[Entry], first: u64) -> &[Entry]
 }
 
 /// The entries between the first and the last of some states.
-fn entries_between(entries: &[Entry], states: States) -> &[Entry]
+pub(crate) fn entries_between(entries: &[Entry], states: States) -> &[Entry]
     ensures { result.now ≡ between states entries.now }
 {
     entries_from(entries_up_to(entries, states.last), states.first)

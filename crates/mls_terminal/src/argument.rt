@@ -29,14 +29,18 @@ pub(crate) enum Kind {
     TimeForAt,
     /// An option with a number of 32 bits.
     Session,
-    /// An option with the bytes of a segment, that can't stand beside this option.
-    SegmentWithout(&'static str),
+    /// An option with the bytes of a segment.
+    Segment,
     /// An option with the number of an entry.
     Entry,
     /// An option with the number of an entry that can't stand beside the options `--from` and `--to`.
     EntryOrRange,
     /// An option with the number of an entry of the journal that the option `--journal` names.
     EntryOfJournal,
+    /// An option with the number of an entry, that stands beside the option `--ever` alone.
+    EntryOfEver,
+    /// An option with a time, that stands beside the options `--marks` and `--ever` alone.
+    TimeOfEver,
     /// An option without a value.
     Flag,
     /// An option without a value that can't stand beside this option.
@@ -45,6 +49,9 @@ pub(crate) enum Kind {
     FlagWithoutEither(&'static str, &'static str),
     /// An option without a value that stands beside this option alone.
     FlagBeside(&'static str),
+    /// An option without a value that stands beside the option `--journal` alone, and beside no option that asks for
+    /// one state of the journal.
+    FlagOfStates,
 }
 
 /// An argument of a command.
@@ -106,20 +113,26 @@ impl Argument {
             Kind::Session => {
                 Ok(with_value(arg, self.name, "K").value_parser(clap::value_parser!(u32)))
             }
-            Kind::SegmentWithout(other) => with_value(arg, self.name, "BYTES")
-                .value_parser(clap::value_parser!(u32).range(LEAST_SEGMENT..=GREATEST_SEGMENT))
-                .conflicts_with(other),
+            Kind::Segment => Ok(with_value(arg, self.name, "BYTES").value_parser(
+                clap::value_parser!(u32).range(LEAST_SEGMENT..=GREATEST_SEGMENT),
+            )),
             Kind::Entry => Ok(with_entry(arg, self.name)),
             Kind::EntryOrRange => with_entry(arg, self.name)
                 .conflicts_with("from")?
                 .conflicts_with("to"),
             Kind::EntryOfJournal => with_entry(arg, self.name).requires_arg("journal"),
+            Kind::EntryOfEver => with_entry(arg, self.name).requires_arg("ever"),
+            Kind::TimeOfEver => with_time(arg, self.name)?.requires_arg("ever"),
             Kind::Flag => Ok(as_flag(arg, self.name)),
             Kind::FlagWithout(other) => as_flag(arg, self.name).conflicts_with(other),
             Kind::FlagWithoutEither(one, other) => as_flag(arg, self.name)
                 .conflicts_with(one)?
                 .conflicts_with(other),
             Kind::FlagBeside(other) => as_flag(arg, self.name).requires_arg(other),
+            Kind::FlagOfStates => as_flag(arg, self.name)
+                .requires_arg("journal")?
+                .conflicts_with("at")?
+                .conflicts_with("when"),
         }
     }
 

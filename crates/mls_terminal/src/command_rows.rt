@@ -176,7 +176,7 @@ const SERVE_ARGUMENTS: [Argument; 11] = [
     },
     Argument {
         name: "segment",
-        kind: Kind::SegmentWithout("marks"),
+        kind: Kind::Segment,
         help: "Closes the journal's file before it has more than BYTES bytes, as FILE.N with the number of its first \
             entry, keeps the state in FILE.state.N, from which the next start begins, and goes on with a new FILE",
     },
@@ -217,11 +217,36 @@ const EXPLAIN_ARGUMENTS: [Argument; 6] = [
 ];
 
 /// The arguments of `who`.
-const WHO_ARGUMENTS: [Argument; 7] = [
+const WHO_ARGUMENTS: [Argument; 12] = [
     OF_JOURNAL,
     AT,
     MARKS_OF_JOURNAL,
     WHEN,
+    Argument {
+        name: "ever",
+        kind: Kind::FlagOfStates,
+        help: "Prints who could get it in any state of the journal, and from which entry to which",
+    },
+    Argument {
+        name: "from",
+        kind: Kind::EntryOfEver,
+        help: "Who could in the state before entry N, counted from 0, or later",
+    },
+    Argument {
+        name: "to",
+        kind: Kind::EntryOfEver,
+        help: "Who could in the state after entry N, or earlier",
+    },
+    Argument {
+        name: "since",
+        kind: Kind::TimeOfEver,
+        help: "Who could in the state at TIME, or later",
+    },
+    Argument {
+        name: "until",
+        kind: Kind::TimeOfEver,
+        help: "Who could in the state after the last batch in MARKS whose time is TIME, or earlier",
+    },
     START,
     Argument {
         name: "OBJ",
@@ -486,9 +511,11 @@ pub(crate) const COMMANDS: [CommandRow; 16] = [
         name: "who",
         about: "Prints which subjects are permitted OBJ and in which modes, and for each whether a get would be \
             granted now, or else why not and with which current label it would be; nothing for #N where there \
-            is no object N. The status is 0 where one would be granted, else 4",
-        example: "Example: mls who examples/standard.json memo read. mls state prints who holds what. Who holds \
-            write on the parent may give permissions, and on the root whoever is trusted",
+            is no object N. With --ever, for each permission that there was, from which entry of the journal to which \
+            its get would have been granted. The status is 0 where one would be granted, else 4",
+        example: "Examples: mls who examples/standard.json memo read; mls who --ever --journal office.journal \
+            examples/office.json salaries. mls state prints who holds what. Who holds write on the parent may give \
+            permissions, and on the root whoever is trusted",
         arguments: &WHO_ARGUMENTS,
     },
     CommandRow {

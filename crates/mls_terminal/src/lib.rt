@@ -21,6 +21,6 @@ pub use held::Held;
 pub use job::{Job, RunWords, ServeWords, VerifyWords};
 pub use output::{NO_MEMORY, NOT_WRITTEN, file_refused, is_taken, print, refused, write_bytes};
 pub use progress::Progress;
-pub use question::{HeldWords, JournalWords, Question, Source, UsageWords};
+pub use question::{EverWords, HeldWords, JournalWords, Question, Source, UsageWords};
 pub use times::now;
 pub use words::read_words;

@@ -2,6 +2,7 @@
 use mls_marks::Time;
 use mls_reports::{Form, Words};
 use mls_spans::{States, Words as HeldFilter};
+use mls_tables::Mode;
 
 /// The files of a question about a state: that of a start, or the one that a journal leads to.
 #[derive(Clone, Copy, Debug)]
@@ -42,6 +43,25 @@ pub struct HeldWords<'a> {
     pub filter: HeldFilter<'a>,
 }
 
+/// What `who --ever` is asked for.
+#[derive(Clone, Copy, Debug)]
+pub struct EverWords<'a> {
+    pub start: &'a str,
+    pub journal: &'a str,
+    /// The file of the journal's marks, where there is one.
+    pub marks: Option<&'a str>,
+    pub object: &'a str,
+    pub mode: Option<Mode>,
+    /// The number of the entry before which the first state is that is asked about.
+    pub from: Option<u64>,
+    /// The number of the entry after which the last one is.
+    pub to: Option<u64>,
+    /// The time from which on states are asked about.
+    pub since: Option<Time>,
+    /// The time of the last batch after which one is.
+    pub until: Option<Time>,
+}
+
 /// What `usage` is asked for.
 #[derive(Clone, Copy, Debug)]
 pub struct UsageWords<'a> {
@@ -70,6 +90,8 @@ pub enum Question<'a> {
         object: &'a str,
         mode: Option<&'a str>,
     },
+    /// Who could ever get an object over a journal.
+    WhoEver(EverWords<'a>),
     /// What subjects may change.
     Powers {
         source: Source<'a>,

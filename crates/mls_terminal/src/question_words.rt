@@ -1,6 +1,6 @@
 //! What the words of a question ask for.
 use crate::job::Job;
-use crate::question::{HeldWords, JournalWords, Question, Source, UsageWords};
+use crate::question::{EverWords, HeldWords, JournalWords, Question, Source, UsageWords};
 use crate::times::{time_by, time_from};
 use crate::words_fault::{FormedOption, WordsFault};
 use clap::ArgMatches;
@@ -190,17 +190,50 @@ pub(crate) fn explain_words<'a>(matches: &ArgMatches<'a>) -> Result<Job<'a>, Wor
     }))
 }
 
-/// What `who` was asked for.
+/// What `who` was asked for about one state.
 ///
 /// # Errors
 /// `Time` where a word is to be a time and is none.
-pub(crate) fn who_words<'a>(matches: &ArgMatches<'a>) -> Result<Job<'a>, WordsFault<'a>> {
+fn who_now<'a>(matches: &ArgMatches<'a>) -> Result<Job<'a>, WordsFault<'a>> {
     let when = when(matches)?;
     Ok(Job::Question(Question::Who {
         source: source(matches, matches.get_str("journal"), when),
         object: operand(matches, "OBJ"),
         mode: matches.get_str("MODE"),
     }))
+}
+
+/// What `who` was asked for about the states of a journal.
+///
+/// # Errors
+/// `Above` where the first number is above the last, else `Time` where a word is to be a time and is none.
+fn who_ever<'a>(matches: &ArgMatches<'a>) -> Result<Job<'a>, WordsFault<'a>> {
+    let (from, to) = range(matches)?;
+    let since = time_from(FormedOption::Since, matches.get_str("since"))?;
+    let until = time_by(FormedOption::Until, matches.get_str("until"))?;
+    let mode = matches.get_str("MODE");
+    Ok(Job::Question(Question::WhoEver(EverWords {
+        start: operand(matches, "START"),
+        journal: operand(matches, "journal"),
+        marks: matches.get_str("marks"),
+        object: operand(matches, "OBJ"),
+        mode: mode.and_then(|mode| read_mode(mode.as_bytes())),
+        from,
+        to,
+        since,
+        until,
+    })))
+}
+
+/// What `who` was asked for.
+///
+/// # Errors
+/// `Above` where the first number is above the last, else `Time` where a word is to be a time and is none.
+pub(crate) fn who_words<'a>(matches: &ArgMatches<'a>) -> Result<Job<'a>, WordsFault<'a>> {
+    if matches.get_flag("ever") {
+        return who_ever(matches);
+    }
+    who_now(matches)
 }
 
 /// What `powers` was asked for.

@@ -9,6 +9,8 @@ mod files;
 mod journals;
 mod keeper;
 #[cfg(test)]
+mod marked_files;
+#[cfg(test)]
 mod marked_service;
 #[cfg(test)]
 mod marks_verified;

@@ -1,7 +1,11 @@
 //! The commands over files.
-use mls_files::{command_refused, compare_states, fault_file, read_journal, start_file};
-use mls_replay::{CommandFault, check_start, replay_journal};
-use mls_terminal::{Progress, file_refused, print};
+use mls_files::{
+    Goal, Wanted, command_refused, fault_file, judge_start, read_journal, see, segments_of,
+    start_file,
+};
+use mls_monitor::Start;
+use mls_replay::{CommandFault, check_start, ending, replay_journal};
+use mls_terminal::{NO_MEMORY, Progress, file_refused, print, refused};
 use std::io::IsTerminal;
 use std::process::ExitCode;
 
@@ -43,6 +47,49 @@ pub fn check(progress: &mut Progress<'_>, start: &str) -> ExitCode {
     status
 }
 
+/// Replays the files of a journal in segments over a start, and says how the monitor then stands.
+fn replay_all(
+    progress: &mut Progress<'_>,
+    wanted: Wanted<'_>,
+    start: Start,
+    bytes: &[u8],
+) -> ExitCode {
+    let seen = match see(progress, wanted, start, bytes) {
+        Ok(seen) => seen,
+        Err(status) => return status,
+    };
+    let text = ending(progress.rt().alloc(), &seen.monitor);
+    drop(seen);
+    progress.end();
+    match text {
+        Ok(text) => print(progress.rt(), text.as_bytes()),
+        Err(_) => refused(progress.rt(), NO_MEMORY, 1),
+    }
+}
+
+/// Replays the files of a journal in segments over the bytes of a start file, and compares each state that was kept.
+fn replay_segments(
+    progress: &mut Progress<'_>,
+    bytes: &[u8],
+    start: &str,
+    journal: &str,
+    path: &str,
+) -> ExitCode {
+    let (names, opened) = match judge_start(progress, start, bytes) {
+        Ok(loaded) => loaded.into_parts(),
+        Err(status) => return status,
+    };
+    let wanted = Wanted {
+        name: journal,
+        journal: path,
+        names: &names,
+        goal: Goal::All,
+    };
+    let status = replay_all(progress, wanted, opened, bytes);
+    drop(names);
+    status
+}
+
 /// Replays a journal whose start file was read.
 fn replay_over(progress: &mut Progress<'_>, bytes: &[u8], start: &str, journal: &str) -> ExitCode {
     let entries = match read_journal(progress, journal) {
@@ -51,14 +98,19 @@ fn replay_over(progress: &mut Progress<'_>, bytes: &[u8], start: &str, journal: 
     };
     progress.begin("replaying");
     let replayed = replay_journal(progress.rt().alloc(), bytes, &entries);
-    let compared = match &replayed {
-        Ok(_) => compare_states(progress, start, bytes, journal, &entries),
-        Err(_) => Ok(()),
-    };
     drop(entries);
-    match compared {
-        Ok(()) => ended(progress, replayed, start, journal),
-        Err(status) => status,
+    ended(progress, replayed, start, journal)
+}
+
+/// Replays a journal over the bytes of a start file: a segment at a time, where it is in segments.
+fn replay_bytes(progress: &mut Progress<'_>, bytes: &[u8], start: &str, journal: &str) -> ExitCode {
+    match segments_of(progress.rt(), journal) {
+        Some(path) => {
+            let status = replay_segments(progress, bytes, start, journal, &path);
+            drop(path);
+            status
+        }
+        None => replay_over(progress, bytes, start, journal),
     }
 }
 
@@ -68,7 +120,7 @@ pub fn replay(progress: &mut Progress<'_>, start: &str, journal: &str) -> ExitCo
         Ok(bytes) => bytes,
         Err(fault) => return file_refused(progress, start, fault),
     };
-    let status = replay_over(progress, &bytes, start, journal);
+    let status = replay_bytes(progress, &bytes, start, journal);
     drop(bytes);
     status
 }

@@ -1,20 +1,17 @@
-//! What a session asks of the monitor: an entry, or whether a triple is a current access; waiting for the gate, or not.
+//! What a session asks the monitor for: an entry, or what a feed gave; waiting for the gate, or not.
 ghost use Rattle.std.specs.Prelude.{◌≡◌, ◌≢◌, ◌<◌, ◌≤◌, ◌∷◌, [], length, take, vec_len, vec_capacity, IfOk, IfErr};
-ghost use Rattle.std.specs.Prelude.{IsOk, OnOk, OnErr};
-ghost use Rattle.std.specs.FinSet as set;
-ghost use Rattle.mls_monitor.specs.Journal.{fold};
-ghost use Rattle.mls_sessions.specs.Rule.{begun};
-ghost use Rattle.mls_sessions.specs.Sessions.{IsOf, Submits, Sees, history, number_of};
+ghost use Rattle.std.specs.Prelude.{OnOk, OnErr};
+ghost use Rattle.mls_sessions.specs.Sessions.{IsOf, Submits, number_of};
 ghost use Rattle.mls_sessions.specs.Feeds.{Learns};
 
 use crate::gate::{named, win};
 use crate::office::Office;
 use crate::session::Session;
-use crate::try_fault::{Busy, TryFault};
-use crate::turn::{inspect, record, record_all, wait};
+use crate::try_fault::TryFault;
+use crate::turn::{record, record_all};
+use crate::waiting::wait;
 use mls_monitor::Answer;
 use mls_requests::{Ask, Entry, Request};
-use mls_tables::{Mode, ObjectId, SubjectId};
 use std::alloc::AllocError;
 use std::sync::Wait;
 
@@ -42,6 +39,7 @@ impl Session {
         let monitor = wait(office, rt, &mut self.seat, &mut self.pace, number, 1);
         record(
             gate,
+            office.cells,
             &mut self.seat,
             &mut self.counts,
             monitor,
@@ -68,6 +66,7 @@ impl Session {
         match win(gate, &mut self.seat, named(number)) {
             Ok(monitor) => match record(
                 gate,
+                office.cells,
                 &mut self.seat,
                 &mut self.counts,
                 monitor,
@@ -78,60 +77,6 @@ impl Session {
                 Err(_) => Err(TryFault::Memory),
             },
             Err(_) => Err(TryFault::Busy),
-        }
-    }
-
-    /// Waits for the gate, and returns whether the triple is a current access; false where it names an unknown subject
-    /// or an object that isn't active. The history grows by what others added, and the answer is that of the state
-    /// which it led to.
-    pub fn check<R: Wait>(
-        &mut self,
-        office: &Office,
-        rt: &R,
-        s: SubjectId,
-        o: ObjectId,
-        x: Mode,
-    ) -> bool
-        requires { IsOf office.now self.old }
-        ensures office { IsOf office.now self.new }
-        ensures number { number_of self.new.view ≡ number_of self.old.view }
-        ensures seen { Sees office.now.charter self.old.view self.new.view }
-        ensures answer { let b = (fold (begun office.now.charter) (history self.new.view)).accesses in result
-            ≡ set.contains b (s, o, x) }
-    {
-        let gate = &office.table.shared;
-        let number = self.number();
-        let taken = wait(office, rt, &mut self.seat, &mut self.pace, number, 1);
-        inspect(gate, &mut self.seat, &mut self.counts, taken, s, o, x)
-    }
-
-    /// As [`check`](Session::check), but it doesn't wait.
-    ///
-    /// # Errors
-    /// `Busy` where another session held the gate; the session is then as before. An office of one session is never
-    /// busy.
-    pub fn try_check(
-        &mut self,
-        office: &Office,
-        s: SubjectId,
-        o: ObjectId,
-        x: Mode,
-    ) -> Result<bool, Busy>
-        requires { IsOf office.now self.old }
-        ensures office { IsOf office.now self.new }
-        ensures number { number_of self.new.view ≡ number_of self.old.view }
-        ensures seen { IfOk result (λ _. Sees office.now.charter self.old.view self.new.view) }
-        ensures answer { let b =
-            (fold (begun office.now.charter) (history self.new.view)).accesses in IfOk result
-            (λ is_held. is_held ≡ set.contains b (s, o, x)) }
-        ensures busy { OnErr result (self.new ≡ self.old) }
-        ensures alone { office.now.charter.count ≡ 1 → IsOk result }
-    {
-        let gate = &office.table.shared;
-        let name = named(self.number());
-        match win(gate, &mut self.seat, name) {
-            Ok(monitor) => Ok(inspect(gate, &mut self.seat, &mut self.counts, monitor, s, o, x)),
-            Err(_) => Err(Busy),
         }
     }
 
@@ -189,6 +134,7 @@ impl Session {
         let taken = wait(office, rt, &mut self.seat, &mut self.pace, number, turn);
         record_all(
             gate,
+            office.cells,
             &mut self.seat,
             &mut self.counts,
             taken,

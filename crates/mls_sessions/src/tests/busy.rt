@@ -13,20 +13,10 @@ use mls_tables::{Mode, ObjectId, SubjectId};
 use std::process::Abort;
 use std::test::Fail;
 
-/// The second session is told that the gate is busy, and has seen and made what it had.
-fn is_busy(rt: &impl Abort, office: &Office, second: &mut Session)
-    requires { IsOf office.now second.old }
-    ensures { IsOf office.now second.new }
-{
-    let before = (second.made(), second.seen());
-    assert!(rt; second.try_submit(office, get_read()) == Err(TryFault::Busy));
-    assert!(rt; second.try_check(office, SubjectId(0), ObjectId(0), Mode::Read) == Err(Busy));
-    assert!(rt; (second.made(), second.seen()) == before);
-}
-
-/// The second session gets its answer.
+/// The second session makes an entry, and its check writes a word.
 fn is_answered(rt: &impl Abort, office: &Office, second: &mut Session)
     requires { IsOf office.now second.old }
+    ensures { IsOf office.now second.new }
 {
     match second.try_submit(office, get_read()) {
         Ok(entry) => assert!(rt; entry.number == 0 && entry.reply == Reply::Yes),
@@ -36,7 +26,20 @@ fn is_answered(rt: &impl Abort, office: &Office, second: &mut Session)
     assert!(rt; second.made() == 1 && second.seen() == 1);
 }
 
-/// The first session takes the monitor out, and puts it home once the second has tried.
+/// The second session is told that the gate is busy, but where it reads the word that was written; it has seen and made
+/// what it had.
+fn is_busy(rt: &impl Abort, office: &Office, second: &mut Session)
+    requires { IsOf office.now second.old }
+    ensures { IsOf office.now second.new }
+{
+    let before = (second.made(), second.seen());
+    assert!(rt; second.try_submit(office, get_read()) == Err(TryFault::Busy));
+    assert!(rt; second.try_check(office, SubjectId(0), ObjectId(1), Mode::Read) == Err(Busy));
+    assert!(rt; second.try_check(office, SubjectId(0), ObjectId(0), Mode::Read) == Ok(true));
+    assert!(rt; (second.made(), second.seen()) == before);
+}
+
+/// The first session takes the monitor out, and puts it home once the second has tried, which is then answered.
 fn holds_and_puts_home(rt: &impl Abort, office: &Office, first: Session, second: &mut Session)
     requires { IsOf office.now first × IsOf office.now second.old }
 {
@@ -50,6 +53,7 @@ fn holds_and_puts_home(rt: &impl Abort, office: &Office, first: Session, second:
     let mut counts = Counts { made: 0, seen: 0 };
     let is_held = inspect(
         gate,
+        office.cells,
         &mut seat,
         &mut counts,
         monitor,
@@ -57,8 +61,8 @@ fn holds_and_puts_home(rt: &impl Abort, office: &Office, first: Session, second:
         ObjectId(0),
         Mode::Read,
     );
-    assert!(rt; !is_held && counts.seen == 0);
-    is_answered(rt, office, second);
+    assert!(rt; is_held && counts.seen == 1);
+    assert!(rt; second.try_check(office, SubjectId(0), ObjectId(1), Mode::Read) == Ok(false));
 }
 
 #[test]
@@ -72,6 +76,7 @@ fn a_held_gate_is_busy(rt: HostRuntime) -> Result<(), Fail> {
     let Some(first) = sessions.pop() else {
         panic!(rt; "two sessions")
     };
+    is_answered(&rt, &office, &mut second);
     holds_and_puts_home(&rt, &office, first, &mut second);
     drop(second);
     drop(office);

@@ -125,6 +125,7 @@ fn assert_leaves(rt: &impl Abort, alloc: Global, setting: &Setting<'_>, wanted: 
             let outside = Memory::new(alloc, found, 100);
             let keeper = MemoryMarks {
                 lines: Vec::new(alloc),
+                synced: Vec::new(alloc),
                 time,
                 good: setting.good,
             };

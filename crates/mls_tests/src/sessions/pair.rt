@@ -53,7 +53,7 @@ fn ask_and_meet<R: Wait + Abort>(rt: &R, office: &Office, first: &mut Session, s
 }
 
 /// What the second session gives up the first no longer has, and what it is given the first knows of, though they never
-/// met.
+/// met: by a check that needs no turn at the gate, so that it counts no entry more. Then they meet.
 fn give_up_and_on<R: Wait + Abort>(
     rt: &R,
     office: &Office,
@@ -67,6 +67,8 @@ fn give_up_and_on<R: Wait + Abort>(
     assert!(rt; !first.check(office, rt, ANN, PLANS, Mode::Read) && knows(first, 2, 1));
     assert!(rt; is_granted(rt, office, second, get(ANN, Mode::Read, PLANS), 2, 1));
     assert!(rt; first.check(office, rt, ANN, PLANS, Mode::Read));
+    assert!(rt; knows(first, 2, 1) && knows(second, 3, 2));
+    first.meet(second, office);
     assert!(rt; knows(first, 3, 1) && knows(second, 3, 2));
 }
 

@@ -1,5 +1,5 @@
-use Rattle.std.proofs.Common.{◌≡◌, ℕ, List, [], ◌∷◌, Option, Some, refl, sym, ap, ◌∙◌, subst}
-use Rattle.mls_durable.specs.History.{Event, Found, IsAtRest, ahead}
+use Rattle.std.proofs.Common.{◌≡◌, ℕ, List, [], ◌∷◌, Option, Some, refl, sym, ◌∙◌, subst}
+use Rattle.mls_durable.specs.History.{Event, Found, IsAtRest}
 use Rattle.mls_marks.specs.Serving.{IsQuiet}
 use Rattle.mls_tests.proofs.Pushed.{first_file}
 use Rattle.mls_tests.proofs.journal.marked_service.run.Goals as goal
@@ -15,5 +15,4 @@ serve_marked-served-requires c = record {
   at_rest = λ h is. (opened h c.requires.0 (one_history h (Found c.requires.0 ∷ []) (sym is ∙ c.requires.1))).0;
   quiet = λ h is. (opened h c.requires.0 (one_history h (Found c.requires.0 ∷ []) (sym is ∙ c.requires.1))).1;
   behind = λ h is. first_file c.requires.0 h c.in-Ok-open.monitor.entries c.requires.1 is c.in-Ok-open.ensures.ok.entries;
-  one_file = λ h is. ap ahead (one_history h (Found c.requires.0 ∷ []) (sym is ∙ c.requires.1));
 }

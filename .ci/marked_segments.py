@@ -1,0 +1,353 @@
+"""Marks beside segments: one chain over all files of a journal, no mark of two, and MARKS synced before a file is closed; what a start
+compares, what it refuses, and what only mls verify finds."""
+import os
+import random
+import signal
+import subprocess
+import threading
+from errno import EIO, ENOSPC
+
+import durable_segments
+import marks
+from durable_marks import flip, verified, verify
+from durable_segments import CUT, KILLS_OF_A_JOURNAL, LATEST_KILL, SEGMENT, drawn, is_cut_well
+from outside import SECONDS, in_its_folder, needs_proof, put, ran_program, same, shown
+from segments import joined, numbered, remove, segment
+from serving import LINES, STANDARD, Due, Serving, content, failed, is_kept, ready, served, shim, words_of
+
+BOTH = (*CUT, "--marks", "m")
+
+
+def emptied(journal):
+    """Takes a journal and its marks away."""
+    remove(journal)
+    remove("m")
+
+
+def asked(journal, due, *flags):
+    """Serves lines to their end, with all answers that are due."""
+    wanted = (0, ready(due.next - due.journal.count(b"\n")) + due.answers, b"")
+    same(served(due.asked, journal, *BOTH, *flags), wanted)
+
+
+def filled(journal, count=1_500):
+    """A journal in segments with marks, anew, of so many lines; returns what is due."""
+    emptied(journal)
+    due = drawn(count)
+    asked(journal, due)
+    return due
+
+
+def in_small_batches(journal, count=500):
+    """The same, where each line is a batch: there are more marks than a start looks through one by one."""
+    emptied(journal)
+    due = drawn(count)
+    with Serving(journal, *BOTH) as run:
+        run.says(ready(0))
+        for line in due.lines:
+            run.ask(line.asked)
+            run.says(line.answer)
+        same(run.end(), (0, b"", b""))
+    assert len(content("m")) > 6 * SEGMENT and len(numbered(journal)) > 1
+    return due
+
+
+def is_marked(journal):
+    """The marks agree with all files together and cover all of them, and each closed one ends with a mark; returns them."""
+    whole, found = joined(journal), marks.read(content("m"))
+    count = whole.count(b"\n")
+    same(marks.covered(whole, found), count)
+    firsts = {*numbered(journal), *([first_of(journal)] if content(journal) else [])}
+    same({number - 1 for number in firsts if number} - {it.number for it in found}, set())
+    same(verify(journal), (0, verified(count, found), b""))
+    return found
+
+
+def first_of(journal):
+    """The number of the live file's first entry."""
+    return int(content(journal).split(b" ", 1)[0])
+
+
+def marks_of_a_journal_that_is_cut():
+    """The files are those that there are without marks; the chain goes on over files and over starts, and questions read all files by it."""
+    due = filled("c")
+    is_cut_well("c", due.journal)
+    assert len(numbered("c")) > 5
+    is_marked("c")
+    more = drawn(700, due.next)
+    asked("c", more, "--recover")
+    is_cut_well("c", due.journal + more.journal)
+    found = is_marked("c")
+    same(served(b"", "c", *BOTH, "--from-start"), (0, ready(more.next), b""))
+    same(marks.read(content("m")), found)
+    whole, middle = put("whole", joined("c")), found[len(found) // 2]
+    for words in (["journal"], ["journal", "--since", middle.time.decode()], ["journal", "--json", "--until", middle.time.decode()],
+                  ["state", "--when", middle.time.decode()]):
+        of = [ran_program([*words, "--marks", "m", STANDARD, name]) for name in ("c", whole)]
+        same((words, of[0]), (words, of[1]))
+
+
+def put_marks(found):
+    put("m", marks.text_of(found))
+
+
+def content_of(found):
+    """The lines of marks."""
+    return marks.text_of(found).splitlines(keepends=True)
+
+
+def start_over_marks():
+    """A start compares the marks of its own file from the first on, and none before; mls verify compares all."""
+    for fill in (filled, in_small_batches):
+        starts_over_marks(fill("s"))
+
+
+def starts_over_marks(due):
+    while not content("s"):
+        due = drawn(10, due.next)
+        asked("s", due)
+    count, first, true = joined("s").count(b"\n"), first_of("s"), is_marked("s")
+    border = next(place for place, it in enumerate(true) if it.number == first - 1)
+    assert border > 3 and border + 1 < len(true), (border, len(true))
+
+    def differing(place):
+        it = true[place]
+        return [*true[:place], it._replace(digest=bytes.fromhex(flip(it.digest.hex().encode()).decode())), *true[place + 1 :]]
+
+    for place, status in ((0, 0), (border // 2, 0), (border - 1, 0), (border + 1, 3), (len(true) - 1, 3)):
+        put_marks(differing(place))
+        noted, told = content("m"), b"mls: m: differs at entry %d\n" % true[place].number
+        same((place, verify("s")), (place, (3, b"", told)))
+        same((place, served(b"", "s", *BOTH)), (place, (0, ready(count), b"") if status == 0 else (3, b"", told)))
+        same(content("m"), noted)
+    # (the digest at the border decides over those behind it)
+    put_marks(differing(border))
+    same(served(b"", "s", *BOTH), (3, b"", b"mls: m: differs at entry %d\n" % true[border + 1].number))
+    # (lines that are no marks: those of the live file's marks are counted from its first on)
+    for place in (0, border // 2, border - 1):
+        lines = content_of(true)
+        lines[place] = b"x" + lines[place]
+        put("m", b"".join(lines))
+        same(served(b"", "s", *BOTH), (0, ready(count), b""))
+        same(verify("s"), (1, b"", b"mls: m: line %d: mark\n" % (place + 1)))
+    for place in (border + 1, len(true) - 1):
+        lines = content_of(true)
+        lines[place] = b"x" + lines[place]
+        put("m", b"".join(lines))
+        same(served(b"", "s", *BOTH), (1, b"", b"mls: m: line %d: mark\n" % (place - border)))
+    # (a torn end is that of the live file's marks)
+    put("m", marks.text_of(true[:-1]) + marks.text_of(true[-1:])[:30])
+    last = true[-2].number
+    same(served(b"", "s", *BOTH), (1, b"", b"mls: m: torn after entry %d\n" % last))
+    same(served(b"", "s", *BOTH, "--recover"), (0, ready(count), b"mls: m: cut after entry %d\n" % last))
+    is_marked("s")
+    put_marks(true)
+    same(served(b"", "s", *BOTH), (0, ready(count), b""))
+
+
+def marks_that_are_no_end_of_a_segment():
+    """Where no mark has the number of the entry before the live file, MARKS is refused, and stays as it was."""
+    for fill in (filled, in_small_batches):
+        fill("e")
+        are_no_end()
+
+
+def are_no_end():
+    count, last = joined("e").count(b"\n"), (first_of("e") if content("e") else joined("e").count(b"\n")) - 1
+    true = is_marked("e")
+    border = next(place for place, it in enumerate(true) if it.number == last)
+    after = true[border + 1].number if border + 1 < len(true) else last
+    whole, times = joined("e"), [it.time for it in true]
+    ends = [it.number + 1 for place, it in enumerate(true) if place != border]
+    rows = [([], last), (true[:border], last), (true[: border // 2], last), (true[:border] + true[border + 1 :], after)]
+    if after != last:
+        # (one that spans it)
+        rows.append((marks.made(whole, ends, times[: len(ends)]), after))
+    for found, entry in rows:
+        put_marks(found)
+        for flags in ((), ("--recover",)):
+            same((entry, served(b"", "e", *BOTH, *flags)), (entry, (3, b"", b"mls: m: differs at entry %d\n" % entry)))
+        same(content("m"), marks.text_of(found))
+    put_marks(true)
+    same(served(b"", "e", *BOTH), (0, ready(count), b""))
+
+
+def marks_begun_later():
+    """A journal whose closed files have no marks is refused with them; one whose only file has none yet gets them."""
+    emptied("l")
+    due = drawn(1_500)
+    same(served(due.asked, "l", *CUT)[0], 0)
+    last = (first_of("l") if content("l") else due.next) - 1
+    same(served(b"", "l", *BOTH), (3, b"", b"mls: m: differs at entry %d\n" % last))
+    emptied("l")
+    due = drawn(40)
+    same(served(due.asked, "l", *CUT)[0], 0)
+    asked("l", drawn(900, due.next))
+    is_marked("l")
+
+
+def segment_that_is_forged_with_its_marks():
+    """An entry of a closed file that is another session's replays, and the states after it are the same. With the marks as they were it
+    differs there; with marks made anew only yesterday's digest finds it. A start, which compares its own file, goes on."""
+    due = filled("f")
+    whole, found = joined("f"), is_marked("f")
+    yesterday = found[-1].digest.hex()
+    more = drawn(100, due.next)
+    asked("f", more)
+    found = is_marked("f")
+    same(verify("f", "m", "--digest", yesterday)[0], 0)
+    number = numbered("f")[2]
+    path, told = segment("f", number), b"%d 0 " % number
+    os.chmod(path, 0o600)
+    text = content(path)
+    assert text.startswith(told)
+    put(path, b"%d 7 " % number + text[len(told):])
+    forged = joined("f")
+    assert forged != whole and len(forged) == len(whole) + len(more.journal)
+    same(ran_program(["replay", STANDARD, "f"])[0], 0)
+    differs = next(it.number for it in found if it.number >= number)
+    refused = (3, b"", b"mls: m: differs at entry %d\n" % differs)
+    same((verify("f"), verify("f", "m", "--digest", yesterday)), (refused, refused))
+    same(served(b"", "f", *BOTH), (0, ready(more.next), b""))
+    anew = marks.made(forged, [it.number + 1 for it in found], [it.time for it in found])
+    put_marks(anew)
+    same(verify("f"), (0, verified(more.next, anew), b""))
+    same(verify("f", "m", "--digest", yesterday), (3, b"", b"mls: m: no such digest\n"))
+    same(served(b"", "f", *BOTH), (0, ready(more.next), b""))
+
+
+def marks_of_an_archive():
+    """Once the first file is moved away a start goes on, which compares the marks of its own; mls verify says that the first entries lack, and
+    a question with marks that these differ."""
+    due = filled("a")
+    found = is_marked("a")
+    os.remove(segment("a", numbered("a")[0]))
+    same(served(b"", "a", *BOTH), (0, ready(due.next), b""))
+    same(verify("a"), (3, b"", b"mls: a: replay 1 Number at 0\n"))
+    same(ran_program(["journal", "--marks", "m", STANDARD, "a"]), (3, b"", b"mls: m: differs at entry %d\n" % found[0].number))
+
+
+def state_that_is_forged_under_marks():
+    """mls verify compares the states, as mls replay does."""
+    filled("t")
+    last = durable_segments.state("t", numbered("t", "state.")[-1])
+    forged = content(last).replace(b"permit aud read plans\n", b"", 1)
+    assert forged != content(last)
+    put(last, forged)
+    same(verify("t"), (3, b"", b"mls: " + last.encode() + b": differs\n"))
+
+
+# crashes, and calls that fail
+
+
+def goes_on(journal, before, due, written):
+    """The next service goes on from what is left, and all that is there then is marked."""
+    status, output, _ = served(b"", journal, *BOTH, "--recover", "--from-start")
+    same(status, 0)
+    now = joined(journal)
+    is_kept(now, before, due, written)
+    same(output, ready(now.count(b"\n")))
+    is_marked(journal)
+    return now
+
+
+def is_killed_once(rnd, journal, before):
+    due = Due(rnd.choices(LINES, k=1_500), before.count(b"\n"))
+    said = ready(before.count(b"\n"))
+    with Serving(journal, *BOTH, "--recover") as run:
+        output = run.read(len(said)) if rnd.random() < 0.7 else b""
+        killer = threading.Timer(rnd.uniform(0, LATEST_KILL), run.run.kill)
+        killer.start()
+        run.feed(due.asked, rnd.choice((20, 200, 5_000, 70_000)), closes=False)
+        output += run.run.stdout.read()
+        killer.join()
+        same(run.run.wait(), -signal.SIGKILL)
+    assert said.startswith(output[: len(said)]), shown(output[:100])
+    written, now = output[len(said):], joined(journal)
+    is_kept(now, before, due, written)
+    noted = content("m") if os.path.exists("m") else b""
+    covered = marks.covered(now, marks.read(noted[: noted.rfind(b"\n") + 1]))
+    needed = (before + due.behind(written)).count(b"\n")
+    assert not output or covered >= needed, f"{needed} entries were answered, {covered} have a mark"
+    return goes_on(journal, before, due, written), len(written)
+
+
+@needs_proof
+def kills_between_segments_that_are_marked():
+    """Every answer that the client had got is in the files, with its mark, and the next service goes on."""
+    rnd, before, answered = random.Random(5250), b"", []
+    for turn in range(durable_segments.KILLS):
+        if turn % KILLS_OF_A_JOURNAL == 0:
+            emptied("k")
+            before = b""
+        before, written = is_killed_once(rnd, "k", before)
+        answered.append(written)
+        if turn % KILLS_OF_A_JOURNAL == KILLS_OF_A_JOURNAL - 1:
+            is_cut_well("k", before)
+    many = sum(count > 0 for count in answered)
+    assert many > durable_segments.KILLS // 4, f"only {many} were killed after an answer"
+
+
+def run_over_a_disk(**words):
+    """Serves the lines of a file, all by one read, over the shim. Returns what is due, the status, what was written before and for the
+    answers, the error text and the calls on files."""
+    emptied("d")
+    if os.path.exists("notes"):
+        os.remove("notes")
+    due = drawn(400)
+    put("lines", due.asked)
+    env = shim(notes=os.path.abspath("notes"), **words)
+    with open("lines", "rb") as lines:
+        done = subprocess.run(words_of("d", *BOTH), stdin=lines, capture_output=True, timeout=SECONDS, env=env)
+    said = ready(0) if done.stdout.startswith(ready(0)) else b""
+    notes = [line.split() for line in content("notes").decode().splitlines()] if os.path.exists("notes") else []
+    calls = [note for note in notes if note[1] != "out"]
+    return due, done.returncode, said, done.stdout[len(said):], done.stderr, calls
+
+
+def sync_of_marks_before_a_segment_is_closed():
+    """MARKS is synced behind the last mark of a file and before anything is written to close it. Where that fails no file is closed, and no
+    state is kept; so it is where the mark can't be appended. It is told, with status 5, and the next service goes on."""
+    due, status, said, written, error, calls = run_over_a_disk()
+    same((status, said, written, error), (0, ready(0), due.answers, b""))
+    steps = [f"{call} {name[:8]}" for call, name, *_ in calls]
+    closings = [place for place, step in enumerate(steps) if step == "write d.state."]
+    assert len(closings) > 1, steps
+    for place in closings:
+        same(steps[place - 1], "sync m")
+    same(steps[closings[0] - 2], "write m")
+    of_marks = [call for call, name, *_ in calls[: closings[1]] if name == "m"]
+    for call, place in [(it, count) for it in ("write", "sync") for count in range(1, of_marks.count(it) + 1)]:
+        for errno in (ENOSPC, EIO):
+            due, status, said, written, error, _ = run_over_a_disk(of="m", call=call, fail=place, errno=errno)
+            what = (call, place, errno)
+            same((what, status, error), (what, 5, failed("m", {"write": "append", "sync": "sync"}[call], errno)))
+            done = [number for number in numbered("d", "state.")]
+            assert len(done) < 2, (what, done)
+            same((what, bool(numbered("d"))), (what, bool(done)))
+            if said:
+                is_kept(joined("d"), b"", due, written)
+            goes_on("d", b"", due, written)
+
+
+def kill_before_each_call_on_marks():
+    """A kill before each call on MARKS, and before each call that closes a file, loses nothing that was answered."""
+    _, _, _, _, _, calls = run_over_a_disk()
+    for call in ("write", "sync"):
+        for place in range(1, min(sum(note[:2] == [call, "m"] for note in calls), 12) + 1):
+            due, status, _, written, _, _ = run_over_a_disk(of="m", call=call, kill=place)
+            same((call, place, status), (call, place, -signal.SIGKILL))
+            goes_on("d", b"", due, written)
+
+
+CHECKS = [*map(in_its_folder, [
+    marks_of_a_journal_that_is_cut,
+    start_over_marks,
+    marks_that_are_no_end_of_a_segment,
+    marks_begun_later,
+    segment_that_is_forged_with_its_marks,
+    marks_of_an_archive,
+    state_that_is_forged_under_marks,
+    kills_between_segments_that_are_marked,
+])]
+OVER_THE_SHIM = [*map(in_its_folder, [sync_of_marks_before_a_segment_is_closed, kill_before_each_call_on_marks])]

@@ -1,0 +1,147 @@
+//! The steps of the session that holds the gate on the words of accesses, by which entries join the present journal.
+ghost use Rattle.std.specs.Prelude.{◌≡◌, ◌+◌, ◌<◌, ◌++◌, ◌∷◌, [], ℕ, List, Some, None};
+ghost use mathlib.Core.Option as maybe;
+ghost use Rattle.atomic_table.specs.Table.{step, Allows};
+ghost use Rattle.mls_requests.specs.declared.entry.Entry.{Entry};
+ghost use Rattle.mls_monitor.specs.Journal.{fold};
+ghost use Rattle.mls_sessions.specs.Cells.{Tells, OneWord, QuietFrom};
+ghost use Rattle.mls_sessions.specs.Journals.{Journal, Stands};
+ghost use Rattle.mls_sessions.specs.Rule.{Gated, begun, base};
+ghost use Rattle.mls_sessions.specs.Sessions.{member_of, taken_of, number_of, blanking, holding, Holds, HasMore};
+ghost use Rattle.mls_sessions.specs.Steps.{published, published_view};
+
+use crate::boxed_monitor::BoxedMonitor;
+use crate::cells::BLANK;
+use crate::gate::{SLOT, WORD};
+use crate::gate_table::{Gate, GateSeat};
+use crate::steps::{Blank, Publish, Read};
+
+/// Lays the monitor into the slot.
+fn lay(gate: &Gate, seat: &mut GateSeat, monitor: BoxedMonitor)
+    requires office { (seat.old.table_id ≡ gate.now.table_id) × (seat.old.me.1 ≡ (0, None) ∷ []) }
+    ensures seat { (seat.new.table_id ≡ seat.old.table_id) × (seat.new.id ≡ seat.old.id) }
+    ensures lies { seat.new.me ≡ (seat.old.me.0, (0, Some monitor) ∷ []) }
+    ensures legal { Stands monitor.start monitor.entries }
+{
+    let _legal = monitor.entries();
+    match gate.exchange(seat, SLOT, Some(monitor)) {
+        None => {}
+        Some(_) => unreachable!(),
+    }
+}
+
+/// Takes the monitor up again.
+fn take_up(gate: &Gate, seat: &mut GateSeat) -> BoxedMonitor
+    requires office { seat.old.table_id ≡ gate.now.table_id }
+    requires lies { (m : Journal) × (seat.old.me.1 ≡ (0, Some m) ∷ []) }
+    ensures seat { (seat.new.table_id ≡ seat.old.table_id) × (seat.new.id ≡ seat.old.id) }
+    ensures out { seat.new.me ≡ (seat.old.me.0, (0, None) ∷ []) }
+    ensures same { (m : Journal) → seat.old.me.1 ≡ (0, Some m) ∷ [] → result ≡ m }
+{
+    match gate.exchange(seat, SLOT, None) {
+        Some(monitor) => monitor,
+        None => unreachable!(),
+    }
+}
+
+/// Stores a word of accesses, while the monitor lies in the slot.
+fn store_with(
+    gate: &Gate,
+    seat: &mut GateSeat,
+    monitor: BoxedMonitor,
+    at: u32,
+    word: u64,
+) -> BoxedMonitor
+    requires office { (seat.old.table_id ≡ gate.now.table_id) × (gate.now.table_id.words ≡ gate.now.key.cells + 1)
+        × (seat.old.me.1 ≡ (0, None) ∷ []) }
+    requires place { at < gate.now.key.cells }
+    requires rule { Stands monitor.start monitor.entries
+        → Allows (Gated gate.now.key) gate.now.table_id.slots seat.old.id (seat.old.me.0, (0, Some monitor) ∷ [])
+        (at + 1) (λ _. word) (λ _. published (step gate.now.table_id.slots (at + 1) word 0 maybe.none)
+        (seat.old.me.0, (0, Some monitor) ∷ []) word) }
+    ensures seat { (seat.new.table_id ≡ seat.old.table_id) × (seat.new.id ≡ seat.old.id) }
+    ensures told { seat.new.me ≡ (published_view seat.old.me.0 ((0, Some monitor) ∷ []), (0, None) ∷ []) }
+    ensures same { result ≡ monitor }
+{
+    lay(gate, seat, monitor);
+    gate.store::<Publish>(seat, at as usize + 1, word);
+    take_up(gate, seat)
+}
+
+/// Loads the gate's word, while the monitor lies in the slot.
+fn load_with(gate: &Gate, seat: &mut GateSeat, monitor: BoxedMonitor) -> BoxedMonitor
+    requires office { (seat.old.table_id ≡ gate.now.table_id) × (gate.now.table_id.words ≡ gate.now.key.cells + 1)
+        × (seat.old.me.1 ≡ (0, None) ∷ []) }
+    requires rule { Stands monitor.start monitor.entries
+        → Allows (Gated gate.now.key) gate.now.table_id.slots seat.old.id (seat.old.me.0, (0, Some monitor) ∷ []) 0
+        (λ n. n) (published (step gate.now.table_id.slots 0 0 0 maybe.none)
+        (seat.old.me.0, (0, Some monitor) ∷ [])) }
+    ensures seat { (seat.new.table_id ≡ seat.old.table_id) × (seat.new.id ≡ seat.old.id) }
+    ensures told { seat.new.me ≡ (published_view seat.old.me.0 ((0, Some monitor) ∷ []), (0, None) ∷ []) }
+    ensures same { result ≡ monitor }
+{
+    lay(gate, seat, monitor);
+    gate.load::<Publish>(seat, WORD);
+    take_up(gate, seat)
+}
+
+/// Lets entries into the present journal that change what one word tells, by the store of that word.
+pub(crate) fn store_word(
+    gate: &Gate,
+    seat: &mut GateSeat,
+    monitor: BoxedMonitor,
+    at: u32,
+    word: u64,
+) -> BoxedMonitor
+    requires office { (seat.old.table_id ≡ gate.now.table_id) × (gate.now.table_id.words ≡ gate.now.key.cells + 1) }
+    requires holds { seat.old.me ≡ holding gate.now.key (member_of seat.old.me.0) (taken_of seat.old.me.0) }
+    requires place { at < gate.now.key.cells }
+    requires entries { (added : List Entry) × HasMore gate.now.key seat.old.me added monitor
+        × OneWord (begun gate.now.key) (base gate.now.key ++ taken_of seat.old.me.0)
+        (base gate.now.key ++ (taken_of seat.old.me.0 ++ added)) at word }
+    ensures seat { (seat.new.table_id ≡ seat.old.table_id) × (seat.new.id ≡ seat.old.id) }
+    ensures holds { Holds gate.now.key result seat.new.me × (number_of seat.new.me.0 ≡ number_of seat.old.me.0) }
+    ensures same { result ≡ monitor }
+{
+    store_with(gate, seat, monitor, at, word)
+}
+
+/// Lets entries into the present journal, where so many words are blank and the others tell what they told.
+pub(crate) fn slip(gate: &Gate, seat: &mut GateSeat, monitor: BoxedMonitor) -> BoxedMonitor
+    requires office { (seat.old.table_id ≡ gate.now.table_id) × (gate.now.table_id.words ≡ gate.now.key.cells + 1) }
+    requires entries { (added : List Entry) × (blanks : ℕ) × HasMore gate.now.key seat.old.me added monitor
+        × (seat.old.me ≡ blanking gate.now.key (member_of seat.old.me.0) (taken_of seat.old.me.0) blanks)
+        × QuietFrom (begun gate.now.key) (base gate.now.key ++ taken_of seat.old.me.0)
+        (base gate.now.key ++ (taken_of seat.old.me.0 ++ added)) blanks gate.now.key.cells }
+    ensures seat { (seat.new.table_id ≡ seat.old.table_id) × (seat.new.id ≡ seat.old.id) }
+    ensures holds { Holds gate.now.key result seat.new.me × (number_of seat.new.me.0 ≡ number_of seat.old.me.0) }
+    ensures same { result ≡ monitor }
+{
+    load_with(gate, seat, monitor)
+}
+
+/// Makes all words of accesses blank.
+pub(crate) fn blank_all(gate: &Gate, seat: &mut GateSeat, cells: u32)
+    requires office { (seat.old.table_id ≡ gate.now.table_id) × (gate.now.table_id.words ≡ gate.now.key.cells + 1)
+        × (cells ≡ gate.now.key.cells) }
+    requires holds { seat.old.me ≡ holding gate.now.key (member_of seat.old.me.0) (taken_of seat.old.me.0) }
+    ensures seat { (seat.new.table_id ≡ seat.old.table_id) × (seat.new.id ≡ seat.old.id) }
+    ensures holds { seat.new.me
+        ≡ blanking gate.now.key (member_of seat.old.me.0) (taken_of seat.old.me.0) gate.now.key.cells }
+{
+    for i in 0..cells {
+        gate.store::<Blank>(seat, i as usize + 1, BLANK);
+    }
+}
+
+/// Reads the word at a place.
+pub(crate) fn read(gate: &Gate, seat: &mut GateSeat, at: u32) -> u64
+    requires office { (seat.old.table_id ≡ gate.now.table_id) × (gate.now.table_id.words ≡ gate.now.key.cells + 1) }
+    requires holds { seat.old.me ≡ holding gate.now.key (member_of seat.old.me.0) (taken_of seat.old.me.0) }
+    requires place { at < gate.now.key.cells }
+    ensures seat { (seat.new.table_id ≡ seat.old.table_id) × (seat.new.id ≡ seat.old.id) }
+    ensures same { seat.new.me ≡ seat.old.me }
+    ensures tells { Tells (fold (begun gate.now.key) (base gate.now.key ++ taken_of seat.old.me.0)) at result }
+{
+    gate.load::<Read>(seat, at as usize + 1)
+}
