@@ -13,7 +13,7 @@ import time
 import marks
 from durable_crashes import BATCHES, CALLS, LATEST_KILL, asked_in_batches, count_of, cut_line, notes_of
 from durable_marks import FRONT, MARKED, ONE, TORN_ENTRY, TORN_MARK, is_marked, marked, pair, put_pair
-from outside import IS_PROVED, PROGRAM, SECONDS, in_its_folder, put, rounds, same, shown, some
+from outside import IS_PROVED, PROGRAM, SECONDS, Started, in_its_folder, put, rounds, same, shown, some
 from serving import IN_SESSIONS, LINES, STANDARD, Due, Serving, content, failed, is_kept, ready, shim, status_of
 
 # How often a service is killed; check-durable has an option for it.
@@ -341,7 +341,7 @@ def loop_of_a_supervisor():
         put_pair(b"", b"")
         put("told", b"")
         streams = {"stdout": subprocess.PIPE, "stderr": subprocess.DEVNULL}
-        with subprocess.Popen(["sh", "-c", loop], start_new_session=True, env=shim(**words), **streams) as run:
+        with Started(["sh", "-c", loop], start_new_session=True, env=shim(**words), **streams) as run:
             if "kill" in words:
                 same((run.stdout.readline(), run.stdout.readline()), (b"again\n", b"again\n"))
                 os.killpg(run.pid, signal.SIGKILL)

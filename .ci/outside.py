@@ -44,6 +44,15 @@ def ran_program(words=(), script=b""):
     return done.returncode, done.stdout, done.stderr
 
 
+class Started(subprocess.Popen):
+    """A process that is killed where a check fails beside it: what it waits for may never come then."""
+
+    def __exit__(self, kind, *told):
+        if kind:
+            self.kill()
+        super().__exit__(kind, *told)
+
+
 def put(name, content):
     """Makes a file, and returns its name."""
     with open(name, "wb") as file:

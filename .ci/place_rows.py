@@ -6,7 +6,7 @@ import re
 
 import question_worlds as worlds
 import start_rows as rows
-from outside import example, needs_proof, put, ran_program, same
+from outside import example, needs_proof, put, ran_program, same, some
 
 SEED, DAMAGES = 1977, 240
 NAME = "s.json"
@@ -232,7 +232,7 @@ def cut_off(head):
 
 def files_that_are_cut():
     text = example("standard.json").rstrip()
-    for count in range(0, len(text), 7):
+    for count in some(range(0, len(text), 7), 9):
         same((count, places(text[:count])), (count, [cut_off(text[:count])]))
 
 

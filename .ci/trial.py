@@ -10,7 +10,7 @@ import subprocess
 import termios
 import time
 
-from outside import EXAMPLES, IS_PROVED, PROGRAM, SECONDS, TOP, needs_proof, put, ran, same, shown
+from outside import EXAMPLES, IS_PROVED, PROGRAM, SECONDS, TOP, Started, needs_proof, put, ran, same, shown
 
 SECONDS_OF_A_TRIAL = 900
 SECONDS_OF_NOTHING = 30
@@ -55,7 +55,7 @@ class Copy:
         """Starts bin/mls, which an interrupt ends also where whoever runs the checks ignores interrupts."""
         pipes = dict.fromkeys(("stdin", "stdout", "stderr"), subprocess.PIPE)
         heed = {"preexec_fn": lambda: signal.signal(signal.SIGINT, signal.SIG_DFL)}
-        return subprocess.Popen([self.mls, *words], **{**pipes, **heed, "env": self.env, **how})
+        return Started([self.mls, *words], **{**pipes, **heed, "env": self.env, **how})
 
     def ran(self, *words, script=FOUR, seconds=SECONDS):
         """What bin/mls gives: its status, its output and its error text."""
