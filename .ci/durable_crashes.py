@@ -64,11 +64,20 @@ def is_killed_once(rnd, journal, before):
     return recovered(journal, before, due, written), len(written)
 
 
+def turns(kills, a_journal, answered):
+    """The numbers of turns: so many kills, and on a busy machine, where at most a fourth of them came after an answer, as many again at
+    most, by whole journals."""
+    for turn in range(2 * kills):
+        if turn >= kills and turn % a_journal == 0 and sum(count > 0 for count in answered) > kills // 4:
+            return
+        yield turn
+
+
 @needs_proof
 def kills_under_a_client_that_writes():
     """300 times: every answer that the client had got is in the journal, and after --recover too."""
     rnd, before, answered = random.Random(39), b"", []
-    for turn in range(KILLS):
+    for turn in turns(KILLS, KILLS_OF_A_JOURNAL, answered):
         if turn % KILLS_OF_A_JOURNAL == 0:
             put("k", b"")
             before = b""

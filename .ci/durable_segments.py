@@ -7,6 +7,7 @@ import subprocess
 import threading
 from errno import EIO, ENOSPC
 
+from durable_crashes import turns
 from outside import IS_PROVED, SECONDS, in_its_folder, needs_proof, put, ran_program, same, shown, some
 from segments import joined, numbered, remove, segment, state
 from serving import LINES, STANDARD, Due, Serving, content, failed, is_kept, is_refused, mode_of, ready, served, shim, status_of, words_of
@@ -87,13 +88,14 @@ def objects_that_keep_their_numbers():
 
 
 def readers_of_segments():
-    """replay, verify, journal, state, explain, held, usage and compare say of the files what they say of the one journal, and a reader while
+    """replay, verify, journal, state, explain, held, usage, about and compare say of the files what they say of the one journal, and a reader while
     the service is at it reads what was there at some moment."""
     whole = put("all", filled("r").journal)
     marks = put("no.marks", b"")
     questions = [
         ["replay", STANDARD, "J"], ["journal", "--summary", STANDARD, "J"], ["journal", "--reply", "no", STANDARD, "J"],
         ["state", STANDARD, "J"], ["state", "--at", "500", STANDARD, "J"], ["held", STANDARD, "J"], ["usage", STANDARD, "J"],
+        ["about", "--journal", "J", STANDARD, "sec"], ["about", "--journal", "J", "--at", "500", STANDARD, "plans"],
         ["explain", "--journal", "J", "--at", "2", STANDARD], ["compare", STANDARD, STANDARD, "J"], ["verify", STANDARD, "J", marks],
     ]
     for words in questions:
@@ -446,7 +448,7 @@ def kills_between_segments():
     """300 times: every answer that the client had got is in the files, which together are one legal journal, and each state is that of its
     entry."""
     rnd, before, answered = random.Random(52), b"", []
-    for turn in range(KILLS):
+    for turn in turns(KILLS, KILLS_OF_A_JOURNAL, answered):
         if turn % KILLS_OF_A_JOURNAL == 0:
             remove("k")
             before = b""

@@ -9,6 +9,7 @@ from errno import EIO, ENOSPC
 
 import durable_segments
 import marks
+from durable_crashes import turns
 from durable_marks import flip, verified, verify
 from durable_segments import CUT, KILLS_OF_A_JOURNAL, LATEST_KILL, SEGMENT, drawn, is_cut_well
 from outside import SECONDS, in_its_folder, needs_proof, put, ran_program, same, shown
@@ -276,7 +277,7 @@ def is_killed_once(rnd, journal, before):
 def kills_between_segments_that_are_marked():
     """Every answer that the client had got is in the files, with its mark, and the next service goes on."""
     rnd, before, answered = random.Random(5250), b"", []
-    for turn in range(durable_segments.KILLS):
+    for turn in turns(durable_segments.KILLS, KILLS_OF_A_JOURNAL, answered):
         if turn % KILLS_OF_A_JOURNAL == 0:
             emptied("k")
             before = b""

@@ -11,7 +11,7 @@ import threading
 import time
 
 import marks
-from durable_crashes import BATCHES, CALLS, LATEST_KILL, asked_in_batches, count_of, cut_line, notes_of
+from durable_crashes import BATCHES, CALLS, LATEST_KILL, asked_in_batches, count_of, cut_line, notes_of, turns
 from durable_marks import FRONT, MARKED, ONE, TORN_ENTRY, TORN_MARK, is_marked, marked, pair, put_pair
 from outside import IS_PROVED, PROGRAM, SECONDS, Started, in_its_folder, put, rounds, same, shown, some
 from serving import IN_SESSIONS, LINES, STANDARD, Due, Serving, content, failed, is_kept, ready, shim, status_of
@@ -73,7 +73,7 @@ def is_killed_once(rnd, before):
 def kills_under_a_client_that_is_marked():
     """Every answer that the client had got is in the journal, and its entry has a mark."""
     rnd, before, answered = random.Random(50), b"", []
-    for turn in range(KILLS):
+    for turn in turns(KILLS, KILLS_OF_A_JOURNAL, answered):
         if turn % KILLS_OF_A_JOURNAL == 0:
             put_pair(b"", None)
             before = b""

@@ -2,7 +2,8 @@
 # The cost of checks: has 1, 2, 4 and 8 threads check while none, one or two others submit releases, through sessions (crates/mls_probes),
 # and in plain Rust with the same tables of bits behind a reader/writer lock and behind an atomic pointer (RCU that frees nothing, and copies the table at every 64th write). Prints
 # millions of checks a second by the clock, what a run of few checks takes taken off: the best of five runs of each kind, by turns. Those
-# who submit make as many entries as the checkers make checks, divided by 20, so that they are busy for most of a run.
+# who submit make as many entries as the checkers make checks, divided by 20, so that they are busy for most of a run. These checks are asked
+# by feeds of a run; last comes what a check takes that a session is asked directly.
 set -u
 export LC_ALL=C
 cd "$(dirname -- "$0")/.." || exit 1
@@ -43,4 +44,6 @@ for threads in (1, 2, 4, 8):
             many, few = (min(spent(words(threads, writers, all // threads, all // threads // 20)) for _ in range(5)) for all in (CHECKS, FEW))
             rates.append((CHECKS - FEW) / max(many - few, 1e-9) / 1e6)
         print(f"| {threads} | {writers} |", " | ".join(f"{rate:.1f}" for rate in rates), "|", flush=True)
+many, few = (min(spent([program, "alone", 1, 0, 0, 0, each]) for _ in range(5)) for each in (5 * CHECKS, FEW))
+print(f"a session that calls check itself, alone: {(many - few) * 1e9 / (5 * CHECKS - FEW):.1f} nanoseconds a check")
 TIMES

@@ -1,6 +1,7 @@
 /* Calls the library many times: `embed START WHAT COUNT`, where WHAT is check, decide, dominates, label (decided by
  * labels), explain, denied, held (a get of what is held already), granted (a get of what isn't, and its release, in
- * turn), delete, or cells, which looks up packed cells of four modes with no monitor. Prints nanoseconds a call. `delete` is for the start of bench/rules.sh in which subject 0
+ * turn), delete, or with no monitor: cells, which looks up packed cells of four modes, and plain, which decides the get of decide
+ * by the same conditions. Prints nanoseconds a call. `delete` is for the start of bench/rules.sh in which subject 0
  * writes object 1, and below this stand objects 2 to 11 with 60 below each, 12 to 611, that subjects 1 to 16 may read: all that is got,
  * and then COUNT of the ten are deleted. */
 #define _POSIX_C_SOURCE 199309L
@@ -25,6 +26,42 @@ static int __attribute__((noinline)) looked_up(uint16_t subject, uint16_t object
     if (subject >= 256 || object >= 4096 || mode >= 4) return 0;
     at = (size_t)subject * 4096 + object;
     return cells[at / 2] >> (at % 2 * 4 + mode) & 1;
+}
+
+struct label { uint64_t level, words[4]; };
+static struct { struct label maximum, current, integrity; uint8_t trusted; } subjects[4];
+static struct { struct label security, integrity; } objects[4];
+static struct { uint8_t active; uint16_t parent; } parents[4];
+static uint8_t matrix[4 * 2];
+static size_t subject_count = 4, object_count = 4, entry_count;
+
+static int dominates(const struct label *a, const struct label *b) {
+    return b->level <= a->level && !((b->words[0] & ~a->words[0]) | (b->words[1] & ~a->words[1]) | (b->words[2] & ~a->words[2]) |
+                                     (b->words[3] & ~a->words[3]));
+}
+
+/* The conditions of a get, as the monitor has them and in its order. */
+static uint16_t conditions_of(uint16_t s, uint16_t o, uint8_t x) {
+    const struct label *own, *label;
+    if (s >= subject_count || (o && (o >= object_count || !parents[o].active))) return MLS_UNDEFINED;
+    if (!(matrix[o * ((subject_count + 1) / 2) + s / 2] >> (s % 2 * 4 + x) & 1)) return MLS_DENIED + MLS_DISCRETIONARY;
+    label = &objects[o].security;
+    if ((x == MLS_READ || x == MLS_WRITE) && !dominates(&subjects[s].maximum, label)) return MLS_DENIED + MLS_SIMPLE;
+    own = &subjects[s].current;
+    if (!subjects[s].trusted && (((x == MLS_READ || x == MLS_WRITE) && !dominates(own, label)) ||
+                                 ((x == MLS_APPEND || x == MLS_WRITE) && !dominates(label, own)))) return MLS_DENIED + MLS_STAR;
+    own = &subjects[s].integrity, label = &objects[o].integrity;
+    if ((x != MLS_APPEND && !dominates(label, own)) || ((x == MLS_APPEND || x == MLS_WRITE) && !dominates(own, label)))
+        return MLS_DENIED + MLS_INTEGRITY;
+    return MLS_YES;
+}
+
+static int __attribute__((noinline)) plain(const mls_request_t *asked, mls_answer_t *answer) {
+    if (asked->action != MLS_GET || asked->mode >= 4) return MLS_EINVAL;
+    answer->number = entry_count;
+    answer->reply = conditions_of(asked->subject, asked->object, asked->mode);
+    answer->object = 0;
+    return MLS_OK;
 }
 
 /* Submits a request, which must be granted. */
@@ -78,7 +115,12 @@ int main(int argc, char **argv) {
         for (n = 0; n < count; n++) sum += (unsigned)mls_check(&m, n & 3, n >> 2 & 3, MLS_READ);
     else if (!strcmp(argv[2], "cells"))
         for (n = 0; n < count; n++) sum += (unsigned)looked_up(n & 3, n >> 2 & 3, MLS_READ);
-    else if (!strcmp(argv[2], "decide"))
+    else if (!strcmp(argv[2], "plain")) {
+        memset(matrix, 255, sizeof matrix);
+        for (n = 0; n < 4; n++) parents[n].active = 1, subjects[n].current.level = subjects[n].maximum.level = 2;
+        for (n = 0; n < count; n++) sum += (unsigned)plain(&get, &a) + a.reply;
+        if (sum) return 2;
+    } else if (!strcmp(argv[2], "decide"))
         for (n = 0; n < count; n++) sum += (unsigned)mls_decide(&m, &get, &a);
     else if (!strcmp(argv[2], "dominates"))
         for (n = 0; n < count; n++) sum += (unsigned)mls_dominates(&labels[n & 3], &labels[n >> 2 & 3]);

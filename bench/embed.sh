@@ -1,7 +1,8 @@
 #!/usr/bin/env bash
 # What the calls of the library for C cost: nanoseconds a call, the least of five runs, and instructions a call (by callgrind, the
-# difference of two counts). `cells` is a C program that looks up the same packed cells with no monitor. Submits are also timed with the
-# large pages that glibc asks for where it is told to.
+# difference of two counts), with those of the loop around it. With no monitor, `cells` looks up the same packed cells in plain C, and
+# `plain` decides the get of `decide` by the same conditions. Submits are also timed with the large pages that glibc asks for where it
+# is told to.
 set -u
 export LC_ALL=C
 cd "$(dirname -- "$0")/.." || exit 1
@@ -18,7 +19,7 @@ instructions() {
 }
 
 echo "call: nanoseconds, instructions"
-for row in "cells 100000000" "check 100000000" "decide 20000000" "dominates 100000000" "label 50000000" "explain 2000000" "denied 5000000" "held 5000000" "granted 5000000"; do
+for row in "cells 100000000" "check 100000000" "plain 20000000" "decide 20000000" "dominates 100000000" "label 50000000" "explain 2000000" "denied 5000000" "held 5000000" "granted 5000000"; do
   read -r what count <<<"$row"
   each="?"
   if command -v valgrind >/dev/null; then
@@ -27,5 +28,12 @@ for row in "cells 100000000" "check 100000000" "decide 20000000" "dominates 1000
   echo "$what: $(nanoseconds "$what" "$count"), $each"
 done
 cc -O2 -I"$folder/include" examples/rows.c "$folder/lib/libmls.a" -o "$folder/rows" && "$folder/rows" examples/standard.json ann || exit 1
+cc -O2 -I"$folder/include" bench/office.c "$folder/lib/libmls.a" -pthread -o "$folder/office" || exit 1
+clock() { for _ in 1 2 3 4 5; do "$folder/office" examples/standard.json "$1" "$2" "$3"; done | sort -n | head -n 1; }
+echo "sessions of an office, a handle each: nanoseconds by the clock for each call of all threads, with 1 thread and with 4"
+for row in "check 50000000" "decide 2000000" "denied 1000000" "granted 1000000"; do
+  read -r what count <<<"$row"
+  echo "$what, a session each: $(clock "$what" 1 "$count"), $(clock "$what" 4 "$count")"
+done
 export GLIBC_TUNABLES=glibc.malloc.hugetlb=1
-for what in denied granted; do echo "$what, large pages: $(nanoseconds "$what" 5000000)"; done
+for what in denied held granted; do echo "$what, large pages: $(nanoseconds "$what" 5000000)"; done

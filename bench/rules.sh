@@ -77,12 +77,14 @@ awk 'BEGIN {
     }
   }
 }' | start 612 >"$folder/start"
-deleting() {
-  valgrind --tool=callgrind --callgrind-out-file=/dev/null "$folder/embed" "$folder/start" delete "$1" 2>&1 >"$folder/answers" |
+calling() {
+  valgrind --tool=callgrind --callgrind-out-file=/dev/null "$folder/embed" "$folder/start" "$1" "$2" 2>&1 >"$folder/answers" |
     awk '/ Collected : / { print $4 }'
 }
 bin/build-c "$folder" && cc -O2 -I"$folder/include" bench/embed.c "$folder/lib/libmls.a" -o "$folder/embed" || exit 1
-echo "delete of 61 objects with 960 accesses, a call from C: $((($(deleting 10) - $(deleting 0)) / 10))"
+gets=$(calling delete 0)
+echo "delete of 61 objects with 960 accesses, a call from C: $((($(calling delete 10) - gets) / 10))"
+echo "get that is new, of 9,601, a call from C: $(((gets - $(calling check 0)) / 9601))"
 
 # Objects are created up to the last number.
 echo "cell 0 0 write" | start 96 >"$folder/start"

@@ -31,6 +31,10 @@ int mls_object_name_bytes(mls_monitor *m, uint16_t object, char *buf, size_t cap
 int mls_explain_rows(mls_monitor *m, const mls_request *request, mls_condition *rows, size_t cap, size_t *count, mls_remedy *remedy);
 int mls_state_start_bytes(mls_monitor *m, char *buf, size_t cap, size_t *len, uint16_t *numbers, size_t count);
 int mls_state_text_bytes(mls_monitor *m, char *buf, size_t cap, size_t *len);
+int mls_office_open_monitor(mls_office *office, mls_monitor *m, uint16_t count);
+int mls_office_close_monitor(mls_office *office, mls_monitor *m);
+int mls_office_hand_out(mls_office *office, mls_session *session);
+int mls_office_take_back(mls_office *office, mls_session *session);
 
 int mls_open(mls_monitor *m, const uint8_t *start, size_t len, mls_fault *fault) {
     return mls_open_bytes(m, bytes(start, len), len, fault);
@@ -84,6 +88,53 @@ int mls_state_text(mls_monitor *m, char *buf, size_t cap, size_t *len) {
     return mls_state_text_bytes(m, room(buf, cap), cap, len);
 }
 
+/* Gives the sessions with the numbers from n on back, ascending. All are of the office, with their numbers. */
+static int take_back(mls_office *office, mls_session *sessions, uint16_t n) {
+    int status = MLS_OK;
+    for (; n < office->count && status == MLS_OK; n++) status = mls_office_take_back(office, &sessions[n]);
+    return status;
+}
+
+int mls_office_open(mls_office *office, mls_monitor *m, mls_session *sessions, uint16_t count) {
+    uint16_t n;
+    int status;
+    if (count <= MLS_SESSIONS) {
+        for (n = 0; n < count; n++) {
+            if (sessions[n].held) return MLS_EOPEN;
+        }
+    }
+    status = mls_office_open_monitor(office, m, count);
+    if (status) return status;
+    office->count = count;
+    /* (the last of those that aren't handed out is handed out first) */
+    for (n = count; n > 0; n--) {
+        status = mls_office_hand_out(office, &sessions[n - 1]);
+        if (status) {
+            take_back(office, sessions, n);
+            mls_office_close_monitor(office, m);
+            return status;
+        }
+        sessions[n - 1].office = office->hall;
+        sessions[n - 1].number = n - 1;
+    }
+    return MLS_OK;
+}
+
+int mls_office_close(mls_office *office, mls_session *sessions, mls_monitor *m) {
+    uint16_t n;
+    int status;
+    if (m->held) return MLS_EOPEN;
+    if (!office->held) return MLS_ECLOSED;
+    for (n = 0; n < office->count; n++) {
+        if (sessions[n].office != office->hall || sessions[n].number != n) return MLS_EINVAL;
+    }
+    for (n = 0; n < office->count; n++) {
+        if (!sessions[n].held) return MLS_EBUSY;
+    }
+    status = take_back(office, sessions, 0);
+    return status ? status : mls_office_close_monitor(office, m);
+}
+
 static const char *word(const char *const *words, size_t count, int number) {
     return number >= 0 && (size_t)number < count ? words[number] : "?";
 }
@@ -92,7 +143,8 @@ const char *mls_version(void) { return VERSION(MLS_VERSION_MAJOR, MLS_VERSION_MI
 
 const char *mls_status_word(int status) {
     static const char *const words[] = {"ok", "closed", "open", "no memory", "invalid", "start refused", "journal refused",
-                                        "replay differs", "too short", "not found", "state refused"};
+                                        "replay differs", "too short", "not found", "state refused",
+                                        "busy"};
     return status > -(int)COUNT(words) ? word(words, COUNT(words), -status) : "?";
 }
 

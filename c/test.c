@@ -1427,9 +1427,133 @@ static void refused_going_on(void) {
     CHECK(live == before);
 }
 
+/* Closed handles of sessions, each call of which says so. */
+static void is_shut(mls_session *s) {
+    mls_request_t q = request(MLS_GET, ANN, MLS_READ, PLANS), bad = request(9, 0, 0, 0);
+    mls_answer_t a = no_answer;
+    int held = 7;
+    CHECK(s->held == 0 && s->place == NULL);
+    CHECK(mls_session_submit(s, &q, &a) == MLS_ECLOSED && mls_session_submit(s, &bad, &a) == MLS_ECLOSED);
+    CHECK(mls_session_decide(s, &q, &a) == MLS_ECLOSED && mls_session_decide(s, &bad, &a) == MLS_ECLOSED);
+    CHECK(mls_session_check(s, ANN, PLANS, MLS_READ, &held) == MLS_ECLOSED && held == 0);
+    CHECK(same_answer(&a, &no_answer));
+}
+
+/* An entry by a session: its reply. */
+static int entered(mls_session *s, mls_request_t q, uint64_t number) {
+    mls_answer_t a = no_answer, w = no_answer;
+    CHECK(mls_session_decide(s, &q, &w) == MLS_OK && mls_session_submit(s, &q, &a) == MLS_OK);
+    CHECK(a.number == number && same_answer(&a, &w));
+    return a.reply;
+}
+
+/* What a session is told of an access. */
+static int told(mls_session *s, uint16_t subject, uint16_t object) {
+    int held = 7;
+    CHECK(mls_session_check(s, subject, object, MLS_READ, &held) == MLS_OK);
+    return held;
+}
+
+static void offices(void) {
+    mls_t m = MLS_INIT, other = MLS_INIT;
+    mls_office office = MLS_OFFICE_INIT, second = MLS_OFFICE_INIT;
+    mls_session s[3] = {MLS_SESSION_INIT, MLS_SESSION_INIT, MLS_SESSION_INIT}, t[1] = {MLS_SESSION_INIT}, turned[3];
+    mls_request_t bad = request(9, 0, 0, 0);
+    mls_answer_t a = no_answer;
+    mls_entry_t e;
+    uint16_t n = 7;
+    int held = 7;
+    CHECK(mls_office_open(&office, &m, s, 3) == MLS_ECLOSED && mls_office_close(&office, s, &m) == MLS_ECLOSED);
+    open_standard(&m);
+    CHECK(asked(&m, request(MLS_GET, BOB, MLS_READ, MEMO)) == MLS_DENIED + MLS_STAR);
+    CHECK(mls_office_open(&office, &m, s, 0) == MLS_EINVAL && mls_office_open(&office, &m, s, 65) == MLS_EINVAL);
+    CHECK(mls_office_open(&office, &m, s, 3) == MLS_OK && office.held == 1 && s[0].held == 1 && s[2].held == 1);
+    is_closed(&m);
+    open_standard(&other);
+    CHECK(mls_office_open(&office, &other, t, 1) == MLS_EOPEN && mls_office_open(&second, &other, s, 1) == MLS_EOPEN);
+    CHECK(mls_office_open(&second, &other, t, 1) == MLS_OK);
+    /* each sees what the others made, and none sees the other office */
+    CHECK(told(&s[0], ANN, PLANS) == 0 && told(&t[0], ANN, PLANS) == 0);
+    CHECK(entered(&s[2], request(MLS_GET, ANN, MLS_READ, PLANS), 1) == MLS_YES);
+    CHECK(told(&s[0], ANN, PLANS) == 1 && told(&s[1], ANN, PLANS) == 1 && told(&t[0], ANN, PLANS) == 0);
+    CHECK(told(&s[0], 65535, 65535) == 0 && told(&s[0], ANN, 4095) == 0 && told(&s[0], 9, PLANS) == 0);
+    CHECK(entered(&s[0], request(MLS_GET, BOB, MLS_READ, MEMO), 2) == MLS_DENIED + MLS_STAR && told(&s[1], BOB, MEMO) == 0);
+    CHECK(entered(&s[1], request(MLS_RELEASE, ANN, MLS_READ, PLANS), 3) == MLS_YES && told(&s[2], ANN, PLANS) == 0);
+    CHECK(mls_session_submit(&s[0], &bad, &a) == MLS_EINVAL && mls_session_decide(&s[0], &bad, &a) == MLS_EINVAL);
+    CHECK(mls_session_check(&s[0], ANN, PLANS, 4, &held) == MLS_EINVAL && held == 0 && same_answer(&a, &no_answer));
+    /* what can't be closed is as it was */
+    CHECK(mls_office_close(&office, t, &m) == MLS_EINVAL);
+    turned[0] = s[1], turned[1] = s[0], turned[2] = s[2];
+    CHECK(mls_office_close(&office, turned, &m) == MLS_EINVAL);
+    CHECK(entered(&s[0], request(MLS_GET, ANN, MLS_READ, PLANS), 4) == MLS_YES && told(&t[0], ANN, PLANS) == 0);
+    CHECK(mls_office_close(&second, t, &other) == MLS_OK && other.held == 1 && mls_entries(&other) == 0);
+    is_shut(&t[0]);
+    CHECK(mls_office_close(&office, s, &other) == MLS_EOPEN);
+    CHECK(mls_office_close(&office, s, &m) == MLS_OK && m.held == 1 && !office.held);
+    is_shut(&s[0]);
+    is_shut(&s[2]);
+    CHECK(mls_office_close(&office, s, &other) == MLS_EOPEN);
+    /* the one journal, by sessions */
+    CHECK(mls_entries(&m) == 5 && mls_entry(&m, 0, &e) == MLS_OK && e.session == 5);
+    CHECK(mls_entry(&m, 1, &e) == MLS_OK && e.session == 2 && mls_entry(&m, 2, &e) == MLS_OK && e.session == 0);
+    CHECK(mls_entry(&m, 3, &e) == MLS_OK && e.session == 1 && e.reply == MLS_YES && e.request.action == MLS_RELEASE);
+    CHECK(mls_check(&m, ANN, PLANS, MLS_READ) == 1 && asked(&m, request(MLS_RELEASE, ANN, MLS_READ, PLANS)) == MLS_YES);
+    /* names are there again, and the office may be opened again; one without a session can't be closed */
+    CHECK(mls_subject(&m, (const uint8_t *)"sec", 3, &n) == MLS_OK && n == SEC);
+    CHECK(mls_office_open(&office, &m, s, 3) == MLS_OK);
+    mls_session_drop(&s[1]);
+    mls_session_drop(&s[1]);
+    is_shut(&s[1]);
+    CHECK(mls_office_close(&office, s, &m) == MLS_EBUSY && entered(&s[0], request(MLS_GET, ANN, MLS_READ, PLANS), 6) == MLS_YES);
+    mls_office_drop(&office);
+    mls_office_drop(&office);
+    CHECK(entered(&s[2], request(MLS_RELEASE, ANN, MLS_READ, PLANS), 7) == MLS_YES);
+    mls_session_drop(&s[0]);
+    mls_session_drop(&s[2]);
+    mls_close(&other);
+}
+
+/* Each allocation of an opening is refused in turn: the monitor is as it was. So is each of a submit. */
+static void refused_offices(void) {
+    mls_t m = MLS_INIT;
+    mls_office office = MLS_OFFICE_INIT;
+    mls_session s[2] = {MLS_SESSION_INIT, MLS_SESSION_INIT};
+    mls_request_t q = request(MLS_GET, BOB, MLS_READ, MEMO);
+    mls_answer_t a = no_answer;
+    long n, before = live, refusals = 0, made_none = 0;
+    int status;
+    open_standard(&m);
+    CHECK(asked(&m, request(MLS_GET, ANN, MLS_READ, PLANS)) == MLS_YES);
+    for (n = 0;; n++) {
+        long blocks = live;
+        left = n;
+        status = mls_office_open(&office, &m, s, 2);
+        left = -1;
+        if (status == MLS_OK) break;
+        CHECK(status == MLS_ENOMEM && live == blocks && m.held == 1 && !office.held && !s[0].held && !s[1].held);
+        CHECK(mls_entries(&m) == 1 && mls_check(&m, ANN, PLANS, MLS_READ) == 1);
+        refusals++;
+    }
+    CHECK(refusals > 10);
+    for (n = 0; n < 10000; n++) {
+        left = 0;
+        status = mls_session_submit(&s[n % 2], &q, &a);
+        left = -1;
+        made_none += status == MLS_ENOMEM;
+        CHECK(status == MLS_OK || (status == MLS_ENOMEM && mls_session_submit(&s[n % 2], &q, &a) == MLS_OK));
+        CHECK(a.number == (uint64_t)n + 1);
+    }
+    CHECK(made_none > 0);
+    left = 0;
+    CHECK(mls_office_close(&office, s, &m) == MLS_OK && mls_entries(&m) == 10001);
+    left = -1;
+    mls_close(&m);
+    CHECK(live == before);
+}
+
 static void words(void) {
-    CHECK(strcmp(mls_status_word(MLS_ENOTFOUND), "not found") == 0 && strcmp(mls_status_word(1), "?") == 0 && strcmp(mls_status_word(-11), "?") == 0);
-    CHECK(strcmp(mls_status_word(MLS_ESTATE), "state refused") == 0);
+    CHECK(strcmp(mls_status_word(MLS_ENOTFOUND), "not found") == 0 && strcmp(mls_status_word(1), "?") == 0 && strcmp(mls_status_word(-12), "?") == 0);
+    CHECK(strcmp(mls_status_word(MLS_ESTATE), "state refused") == 0 && strcmp(mls_status_word(MLS_EBUSY), "busy") == 0);
     CHECK(strcmp(mls_action_word(MLS_OBJECT_LEVEL), "relabel") == 0 && strcmp(mls_action_word(8), "?") == 0);
     CHECK(strcmp(mls_mode_word(MLS_WRITE), "write") == 0 && strcmp(mls_mode_word(-1), "?") == 0);
     CHECK(strcmp(mls_reply_word(MLS_UNDEFINED), "undefined") == 0 && strcmp(mls_reply_word(MLS_DENIED + MLS_FULL), "no") == 0);
@@ -1521,6 +1645,8 @@ int main(int argc, char **argv) {
     tell("states of other starts", states_of_other_starts);
     tell("stores that go on", stores_that_go_on);
     tell("going on without memory", refused_going_on);
+    tell("offices", offices);
+    tell("offices without memory", refused_offices);
     tell("words", words);
     tell("words of lines", words_of_lines);
     printf("%d passed, %d failed\n", passed, failed);

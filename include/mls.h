@@ -11,9 +11,13 @@
  * - Pointers are valid for what they are lent for, aligned, and none overlaps another of the same
  *   call, but that what is only read may be lent twice. Where a length is 0, the pointer beside it
  *   may be null; no other may.
- * - One call at a time works on a handle: put a mutex round it where threads share it, as
- *   mls_shared.h does. mls_dominates takes no handle, and is called by any threads at once. No call
- *   is made from a signal handler, nor in the forked child of a process with threads.
+ * - One call at a time works on a handle, and what one thread did with it is ordered before what
+ *   the next does: by a thread's start or join, say, or a mutex, as mls_shared.h has. Calls on
+ *   different handles are made by any threads at once. Many threads share one monitor as an office:
+ *   each has the handle of a session of its own, and mls_session_check, mls_session_decide and
+ *   mls_session_submit on different sessions run side by side.
+ * - mls_dominates and the words of numbers take no handle, and are called by any threads at once.
+ * - No call is made from a signal handler, nor in the forked child of a process with threads.
  * Memory comes from malloc, realloc and free. mls_close frees what the library holds, and
  * mls_forget may free memory of entries.
  */
@@ -46,7 +50,8 @@ enum {
     MLS_EREPLAY = -7,   /* the journal isn't one of its start: the fault says where and why */
     MLS_ERANGE = -8,    /* the buffer or the rows are too short */
     MLS_ENOTFOUND = -9, /* no such entry, name, subject or object, or a request that names none */
-    MLS_ESTATE = -10    /* the text isn't that of a secure state of the start: the fault says why */
+    MLS_ESTATE = -10,   /* the text isn't that of a secure state of the start: the fault says why */
+    MLS_EBUSY = -11     /* another session is at the monitor, or sessions of the office are out */
 };
 
 /* Actions. */
@@ -83,6 +88,28 @@ typedef struct {
 } mls_monitor;
 
 #define MLS_INIT { 0, NULL }
+
+/* An office: a monitor that threads share by sessions. Its fields are the library's. */
+typedef struct {
+    uint32_t held;
+    void *hall;
+    uint16_t count;
+} mls_office;
+
+#define MLS_OFFICE_INIT { 0, NULL, 0 }
+
+/* The handle of a session of an office. Its fields are the library's. */
+typedef struct {
+    uint32_t held;
+    void *place;
+    void *office;
+    uint16_t number;
+} mls_session;
+
+#define MLS_SESSION_INIT { 0, NULL, NULL, 0 }
+
+/* An office has no more sessions than this. */
+enum { MLS_SESSIONS = 64 };
 
 /* A label: a level below 16, and bit n % 64 of word n / 64 for category n, 0 to 255. */
 typedef struct {
@@ -353,6 +380,47 @@ int mls_state_text(mls_monitor *m, char *buf, size_t cap, size_t *len);
 
 /* Closes a handle and frees what it holds. A closed handle stays closed. */
 void mls_close(mls_monitor *m);
+
+/* Opens an office: the monitor of an open handle goes into it, and that handle is then closed; each
+ * of the count handles of sessions, 1 to MLS_SESSIONS and all closed, is opened with a session.
+ * Session n has the number n, which is written into its entries. The handles of sessions may then
+ * go to other threads. What else is asked of a monitor, names and labels say, is asked before or
+ * after. MLS_EOPEN where the office or a session is open; MLS_ECLOSED where the monitor's handle
+ * is; MLS_EINVAL; MLS_ENOMEM. All is as it was then. */
+int mls_office_open(mls_office *office, mls_monitor *m, mls_session *sessions, uint16_t count);
+
+/* Closes an office that all its sessions are given back to, in the order in which they were opened;
+ * no call is at work on one. The monitor's handle is opened again, with the one journal of all
+ * sessions, and the sessions' are closed. It needs no memory. MLS_EOPEN where the monitor's handle
+ * is open; MLS_ECLOSED where the office is; MLS_EINVAL where one isn't this office's session of
+ * that place; MLS_EBUSY where one was dropped. All is as it was then. */
+int mls_office_close(mls_office *office, mls_session *sessions, mls_monitor *m);
+
+/* Frees an office that isn't closed, with its monitor once its last session is dropped: the journal
+ * is lost. A closed one stays closed. */
+void mls_office_drop(mls_office *office);
+
+/* Frees a session, without which its office can't be closed any more, but dropped. */
+void mls_session_drop(mls_session *s);
+
+/* Answers a request by the rules, changes the state as they say, and adds just its entry to the one
+ * journal, with the session's number. It tries the lock once, and never waits. MLS_ECLOSED;
+ * MLS_EINVAL; MLS_EBUSY where another session is at the monitor: ask again, as mls_wait_submit of
+ * mls_shared.h does; MLS_ENOMEM. Nothing is changed or written then. */
+int mls_session_submit(mls_session *s, const mls_request *request, mls_answer *answer);
+
+/* Whether the subject holds an access to the object in the mode: it writes 1 or 0, as it was at
+ * some moment between the session's last entry and its next. It reads one word and takes no lock;
+ * only where the word is blank, or there is none, it tries the lock once and fills the word. Words
+ * are blank when the office opens, and those of an object once it is deleted. MLS_ECLOSED;
+ * MLS_EINVAL where the mode is none; MLS_EBUSY: ask again, as mls_wait_check does. It writes 0
+ * then. It adds no entry and doesn't allocate. */
+int mls_session_check(mls_session *s, uint16_t subject, uint16_t object, uint8_t mode, int *held);
+
+/* What mls_session_submit would answer now, with the number that the entry would have if no other
+ * session made one before. It tries the lock once. Nothing changes, and it doesn't allocate.
+ * MLS_ECLOSED, MLS_EINVAL, MLS_EBUSY. */
+int mls_session_decide(mls_session *s, const mls_request *request, mls_answer *answer);
 
 /* The version of the library, as MAJOR.MINOR. */
 const char *mls_version(void);

@@ -1,5 +1,5 @@
-/* mls_shared.h: a handle that threads share, behind a POSIX mutex. It is this header alone: nothing
- * of it is in the library, nor proved.
+/* mls_shared.h: a handle that threads share, behind a POSIX mutex, and sessions of an office that
+ * ask until they are answered. It is this header alone: nothing of it is in the library, or proved.
  *
  * A mls_shared is made by MLS_SHARED_INIT, or by mls_shared_init, and neither copied nor moved
  * after that. Each call below takes the mutex, makes the call of mls.h that has its name, and gives
@@ -15,6 +15,7 @@
 #include "mls.h"
 
 #include <pthread.h>
+#include <sched.h>
 #include <stdlib.h>
 
 /* A handle with its mutex. Its fields are this header's. */
@@ -226,6 +227,49 @@ MLS_INLINE void mls_shared_close(mls_shared *s) {
 MLS_INLINE void mls_shared_destroy(mls_shared *s) {
     mls_shared_close(s);
     if (pthread_mutex_destroy(&s->mutex)) abort();
+}
+
+/* How a session that was told MLS_EBUSY pauses before it asks again: twice as long each round, and
+ * from round MLS_ROUNDS on it gives its time slice to other threads. */
+enum { MLS_ROUNDS = 7 };
+
+MLS_INLINE void mls_pause(unsigned round) {
+    unsigned left;
+    if (round >= MLS_ROUNDS) {
+        sched_yield();
+        return;
+    }
+    for (left = 1u << round; left; left--) {
+#if defined(__GNUC__) && (defined(__x86_64__) || defined(__i386__))
+        __builtin_ia32_pause();
+#elif defined(__GNUC__) && defined(__aarch64__)
+        __asm__ __volatile__("yield");
+#endif
+    }
+}
+
+/* As the calls of mls.h that have their names, but they ask again while another session is at the
+ * monitor: the status is never MLS_EBUSY. They don't sleep, and promise no order among threads. */
+MLS_INLINE int mls_wait_submit(mls_session *s, const mls_request *request, mls_answer *answer) {
+    unsigned round = 0;
+    int status;
+    while ((status = mls_session_submit(s, request, answer)) == MLS_EBUSY) mls_pause(round++);
+    return status;
+}
+
+MLS_INLINE int mls_wait_decide(mls_session *s, const mls_request *request, mls_answer *answer) {
+    unsigned round = 0;
+    int status;
+    while ((status = mls_session_decide(s, request, answer)) == MLS_EBUSY) mls_pause(round++);
+    return status;
+}
+
+/* 1 or 0, and 0 too where the handle is closed or the mode is none, as mls_check. */
+MLS_INLINE int mls_wait_check(mls_session *s, uint16_t subject, uint16_t object, uint8_t mode) {
+    unsigned round = 0;
+    int held;
+    while (mls_session_check(s, subject, object, mode, &held) == MLS_EBUSY) mls_pause(round++);
+    return held;
 }
 
 #endif

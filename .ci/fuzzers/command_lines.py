@@ -122,16 +122,18 @@ class CommandLines(Fuzzer):
         words, failing, files = made
         status, output, error = self.ran(words, failing, files)
         outcome = outcome_of(words, failing, {**self.pool, **files}, status, output, error)
-        self.see_files(words, status == 0 or outcome == "output: write")
+        self.see_files(words, status == 0 or outcome == "output: write", status < 0)
         return status == 0, [outcome]
 
-    def see_files(self, words, may_write):
-        """Sees that nothing is made but by a run, and puts all as it was before."""
+    def see_files(self, words, may_write, is_ended):
+        """Sees that nothing is made but by a run, and puts all as it was before. A run that a signal ends leaves the file empty that it has
+        opened for its journal."""
         known = {*self.pool, "folder", "start", "journal", "script"}
         for name in os.listdir("."):
             is_new = name not in known and not name.startswith("input-")
             if is_new or name in self.times and os.stat(name).st_mtime_ns != self.times[name]:
-                assert may_write and b"run" in words, f"{name} is written"
+                is_left = is_new and is_ended and not os.path.getsize(name)
+                assert (may_write or is_left) and b"run" in words, f"{name} is written"
                 if is_new:
                     os.remove(name)
                 else:

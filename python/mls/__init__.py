@@ -32,6 +32,7 @@ from .faults import (
 )
 from .infos import Counts, ObjectInfo, PairInfo, StateStart, SubjectInfo
 from .monitor import Monitor
+from .office import Office, Session
 from .requests import Create, Delete, Get, Give, Level, Relabel, Release, Request, Rescind
 from .values import Answer, Entry, Kind, Label, Mode, Reason, Reply
 
@@ -62,6 +63,7 @@ __all__ = [
     "NoSuchEntry",
     "NotYours",
     "ObjectInfo",
+    "Office",
     "OutOfMemory",
     "PairInfo",
     "Reason",
@@ -72,6 +74,7 @@ __all__ = [
     "Reply",
     "Request",
     "Rescind",
+    "Session",
     "StartRefused",
     "StateRefused",
     "StateStart",

@@ -55,6 +55,10 @@ class Handle:
         lent = ctypes.create_string_buffer(then, len(then)) if first is then else then
         taken = (first, len(first), lent, len(then), *(number(it, 64) for it in numbers))
         opened(call(byref(self._handle), *taken, byref(fault)), fault)
+        self._keep()
+
+    def _keep(self) -> None:
+        """Has the handle closed once nobody has it."""
         self._close = weakref.finalize(self, self._library.mls_close, byref(self._handle))
         # (threads may still be in a call when the process ends, and its end frees all)
         self._close.atexit = False
@@ -77,6 +81,21 @@ class Handle:
 
     def __reduce_ex__(self, protocol: Any) -> Any:
         raise TypeError("a monitor is neither copied nor pickled")
+
+    def _yield_up(self) -> lib.Handle:
+        """The handle itself, with which this one is closed, and frees nothing."""
+        with self._lock:
+            if not self._close.detach():
+                raise Closed("the monitor is closed")
+            return self._handle
+
+    @classmethod
+    def _of(cls: Type[H], library: ctypes.CDLL, handle: lib.Handle) -> H:
+        """One that has an open handle."""
+        kept = cls.__new__(cls)
+        kept._library, kept._handle, kept._lock = library, handle, threading.RLock()
+        kept._keep()
+        return kept
 
     def _call(self, call: Callable[..., int], *arguments: Any) -> int:
         with self._lock:

@@ -12,13 +12,23 @@ VERSION = (0, 2)
 CLOSED, NO_MEMORY, INVALID = -1, -3, -4
 START_REFUSED, JOURNAL_REFUSED, REPLAY_DIFFERS = -5, -6, -7
 TOO_SHORT, NOT_FOUND = -8, -9
-STATE_REFUSED = -10
+STATE_REFUSED, BUSY = -10, -11
 # Object numbers are below the first, and no request has more conditions than the second.
 OBJECTS, CONDITIONS = 4096, 4
+# An office has no more sessions than this.
+SESSIONS = 64
 
 
 class Handle(ctypes.Structure):
     _fields_ = [("held", c_uint32), ("monitor", c_void_p)]
+
+
+class Office(ctypes.Structure):
+    _fields_ = [("held", c_uint32), ("hall", c_void_p), ("count", c_uint16)]
+
+
+class Session(ctypes.Structure):
+    _fields_ = [("held", c_uint32), ("place", c_void_p), ("office", c_void_p), ("number", c_uint16)]
 
 
 class Label(ctypes.Structure):
@@ -79,6 +89,7 @@ class Remedy(ctypes.Structure):
 
 
 MONITOR, LENGTH = POINTER(Handle), POINTER(c_size_t)
+OFFICE, SESSION = POINTER(Office), POINTER(Session)
 # The calls: what each returns, and what it takes.
 CALLS = {
     "mls_open": (c_int, [MONITOR, c_char_p, c_size_t, POINTER(Fault)]),
@@ -108,6 +119,13 @@ CALLS = {
     "mls_explain": (c_int, [MONITOR, POINTER(Request), POINTER(Condition), c_size_t, LENGTH, POINTER(Remedy)]),
     "mls_state_start": (c_int, [MONITOR, c_char_p, c_size_t, LENGTH, POINTER(c_uint16)]),
     "mls_state_text": (c_int, [MONITOR, c_char_p, c_size_t, LENGTH]),
+    "mls_office_open": (c_int, [OFFICE, MONITOR, SESSION, c_uint16]),
+    "mls_office_close": (c_int, [OFFICE, SESSION, MONITOR]),
+    "mls_office_drop": (None, [OFFICE]),
+    "mls_session_drop": (None, [SESSION]),
+    "mls_session_submit": (c_int, [SESSION, POINTER(Request), POINTER(Answer)]),
+    "mls_session_check": (c_int, [SESSION, c_uint16, c_uint16, c_uint8, POINTER(c_int)]),
+    "mls_session_decide": (c_int, [SESSION, POINTER(Request), POINTER(Answer)]),
     "mls_close": (None, [MONITOR]),
     "mls_version": (c_char_p, []),
     "mls_status_word": (c_char_p, [c_int]),

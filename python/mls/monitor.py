@@ -6,20 +6,21 @@ from ctypes import byref, c_size_t, c_uint16
 from typing import Callable, Iterator, Optional, TypeVar, Union
 
 from . import library as lib
-from .actions import Actions, Session
+from .actions import Session
+from .asking import Asking
 from .explanations import Explanation
 from .faults import NoSuchEntry, Undefined, UnknownName
 from .handle import Handle, is_ok
 from .infos import Counts, ObjectInfo, PairInfo, StateStart, SubjectInfo
 from .numbering import (answer_of, counts_of, entry_of, explanation_of, label_of, label_struct, number, object_of,
                         pair_of, subject_of)  # fmt: skip
-from .requests import ACTIONS, Create, Get, Give, Level, Name, Relabel, Release, Request, Rescind
+from .requests import Name, Request
 from .values import Answer, Entry, Kind, Label, Mode
 
 S = TypeVar("S", bound=ctypes.Structure)
 
 
-class Monitor(Handle, Actions):
+class Monitor(Handle, Asking):
     """An open monitor. Its calls may come from all threads: they take turns. It is neither copied nor pickled, nor used
     after a fork in the child of a process with threads."""
 
@@ -72,22 +73,6 @@ class Monitor(Handle, Actions):
         status, text = self._text(self._library.mls_write_label, kind, byref(label_struct(label)))
         is_ok(status, f"no label of the scheme: {label}")
         return text.decode()
-
-    def _struct(self, request: Request) -> lib.Request:
-        """The struct of a request, its names and texts read."""
-        struct = lib.Request(action=ACTIONS.index(type(request)), subject=self.subject(request.subject))
-        if isinstance(request, (Get, Release, Give, Rescind)):
-            struct.mode = Mode.of(request.mode)
-        if isinstance(request, (Give, Rescind)):
-            struct.other = self.subject(request.other)
-        if isinstance(request, (Create, Level, Relabel)):
-            struct.security = label_struct(self.label(request.security))
-        if isinstance(request, Create):
-            struct.object = self.object(request.parent)
-            struct.integrity = label_struct(self.label(request.integrity, Kind.INTEGRITY))
-        elif not isinstance(request, Level):
-            struct.object = self.object(request.object)
-        return struct
 
     def submit(self, request: Request, session: Session = None) -> Answer:
         """Answers a request by the rules, changes the state as they say, and adds its entry to the journal, with the

@@ -274,6 +274,54 @@ class Monitors(unittest.TestCase):
         with mls.Monitor.resume(STANDARD, m.journal()) as resumed:
             self.assertEqual(resumed.entry_count, m.entry_count)
 
+    def test_sessions_ask_side_by_side(self):
+        office, rounds, numbers = mls.Office(self.monitor, 4), 300, [[] for _ in range(4)]
+        self.assertTrue(self.monitor.is_closed)
+
+        def work(session):
+            for n in range(rounds):
+                answer = (session.release if n % 2 else session.get)("ann", "read", "plans")
+                self.assertTrue(answer)
+                numbers[session.number].append(answer.number)
+                session.check("ann", "read", "plans")
+                self.assertEqual(str(session.decide(mls.Get("bob", "read", "memo"))), "no star")
+
+        threads = [threading.Thread(target=work, args=(it,)) for it in office.sessions]
+        for it in threads:
+            it.start()
+        for it in threads:
+            it.join()
+        with office.close() as m:
+            self.assertEqual(m.entry_count, 4 * rounds)
+            for session in range(4):
+                self.assertEqual([n for n, it in enumerate(m.entries()) if it.session == session], numbers[session])
+            with mls.Monitor.resume(STANDARD, m.journal()) as resumed:
+                self.assertEqual(resumed.entry_count, m.entry_count)
+
+    def test_an_office_and_its_sessions(self):
+        for count in (0, 65):
+            with self.assertRaises(mls.BadRequest):
+                mls.Office(self.monitor, count)
+        office = mls.Office(self.monitor, 2)
+        with self.assertRaises(mls.Closed):
+            mls.Office(self.monitor, 2)
+        first, second = office.sessions
+        self.assertTrue(second.get("ann", "read", "plans", session=1))
+        self.assertTrue(first.check(0, "read", 1))
+        for wrong in (lambda: first.get("ann", "read", "plans", session=1), lambda: first.level("bob", "C")):
+            with self.assertRaises(mls.BadRequest):
+                wrong()
+        for wrong in (lambda: first.check("eve", "read", "plans"), lambda: first.check("ann", "read", "sheets")):
+            with self.assertRaises(mls.UnknownName):
+                wrong()
+        with self.assertRaises(TypeError):
+            copy.copy(office)
+        with office.close() as m:
+            self.assertEqual([it.session for it in m.entries()], [1])
+        for late in (lambda: second.check("ann", "read", "plans"), office.close):
+            with self.assertRaises(mls.Closed):
+                late()
+
     def test_words_are_those_of_the_library(self):
         words = library.load()
         rows = [

@@ -17,7 +17,7 @@ STRUCTS = {
     "mls_answer": library.Answer, "mls_journal_entry": library.Entry, "mls_fault": library.Fault,
     "mls_subject_info": library.SubjectInfo, "mls_object_info": library.ObjectInfo, "mls_pair_info": library.PairInfo,
     "mls_counts": library.Counts, "mls_term": library.Term, "mls_condition": library.Condition,
-    "mls_remedy": library.Remedy,
+    "mls_remedy": library.Remedy, "mls_office": library.Office, "mls_session": library.Session,
 }  # fmt: skip
 TYPES = {**STRUCTS, "int": ctypes.c_int, "size_t": ctypes.c_size_t}
 TYPES.update({f"uint{n}_t": getattr(ctypes, f"c_uint{n}") for n in (8, 16, 32, 64)})
@@ -64,14 +64,16 @@ class Header(unittest.TestCase):
 
         kinds = [mls.Mode, mls.Reply, mls.Reason, mls.Compared]
         known = sum(map(of, kinds)) + of(mls.Basis, front="BY_") + of(mls.Kind, end="_LABEL")
-        self.assertEqual((numbers["OBJECTS"], numbers["CONDITIONS"]), (library.OBJECTS, library.CONDITIONS))
+        for name in ("OBJECTS", "CONDITIONS", "SESSIONS"):
+            self.assertEqual(numbers[name], getattr(library, name), name)
         for name, value in (("ECLOSED", library.CLOSED), ("ENOMEM", library.NO_MEMORY), ("EINVAL", library.INVALID),
                             ("ESTART", library.START_REFUSED), ("EJOURNAL", library.JOURNAL_REFUSED),
                             ("EREPLAY", library.REPLAY_DIFFERS), ("ERANGE", library.TOO_SHORT),
-                            ("ENOTFOUND", library.NOT_FOUND), ("ESTATE", library.STATE_REFUSED)):  # fmt: skip
+                            ("ENOTFOUND", library.NOT_FOUND), ("ESTATE", library.STATE_REFUSED),
+                            ("EBUSY", library.BUSY)):  # fmt: skip
             self.assertEqual(numbers[name], value, name)
         # and beside these: OK, EOPEN, the actions, and NO_TERM
-        self.assertEqual(len(numbers), known + 2 + 9 + 2 + len(mls.requests.ACTIONS) + 1)
+        self.assertEqual(len(numbers), known + 3 + 10 + 2 + len(mls.requests.ACTIONS) + 1)
 
 
 class Values(unittest.TestCase):

@@ -16,7 +16,9 @@ use mls_questions::answer;
 use mls_replay::MAX_SCRIPTS;
 use mls_scripts::SCRIPT_LIMIT;
 use mls_service::serve_journal;
-use mls_terminal::{Held, Job, NO_MEMORY, Progress, RunWords, file_refused, read_words, refused};
+use mls_terminal::{
+    Asked, Held, Job, NO_MEMORY, Progress, RunWords, file_refused, read_words, refused,
+};
 use std::env;
 use std::env::FillError;
 use std::io::ErrorKind;
@@ -164,7 +166,7 @@ fn run_words<R: Threads + Wait + Clock + Sync>(
     words: &[String],
 ) -> ExitCode {
     match read_words(rt, words) {
-        Ok(job) => run_job(threads, &mut Progress::new(rt), job),
+        Ok(Asked { job, lines }) => run_job(threads, &mut Progress::new(rt, lines), job),
         Err(status) => status,
     }
 }

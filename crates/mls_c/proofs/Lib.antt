@@ -1,7 +1,13 @@
 pub mod Boxes
+pub mod Ceilings
+pub mod HallBoxes
+pub mod HallPointers
 pub mod LabelAccesses
 pub mod NewNumbers
+pub mod Offices
 pub mod Openings
+pub mod PlaceBoxes
+pub mod PlacePointers
 pub mod Pointers
 pub mod ReadBack
 pub mod ReadConditions

@@ -9,7 +9,7 @@ use Rattle.mls_start_file.specs.Says.{SaysStart}
 use Rattle.mls_start_file.specs.Ties.{Loaded}
 use Rattle.mls_state.specs.Properties.{IsSecure}
 use Rattle.mls_state.specs.State.{State}
-use Rattle.mls_c.specs.Opened.{Opened}
+use Rattle.mls_c.specs.Opened.{Opened, state_of}
 use Rattle.mls_c.specs.StateText.{opened_at, GoesOnFrom, OpensState, IsNoRefusal, IsAboutState, IsOverStart, RefusesState}
 use Rattle.mls_c.specs.declared.state_opening.StateFault.{StateFault}
 use Rattle.mls_c.specs.declared.state_opening.StateFault.TheVariants as fault
@@ -17,15 +17,16 @@ use Rattle.mls_c.specs.declared.state_opening.StateFault.TheVariants as fault
 -- a monitor that goes on from a state that was read, where there is one
 pub goes_on : (loaded : Loaded) (text : List ℕ) (number : ℕ) (begun : State) (names : Names) (start : State) → names ≡ loaded.names → start ≡ loaded.start
     → state_text names begun ≡ text → IsOfStart start begun → IsSecure begun → {B E : Type 0} (value : B → Opened) (r : Result B E)
-    → IfOk r (λ b. value b ≡ opened_at names begun number) → IfOk r (λ b. GoesOnFrom loaded text number (value b))
-goes_on loaded text number begun names start same_names same_start is of_start secure value (Ok b) holds = record {
+    → IfOk r (λ b. value b ≡ opened_at names begun number) → IfOk r (λ b. state_of (value b) ≡ begun) → IfOk r (λ b. GoesOnFrom loaded text number (value b))
+goes_on loaded text number begun names start same_names same_start is of_start secure value (Ok b) holds stands = record {
   begun = begun;
   is = ap (λ n. state_text n begun) (sym same_names) ∙ is;
   start = subst (λ s. IsOfStart s begun) same_start of_start;
   secure = secure;
   holds = holds ∙ ap (λ n. opened_at n begun number) same_names;
+  state = stands;
 }
-goes_on loaded text number begun names start same_names same_start is of_start secure value (Err e) holds = tt
+goes_on loaded text number begun names start same_names same_start is of_start secure value (Err e) holds stands = tt
 
 pub over_from_none : (f : StateFault) → IsNoRefusal f → IsOverStart f
 over_from_none (fault.Start numbers) none = absurd none

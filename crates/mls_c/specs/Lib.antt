@@ -6,6 +6,9 @@ pub mod Infos
 pub mod LabelAsking
 pub mod Labels
 pub mod Lending
+pub mod OfficeHandles
+pub mod OfficeLending
+pub mod Offices
 pub mod Opened
 pub mod Requests
 pub mod Resumed

@@ -10,6 +10,7 @@ use Rattle.mls_rules.specs.Rules.{reply}
 use Rattle.mls_monitor.specs.Journal.{fold}
 use Rattle.mls_monitor.specs.Tails.{forgotten_of}
 use Rattle.mls_start_file.specs.Ties.{Loaded}
+use Rattle.mls_sessions.specs.Journals.{Journal}
 
 -- An open monitor: the names of its start, the state that it started with, its journal, and how many of the first of
 -- its entries it has forgotten. (own)
@@ -22,6 +23,10 @@ pub record Opened : Type 0 where
 -- The state of an open monitor: the fold of its journal from its start. (own)
 abbrev pub state_of : Opened → State
 state_of o = fold o.start o.entries
+
+-- An open monitor of these names, with the start and the journal of this one. (own)
+abbrev pub with_journal : Names → Journal → Opened
+with_journal names j = record { names = names; start = j.start; entries = j.entries; forgotten = j.forgotten }
 
 -- The monitor that a start file opens with this journal, of which it has forgotten nothing. (own)
 abbrev pub opened_with : Loaded → List Entry → Opened

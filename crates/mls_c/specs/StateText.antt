@@ -28,14 +28,15 @@ abbrev pub opened_at : Names → State → ℕ → Opened
 opened_at names begun number =
     record { names = names; start = begun; entries = stand_ins number; forgotten = number }
 
--- A monitor goes on from the state whose text this is, with the names of a start: it is secure, and one of that start.
--- (own)
+-- A monitor goes on from the state whose text this is, with the names of a start: that state is secure and one of that
+-- start, and the monitor is in it. (own)
 pub record GoesOnFrom (loaded : Loaded) (text : List ℕ) (number : ℕ) (opened : Opened) : Type 0 where
   pub begun : State
   pub is : state_text loaded.names begun ≡ text
   pub start : IsOfStart loaded.start begun
   pub secure : IsSecure begun
   pub holds : opened ≡ opened_at loaded.names begun number
+  pub state : state_of opened ≡ begun
 
 -- The handle holds a monitor with the names of a start file that goes on from the state whose text this is. (own)
 pub record OpensState (start text : List ℕ) (number : ℕ) (new : Option Opened) : Type 0 where

@@ -1,6 +1,7 @@
 //! Opening a monitor that goes on from a state.
 ghost use Rattle.std.specs.Prelude.{◌≡◌, ◌≢◌, ◌≤◌, ◌<◌, Some, IfOk, OnOk, IfErr};
 ghost use Rattle.mls_c.specs.Faults.{HasStartFault};
+ghost use Rattle.mls_c.specs.Opened.{state_of};
 ghost use Rattle.mls_c.specs.StateText.{opened_at, GoesOnFrom, OpensState, OpenStateStatus};
 ghost use Rattle.mls_c.specs.StateText.{IsNoRefusal, IsAboutState, IsOverStart, RefusesState};
 ghost use Rattle.mls_c.specs.declared.status.TheConstants.{OK, ESTART, ESTATE as STATE, EINVAL as INVALID};
@@ -69,6 +70,7 @@ fn go_on(
     number: u64,
 ) -> Result<Box<Opened, Global>, StateFault>
     ensures ok { IfOk result (λ b. b.value ≡ opened_at names begun number) }
+    ensures state { IfOk result (λ b. state_of b.value ≡ begun) }
     ensures few { OnOk result (number ≤ FORGET_LIMIT) }
     ensures fault { IfErr result (λ fault. IsNoRefusal fault) }
     ensures many { IfErr result (λ fault. fault ≡ StateFault.Number → FORGET_LIMIT < number) }

@@ -33,3 +33,6 @@ pub const ENOTFOUND: i32 = -9;
 
 /// The text isn't that of a secure state of the start.
 pub const ESTATE: i32 = -10;
+
+/// Another session is at the monitor, or sessions of the office are out, or none is at home.
+pub const EBUSY: i32 = -11;

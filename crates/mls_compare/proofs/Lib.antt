@@ -1,6 +1,7 @@
 mod Followed
 mod Growing
 mod Labels
+mod Mapped
 mod NameLists
 mod Refusals
 pub mod Replayed

@@ -6,5 +6,6 @@ pub mod Counterparts
 pub mod Differences
 pub mod Following
 pub mod Holding
+pub mod Maps
 pub mod Replying
 pub mod Snapshots

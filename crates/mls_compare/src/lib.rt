@@ -11,6 +11,8 @@ mod gets;
 mod heads;
 mod holding;
 mod label_lines;
+mod map;
+mod map_reading;
 mod name_lists;
 mod object_table;
 mod objects;
@@ -25,5 +27,7 @@ mod thing;
 
 pub use compare_fault::CompareFault;
 pub use comparing::compare;
+pub use map::map_text;
+pub use map_reading::{MapFault, names_after};
 pub use snapshot_fault::SnapshotFault;
 pub use snapshots::snapshot;

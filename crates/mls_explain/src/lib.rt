@@ -23,7 +23,7 @@ pub use failing::{failing_of_object, failing_of_subject};
 pub use ground::{Ground, Place, Relabelling};
 pub use helping::remedy;
 pub use missing::unknowns;
-pub use permitted::prospects;
+pub use permitted::{prospect_of, prospects};
 pub use prospect::Prospect;
 pub use rule::conditions;
 pub use term::Term;

@@ -14,8 +14,8 @@ use mls_state::State;
 use mls_tables::{Mode, Modes, ObjectId, SubjectId};
 use std::alloc::{AllocError, Allocator};
 
-/// What the get of a subject would be answered, and its remedy.
-fn prospect_of<A: Allocator>(state: &State<A>, s: SubjectId, o: ObjectId, x: Mode) -> Prospect
+/// What the get of a subject in a mode would be answered, and its remedy. It doesn't allocate.
+pub fn prospect_of<A: Allocator>(state: &State<A>, s: SubjectId, o: ObjectId, x: Mode) -> Prospect
     ensures subject { result.subject ≡ s }
     ensures mode { result.mode ≡ x }
     ensures is { IsProspect state.now o result }

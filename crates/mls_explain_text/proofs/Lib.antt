@@ -3,6 +3,6 @@ mod Indented
 mod Kept
 mod Listing
 mod PartsLaw
-mod Seeing
+pub mod Laws
 mod Telling
 mod Words

@@ -44,7 +44,10 @@ fn push_denial(
 }
 
 /// Appends the reply to a get and what follows it, to the end of the line.
-fn push_outcome(text: &mut String, names: &Names, prospect: &Prospect) -> Result<(), AllocError>
+///
+/// # Errors
+/// `AllocError` where an allocation failed. The text may then have a part of it.
+pub fn push_outcome(text: &mut String, names: &Names, prospect: &Prospect) -> Result<(), AllocError>
     ensures { OnOk result (string_bytes text.new ≡ string_bytes text.old ++ outcome_text names.now prospect.now) }
 {
     push_reply(text, prospect.reply)?;

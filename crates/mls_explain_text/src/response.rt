@@ -17,8 +17,8 @@ pub enum Response {
     Held(bool),
 }
 
-/// Whether a reply grants.
-pub(crate) fn is_granted(reply: Reply) -> bool
+/// Whether a reply grants. It doesn't allocate.
+pub fn is_granted(reply: Reply) -> bool
     ensures { result ≡ is_granted reply }
 {
     match reply {

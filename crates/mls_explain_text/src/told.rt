@@ -10,7 +10,7 @@ use mls_wording::Answer;
 use std::alloc::Global;
 
 /// The modes that are asked for: one, or all.
-fn modes_asked(mode: Option<Mode>) -> Modes
+pub fn modes_asked(mode: Option<Mode>) -> Modes
     ensures { result ≡ modes_asked mode }
 {
     match mode {

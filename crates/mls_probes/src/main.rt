@@ -1,10 +1,12 @@
 //! A program for checks and benchmarks; where it is given no word, it begins with an example of the library in use
 //! (`example.rt`). It makes the calls that take the global allocator, each once more where it was out of memory:
 //! `.ci/check-refusals` has always the same of its allocations refused; the first word says how many it makes before
-//! the calls, so that each of theirs has its turn, and the second which call it makes. Where the first word is `gate`
-//! or `mutex`, threads take turns at one monitor, for `bench/gate_turns.sh` to time.
+//! the calls, so that each of theirs has its turn, and the second which call it makes. Where the first word is `gate`,
+//! `mutex` or `alone`, threads take turns at one monitor, or one session calls, for `bench/gate_turns.sh` and
+//! `bench/checks.sh` to time.
 #![tactic(auto)]
 
+mod alone;
 mod calls;
 mod example;
 mod keeper;
@@ -165,7 +167,8 @@ fn is_wanted(named: u32, call: u32) -> bool {
 /// Whether the first word asks for turns.
 fn asks_for_turns(env: &impl Env) -> bool {
     let mut word = [0u8; 5];
-    env.arg(1, &mut word).is_ok() && (word.starts_with(b"gate") || word == *b"mutex")
+    env.arg(1, &mut word).is_ok()
+        && (word.starts_with(b"gate") || word == *b"mutex" || word == *b"alone")
 }
 
 /// Whether the program is given no word.

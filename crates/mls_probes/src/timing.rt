@@ -1,4 +1,5 @@
 //! Threads that take turns at one monitor, through the gate or under a mutex, to be timed.
+use crate::alone::by_calls;
 use crate::turns::{Job, make_feeds, take_turns};
 use mls_cli::standard_start;
 use mls_monitor::{Monitor, Start};
@@ -75,7 +76,7 @@ fn number(words: &[String], place: usize) -> u64 {
     }
 }
 
-/// Does the job that the words name: gate or mutex, then how many threads, turns each, and rounds of work between two
+/// Does the job that the words name: gate, mutex or alone, then how many threads, turns each, and rounds of work between two
 /// turns; for the gate also how many threads look beside them, and how often each. Prints how many entries that left.
 pub fn time_turns<R: Threads + Wait + Sync>(threads: &R, rt: &HostRuntime) -> io::Result<()> {
     let words = env::args(rt)?.collect::<Vec<String>>(rt.alloc())?;
@@ -87,8 +88,11 @@ pub fn time_turns<R: Threads + Wait + Sync>(threads: &R, rt: &HostRuntime) -> io
     };
     let count = number(&words, 2);
     let is_gate = words.get(1).is_some_and(|word| word.as_str() == "gate");
+    let is_alone = words.get(1).is_some_and(|word| word.as_str() == "alone");
     drop(words);
-    let entries = if is_gate {
+    let entries = if is_alone {
+        by_calls(threads, rt.alloc(), open(rt.alloc())?, job)?
+    } else if is_gate {
         by_gate(threads, rt.alloc(), count, job)?
     } else {
         by_mutex(threads, rt.alloc(), count, job)?

@@ -31,7 +31,7 @@ fn work(seed: u64, rounds: u64) -> u64 {
 }
 
 /// What a turn asks for, by what the work came to: a release, which is always granted.
-fn release(number: u64) -> Request {
+pub fn release(number: u64) -> Request {
     Request {
         subject: SubjectId(0),
         action: Action::Release(Mode::Read, ObjectId((number % 4) as u16)),

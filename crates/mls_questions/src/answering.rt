@@ -1,17 +1,19 @@
 //! The command of a question, and how it ends.
 use crate::asking::{ask, explain, who};
 use crate::comparison::compare;
+use crate::describing::about;
 use crate::empowering::powers;
 use crate::listing::{journal, state};
+use crate::report::report;
 use crate::segmented::answer_in_segments;
 use crate::snapshots::start_of_state;
 use crate::spans::{held, usage, who_ever};
 use crate::starts::{lattice, lint};
-use mls_explain_text::{Sort, fault_line, word_line};
+use mls_explain_text::{Sort, fault_line, thing_line, word_line};
 use mls_files::{command_refused, fault_file};
 use mls_lines::LineFault;
 use mls_replay::QuestionFault;
-use mls_terminal::{NO_MEMORY, Progress, Question, print, refused};
+use mls_terminal::{NO_MEMORY, Progress, Question, refused};
 use mls_wording::Answer;
 use std::alloc::AllocError;
 use std::process::ExitCode;
@@ -67,6 +69,17 @@ pub(crate) fn name_refused(rt: &HostRuntime, start: &[u8], sort: Sort, word: &st
     told(rt, word_line(rt.alloc(), start, sort, word))
 }
 
+/// Tells that a word names neither a subject nor an object, of the bytes of a start file.
+pub(crate) fn thing_refused(rt: &HostRuntime, start: &[u8], word: &str) -> ExitCode {
+    told(rt, thing_line(rt.alloc(), start, word))
+}
+
+/// Tells that a word names none of the objects that a map has, whose names aren't those of the start.
+pub(crate) fn bare_refused(rt: &HostRuntime, word: &str) -> ExitCode {
+    let _ = eprintln!(rt; "mls: {word}: bad name");
+    ExitCode::from(1)
+}
+
 /// Tells that a journal has no entry of a number.
 fn entry_refused(rt: &HostRuntime, journal: &str, what: &str, number: u64) -> ExitCode {
     let _ = eprintln!(rt; "mls: {journal}: {what} {number}");
@@ -93,9 +106,9 @@ pub(crate) fn question_refused(
 }
 
 /// Prints an answer.
-pub(crate) fn answered(rt: &HostRuntime, answer: Answer) -> ExitCode {
+pub(crate) fn answered(progress: &mut Progress<'_>, answer: Answer) -> ExitCode {
     let Answer { text, is_positive } = answer;
-    let printed = print(rt, text.as_bytes());
+    let printed = progress.print(text.as_bytes());
     drop(text);
     if is_positive || printed != ExitCode::SUCCESS {
         printed
@@ -113,7 +126,7 @@ pub(crate) fn ended(
 ) -> ExitCode {
     progress.end();
     match done {
-        Ok(answer) => answered(progress.rt(), answer),
+        Ok(answer) => answered(progress, answer),
         Err(fault) => question_refused(progress.rt(), named, start, fault),
     }
 }
@@ -134,17 +147,24 @@ fn answer_whole(progress: &mut Progress<'_>, question: &Question<'_>) -> ExitCod
             subject,
             downgrades,
         } => powers(progress, source, *subject, *downgrades),
+        Question::About {
+            source,
+            name,
+            is_object,
+        } => about(progress, source, name, *is_object),
         Question::Lint { start } => lint(progress, start),
         Question::Lattice { start } => lattice(progress, start),
         Question::Journal(words) => journal(progress, words),
         Question::State {
             source,
             is_start: false,
+            ..
         } => state(progress, source),
         Question::State {
             source,
             is_start: true,
-        } => start_of_state(progress, source),
+            map,
+        } => start_of_state(progress, source, *map),
         Question::Held(words) => held(progress, words),
         Question::Usage(words) => usage(progress, words),
         Question::Compare {
@@ -152,6 +172,7 @@ fn answer_whole(progress: &mut Progress<'_>, question: &Question<'_>) -> ExitCod
             second,
             journal,
         } => compare(progress, first, second, *journal),
+        Question::Report(words) => report(progress, words),
     }
 }
 

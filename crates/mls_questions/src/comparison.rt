@@ -30,8 +30,17 @@ fn ended(
 ) -> ExitCode {
     progress.end();
     match done {
-        Ok(answer) => answered(progress.rt(), answer),
+        Ok(answer) => answered(progress, answer),
         Err(fault) => compare_refused(progress.rt(), first, others, fault),
+    }
+}
+
+/// The words that lines call the two files by: in JSON objects, whose texts are read of lines, words without a space.
+fn words_of<'x>(progress: &Progress<'_>, first: &'x str, second: &'x str) -> (&'x str, &'x str) {
+    if progress.is_json() {
+        ("first", "second")
+    } else {
+        (first, second)
     }
 }
 
@@ -48,7 +57,7 @@ fn compare_with(
     };
     let Bytes { start, journal, .. } = &read;
     progress.begin("comparing");
-    let words = (first, others.start);
+    let words = words_of(progress, first, others.start);
     let done = compared(
         progress.rt().alloc(),
         words,

@@ -4,9 +4,13 @@
 mod answering;
 mod asking;
 mod comparison;
+mod describing;
 mod empowering;
 mod listing;
 mod one_state;
+mod renaming;
+mod report;
+mod report_parts;
 mod segmented;
 mod snapshots;
 mod sources;

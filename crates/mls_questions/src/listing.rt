@@ -1,5 +1,6 @@
 //! The commands that list what a journal has, and the state that it leads to.
 use crate::answering::{Named, answered, ended, name_refused, question_refused};
+use crate::renaming::journal_after;
 use crate::sources::{Bytes, read_source};
 use mls_explain_text::{Sort, list_explained};
 use mls_marks::Marks;
@@ -97,6 +98,11 @@ pub(crate) fn journal(progress: &mut Progress<'_>, words: &JournalWords<'_>) -> 
     let journal = bytes.journal.as_deref().unwrap_or(b"".as_slice());
     let marks = bytes.marks.as_ref();
     let filter = marked_filter(words, marks);
+    if let Some(map) = words.after {
+        let status = journal_after(progress, words, map, &bytes, &filter);
+        drop(bytes);
+        return status;
+    }
     progress.begin("listing");
     let rt = progress.rt();
     let done = if words.is_explained {
@@ -113,7 +119,7 @@ pub(crate) fn journal(progress: &mut Progress<'_>, words: &JournalWords<'_>) -> 
     };
     progress.end();
     let status = match done {
-        Ok(answer) => answered(rt, answer),
+        Ok(answer) => answered(progress, answer),
         Err(fault) => list_refused(rt, words, &bytes.start, fault),
     };
     drop(bytes);

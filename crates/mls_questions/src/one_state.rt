@@ -33,8 +33,10 @@ pub(crate) enum OfState<'a> {
     },
     /// What there is.
     List,
-    /// The start file that opens with it.
-    StartFile,
+    /// The start file that opens with it, and the file that is made then, which tells the old numbers of its objects.
+    StartFile {
+        map: Option<&'a str>,
+    },
 }
 
 /// What a line would be answered.
@@ -156,6 +158,6 @@ pub(crate) fn answer_seen(
             subject,
             downgrades,
         } => changes(alloc, names, seen.monitor.state(), subject, downgrades),
-        OfState::List | OfState::StartFile => list(alloc, names, seen.monitor.state()),
+        OfState::List | OfState::StartFile { .. } => list(alloc, names, seen.monitor.state()),
     }
 }

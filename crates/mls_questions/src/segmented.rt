@@ -1,7 +1,7 @@
 //! Questions about one state of a journal in segments: it is reached from the last state that was kept before it.
 use crate::answering::{Named, ended};
 use crate::one_state::{OfState, answer_seen, refuse_above};
-use crate::snapshots::{ended_start, snapshot_in};
+use crate::snapshots::{NewStart, ended_start, snapshot_in};
 use mls_compare::SnapshotFault;
 use mls_files::{Goal, Seen, Wanted, judge_start, see, segments_of, start_file};
 use mls_lines::Names;
@@ -67,18 +67,25 @@ fn about_state<'a>(question: &Question<'a>) -> Option<AboutState<'a>> {
         Question::State {
             source,
             is_start: false,
+            ..
         } => over_files(source, OfState::List),
         Question::State {
             source,
             is_start: true,
-        } => over_files(source, OfState::StartFile),
-        Question::Lint { .. }
+            map,
+        } => {
+            let map = *map;
+            over_files(source, OfState::StartFile { map })
+        }
+        Question::About { .. }
+        | Question::Lint { .. }
         | Question::Lattice { .. }
         | Question::Journal(_)
         | Question::Held(_)
         | Question::Usage(_)
         | Question::WhoEver(_)
-        | Question::Compare { .. } => None,
+        | Question::Compare { .. }
+        | Question::Report(_) => None,
     }
 }
 
@@ -98,7 +105,7 @@ fn named<'a>(about: AboutState<'a>) -> Named<'a> {
         OfState::Line(line) | OfState::Why(line) => named.line = line,
         OfState::Who { object, .. } => named.object = object,
         OfState::Powers { subject, .. } => named.subject = subject.unwrap_or(""),
-        OfState::Next | OfState::List | OfState::StartFile => {}
+        OfState::Next | OfState::List | OfState::StartFile { .. } => {}
     }
     named
 }
@@ -120,7 +127,7 @@ fn written(
     names: &Names,
     seen: &Seen,
     about: AboutState<'_>,
-) -> Result<String, SnapshotFault> {
+) -> Result<NewStart, SnapshotFault> {
     refuse_above(seen, about.at)?;
     snapshot_in(alloc, names, seen.monitor.state())
 }
@@ -134,10 +141,10 @@ fn end_seen(
     seen: &mut Seen,
 ) -> ExitCode {
     let alloc = progress.rt().alloc();
-    if let OfState::StartFile = about.asked {
+    if let OfState::StartFile { map } = about.asked {
         progress.begin("writing");
         let done = written(alloc, names, seen, about);
-        return ended_start(progress, named(about), bytes, done);
+        return ended_start(progress, named(about), bytes, map, done);
     }
     progress.begin("answering");
     let done = told(alloc, names, seen, about);

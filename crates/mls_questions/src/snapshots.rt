@@ -1,14 +1,21 @@
 //! The command that prints the state that a journal leads to as a start file.
 use crate::answering::{Named, question_refused};
 use crate::sources::{Bytes, read_source};
-use mls_compare::{SnapshotFault, snapshot};
+use mls_compare::{SnapshotFault, map_text, snapshot};
 use mls_lines::Names;
-use mls_replay::{CommandFault, QuestionFault, START_LIMIT};
+use mls_replay::{CommandFault, QuestionFault, START_LIMIT, replay_at};
 use mls_rules::State;
 use mls_snapshots::{StateStart, StateStartFault, start_of_state as start_in};
-use mls_terminal::{Progress, Source, print, refused};
-use std::alloc::Global;
+use mls_terminal::{FileFault, Progress, Source, file_refused, make_file, print, refused};
+use std::alloc::{AllocError, Global};
 use std::process::ExitCode;
+
+/// A start file, and the map of its objects, where one is asked for.
+#[derive(Drop)]
+pub(crate) struct NewStart {
+    text: String,
+    map: Option<String>,
+}
 
 /// Tells why there is no start file.
 fn snapshot_refused(
@@ -24,14 +31,22 @@ fn snapshot_refused(
     }
 }
 
-/// Prints a start file.
-fn printed(rt: &HostRuntime, text: String) -> ExitCode {
-    let status = print(rt, text.as_bytes());
-    drop(text);
-    status
+/// Makes the file of the map, where one is asked for, and prints the start file.
+fn printed(progress: &mut Progress<'_>, path: Option<&str>, made: &NewStart) -> ExitCode {
+    if let (Some(path), Some(map)) = (path, &made.map) {
+        if !make_file(progress.rt(), path, map.as_str()) {
+            return file_refused(progress, path, FileFault::File);
+        }
+    }
+    print(progress.rt(), made.text.as_bytes())
 }
 
-/// The start file that opens with a state.
+/// That an allocation failed.
+fn no_memory(_: AllocError) -> SnapshotFault {
+    SnapshotFault::Question(QuestionFault::Files(CommandFault::Memory))
+}
+
+/// The start file that opens with a state, and the map of its objects.
 ///
 /// # Errors
 /// `TooLong` where it has too many bytes, `Differs` where it doesn't open with the state, `Question` where an
@@ -40,38 +55,76 @@ pub(crate) fn snapshot_in(
     alloc: Global,
     names: &Names,
     state: &State,
-) -> Result<String, SnapshotFault> {
+) -> Result<NewStart, SnapshotFault> {
     match start_in(alloc, names, state) {
         Ok(StateStart { text, order }) => {
-            drop(order);
             if text.len() > START_LIMIT {
                 return Err(SnapshotFault::TooLong);
             }
-            Ok(text)
+            match map_text(alloc, names, &order) {
+                Ok(map) => Ok(NewStart {
+                    text,
+                    map: Some(map),
+                }),
+                Err(fault) => Err(no_memory(fault)),
+            }
         }
-        Err(StateStartFault::Memory) => Err(SnapshotFault::Question(QuestionFault::Files(
-            CommandFault::Memory,
-        ))),
+        Err(StateStartFault::Memory) => Err(no_memory(AllocError)),
         Err(StateStartFault::Differs) => Err(SnapshotFault::Differs),
     }
 }
 
-/// Ends the command over the bytes of a start file: prints the start file that was written, or tells why there is none.
+/// Ends the command over the bytes of a start file: makes the file of the map, where one is asked for, and prints the
+/// start file that was written; or tells why there is none.
 pub(crate) fn ended_start(
     progress: &mut Progress<'_>,
     named: Named<'_>,
     start: &[u8],
-    done: Result<String, SnapshotFault>,
+    map: Option<&str>,
+    done: Result<NewStart, SnapshotFault>,
 ) -> ExitCode {
     progress.end();
     match done {
-        Ok(text) => printed(progress.rt(), text),
+        Ok(made) => {
+            let status = printed(progress, map, &made);
+            drop(made);
+            status
+        }
         Err(fault) => snapshot_refused(progress.rt(), named, start, fault),
     }
 }
 
-/// Prints a start file that opens with the state that a journal leads to.
-pub(crate) fn start_of_state(progress: &mut Progress<'_>, source: &Source<'_>) -> ExitCode {
+/// The start file of the state that files lead to.
+fn start_alone(
+    alloc: Global,
+    start: &[u8],
+    journal: &[u8],
+    at: Option<u64>,
+) -> Result<NewStart, SnapshotFault> {
+    let text = snapshot(alloc, start, journal, at)?;
+    Ok(NewStart { text, map: None })
+}
+
+/// The same, and the map of its objects.
+fn start_and_map(
+    alloc: Global,
+    start: &[u8],
+    journal: &[u8],
+    at: Option<u64>,
+) -> Result<NewStart, SnapshotFault> {
+    let seen = replay_at(alloc, start, journal, at)?;
+    let made = snapshot_in(alloc, seen.names(), seen.state());
+    drop(seen);
+    made
+}
+
+/// Prints a start file that opens with the state that a journal leads to, and makes the file of the map of its objects,
+/// where one is asked for.
+pub(crate) fn start_of_state(
+    progress: &mut Progress<'_>,
+    source: &Source<'_>,
+    map: Option<&str>,
+) -> ExitCode {
     let bytes = match read_source(progress, source) {
         Ok(bytes) => bytes,
         Err(status) => return status,
@@ -84,9 +137,13 @@ pub(crate) fn start_of_state(progress: &mut Progress<'_>, source: &Source<'_>) -
     } = &bytes;
     let journal = journal.as_deref().unwrap_or(b"".as_slice());
     progress.begin("writing");
-    let done = snapshot(progress.rt().alloc(), start, journal, *at);
+    let alloc = progress.rt().alloc();
+    let done = match map {
+        Some(_) => start_and_map(alloc, start, journal, *at),
+        None => start_alone(alloc, start, journal, *at),
+    };
     let named = Named::files(source.start, source.journal.unwrap_or(""));
-    let status = ended_start(progress, named, start, done);
+    let status = ended_start(progress, named, start, map, done);
     drop(bytes);
     status
 }

@@ -1,6 +1,6 @@
 //! The files of a question, read.
 use mls_files::{MarksInput, marks_refused, read_journal, read_marks, start_file};
-use mls_marks::Marks;
+use mls_marks::{Marks, Verified};
 use mls_terminal::{FileFault, Progress, Source, file_refused};
 use std::process::ExitCode;
 
@@ -11,6 +11,8 @@ pub(crate) struct Bytes {
     pub journal: Option<Vec<u8>>,
     /// The marks, which agree with the journal.
     pub marks: Option<Marks>,
+    /// What the marks say.
+    pub verified: Option<Verified>,
     /// The number of the entry before which the state is looked at, where that is told.
     pub at: Option<u64>,
 }
@@ -43,13 +45,13 @@ fn marks_over(
     path: Option<&str>,
     input: &Option<MarksInput>,
     journal: Option<&[u8]>,
-) -> Result<Option<Marks>, ExitCode> {
+) -> Result<Option<(Marks, Verified)>, ExitCode> {
     let (Some(path), Some(input), Some(journal)) = (path, input, journal) else {
         return Ok(None);
     };
     progress.begin("verifying");
     match read_marks(progress.rt().alloc(), input, journal) {
-        Ok(marks) => Ok(Some(marks)),
+        Ok(read) => Ok(Some(read)),
         Err(fault) => {
             progress.end();
             Err(marks_refused(progress.rt(), path, fault))
@@ -88,12 +90,16 @@ fn with_marks(
     start: Vec<u8>,
     journal: Option<Vec<u8>>,
 ) -> Result<Bytes, ExitCode> {
-    let marks = marks_over(progress, source.marks, input, journal.as_deref())?;
+    let (marks, verified) = match marks_over(progress, source.marks, input, journal.as_deref())? {
+        Some((marks, verified)) => (Some(marks), Some(verified)),
+        None => (None, None),
+    };
     let at = place_of(progress, source, marks.as_ref())?;
     Ok(Bytes {
         start,
         journal,
         marks,
+        verified,
         at,
     })
 }

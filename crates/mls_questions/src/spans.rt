@@ -1,6 +1,7 @@
 //! The commands that look at all states of a journal.
 use crate::answering::{Named, ended};
 use crate::listing::earlier;
+use crate::renaming::{held_after, usage_after};
 use crate::sources::{Bytes, read_source};
 use mls_marks::{Marks, Time};
 use mls_spans::{States, list_ever, list_held, list_usage};
@@ -29,6 +30,11 @@ pub(crate) fn held(progress: &mut Progress<'_>, words: &HeldWords<'_>) -> ExitCo
         Ok(bytes) => bytes,
         Err(status) => return status,
     };
+    if let Some(map) = words.after {
+        let status = held_after(progress, words, map, &bytes);
+        drop(bytes);
+        return status;
+    }
     let Bytes { start, journal, .. } = &bytes;
     let journal = journal.as_deref().unwrap_or(b"".as_slice());
     progress.begin("listing");
@@ -51,6 +57,11 @@ pub(crate) fn usage(progress: &mut Progress<'_>, words: &UsageWords<'_>) -> Exit
         Ok(bytes) => bytes,
         Err(status) => return status,
     };
+    if let Some(map) = words.after {
+        let status = usage_after(progress, words, map, &bytes);
+        drop(bytes);
+        return status;
+    }
     let Bytes { start, journal, .. } = &bytes;
     let journal = journal.as_deref().unwrap_or(b"".as_slice());
     progress.begin("listing");

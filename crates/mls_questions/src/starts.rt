@@ -12,7 +12,7 @@ use mls_places::{places, repeated_members};
 use mls_replay::{CommandFault, QuestionFault};
 use mls_review::{lattice as drawn, lint as linted};
 use mls_start_file::{LoadFault, Loaded, read_start};
-use mls_terminal::{NO_MEMORY, Progress, file_refused, print, refused};
+use mls_terminal::{NO_MEMORY, Progress, file_refused, refused};
 use mls_wording::Answer;
 use std::alloc::{AllocError, Global};
 use std::process::ExitCode;
@@ -23,9 +23,10 @@ fn asked(done: Result<Answer, AllocError>) -> Result<Answer, QuestionFault> {
 }
 
 /// Prints the places where the fault of a refused start file applies, after the line of the fault.
-fn lint_refused(rt: &HostRuntime, path: &str, bytes: &[u8], fault: LoadFault) -> ExitCode
+fn lint_refused(progress: &mut Progress<'_>, path: &str, bytes: &[u8], fault: LoadFault) -> ExitCode
     requires { fault ≢ LoadFault.Memory → RefusesStart bytes.now fault }
 {
+    let rt = progress.rt();
     let found = match fault {
         LoadFault::Memory => Err(AllocError),
         fault => places(rt.alloc(), bytes, fault),
@@ -33,7 +34,7 @@ fn lint_refused(rt: &HostRuntime, path: &str, bytes: &[u8], fault: LoadFault) ->
     match found {
         Ok(text) => {
             let status = command_refused(rt, path, &CommandFault::from(fault));
-            let _ = print(rt, text.as_bytes());
+            let _ = progress.print(text.as_bytes());
             drop(text);
             status
         }
@@ -60,7 +61,7 @@ fn lint_bytes(progress: &mut Progress<'_>, path: &str, bytes: &[u8]) -> ExitCode
     let rt = progress.rt();
     let loaded = match read_start(rt.alloc(), bytes) {
         Ok(loaded) => loaded,
-        Err(fault) => return lint_refused(rt, path, bytes, fault),
+        Err(fault) => return lint_refused(progress, path, bytes, fault),
     };
     let done = asked(findings(rt.alloc(), bytes, &loaded));
     drop(loaded);

@@ -1,6 +1,5 @@
 -- Reading a word of accesses with no lock, and writing one, keep the gate's rule.
-use Rattle.std.proofs.Common.{◌≡◌, ◌≢◌, ℕ, ◌+◌, ◌-◌, ◌<◌, ◌≤◌, List, [], ◌∷◌, ◌++◌, get_or, set, refl, sym, ap, ◌∙◌, subst, inr, ⊎_elim, arith, append-nil, length, length-append, length-set, get_or-set_same, get_or-set_other, Option, Some, None}
-use Rattle.std.proofs.lemmas.Bool.{cases_lt}
+use Rattle.std.proofs.Common.{◌≡◌, ◌≢◌, ℕ, zero, suc, ◌+◌, ◌-◌, ◌<◌, ◌≤◌, List, [], ◌∷◌, ◌++◌, get_or, set, refl, sym, ap, ◌∙◌, subst, inr, arith, append-nil, length, length-append, length-set, get_or-set_same, get_or-set_other, Option, Some, None}
 use mathlib.Core.Logic.{dite}
 use mathlib.Core.Option.{some, some-injective}
 use mathlib.Core.Option as maybe
@@ -8,27 +7,31 @@ use mathlib.Core.List.{IsPrefix}
 use native.Mathlib.Decide.{ℕ_discrete}
 use lib.ListN.{get_elem?}
 use lib.Seq.{set-get_or, drop-append_seam}
-use Rattle.atomic_table.specs.Table.{keeps, step, Allows}
+use Rattle.atomic_table.specs.Table.{keeps, step, homes_after, Allows}
 use Rattle.atomic_table.proofs.Lists.{set_else, set_again}
 use Rattle.mls_state.specs.State.{State}
 use Rattle.mls_requests.specs.declared.entry.Entry.{Entry}
 use Rattle.mls_monitor.specs.Journal.{fold}
 use Rattle.mls_monitor.specs.Entries.{of_session, AllBelow, AllOf}
-use Rattle.mls_sessions.specs.Cells.{Tells, OneWord, QuietFrom}
+use Rattle.mls_sessions.specs.Cells.{Tells, OneWord, Agrees, Quiet, note}
+use Rattle.mls_sessions.specs.declared.gate_table.Note.{Note}
+use Rattle.mls_sessions.specs.declared.limits.TheConstants.{FIRST}
 use Rattle.mls_sessions.specs.Journals.{Stands, Journal, Charter}
 use Rattle.mls_sessions.specs.Rule.{member, base, begun, present, news, Names, IsMember, Knows, Running, Gated}
-use Rattle.mls_sessions.specs.Steps.{Seat, Glimpsed, glanced, read, published, published_view, blanked}
+use Rattle.mls_sessions.specs.Steps.{Seat, Glimpsed, glanced, read, noted_view, published, published_view, blanked, updated}
 use Rattle.mls_sessions.specs.declared.counts.Counts.{Counts}
 use Rattle.mls_sessions.specs.declared.gate_table.Member.{Member}
 use Rattle.mls_sessions.specs.declared.gate_table.View.{View}
 use Rattle.mls_sessions.specs.declared.gate_table.View.TheVariants.{Sessions, Holding}
-use Rattle.mls_sessions.specs.Sessions.{member_of, taken_of, seated, holding, blanking, Holds, Sees, history, own, number_of, IsCounted}
+use Rattle.mls_sessions.specs.Sessions.{member_of, taken_of, notes_of, seated, holding, noting, Holds, Sees, history, own, number_of, IsCounted}
 use Rattle.mls_sessions.proofs.OwnEntries.{prefix_refl, below-append, below-all, own-none, prefix_after}
-use Rattle.mls_sessions.proofs.StepsKeep.{St, tag, running, others, at_here, names_some, as_seen, knows_moves, holds_word}
+use Rattle.mls_sessions.proofs.StepsKeep.{St, tag, updates, running, others, at_here, names_some, as_seen, knows_moves, holds_word}
 
-abbrev blanks_of : View → ℕ
-blanks_of (Holding c m t b) = b
-blanks_of v = 0
+-- a view that is set twice
+set_twice : (vs : List View) (id : ℕ) (x y : View) → set (set vs id x) id y ≡ set vs id y
+set_twice [] id x y = refl
+set_twice (v ∷ vs) zero x y = refl
+set_twice (v ∷ vs) (suc id) x y = ap (λ ws. v ∷ ws) (set_twice vs id x y)
 
 module _ (key : Charter) where
   abbrev n : ℕ
@@ -48,7 +51,7 @@ module _ (key : Charter) where
     later = r.later;
     owner = r.owner;
     holder = r.holder;
-    blanks = r.blanks;
+    notes = r.notes;
     wide = r.wide;
     deep = r.deep;
     legal = r.legal;
@@ -61,14 +64,14 @@ module _ (key : Charter) where
         (refl, (record { known = mine.known; here = mine.here; front = prefix_refl r.later; own = refl }, tt, tt))
         (λ j v ne kn. kn);
     tells = r.tells;
-    blank = r.blank;
+    noted = r.noted;
   }
 
   -- a word is read with no lock
-  pub glances : (slots id i : ℕ) (m : Member) → i < key.cells → Allows (Gated key) slots id (Sessions key (m ∷ []), []) (i + 1) (λ x. x) (glanced (step slots (i + 1) 0 0 maybe.none) (Sessions key (m ∷ []), []))
+  pub glances : (slots id i : ℕ) (m : Member) → i < key.cells → Allows (Gated key) slots id (Sessions key (m ∷ []), []) (i + FIRST) (λ x. x) (glanced (step slots (i + FIRST) 0 0 maybe.none) (Sessions key (m ∷ []), []))
   glances slots id i m within s g deep at small = let v : View = Sessions key (m ∷ []) in let r = running key s g id v at (omega arith) in let mine = (r.each_seat id v at).1.0 in
-      let found : ℕ = get_or s.words (i + 1) 0 in let same : set s.words (i + 1) found ≡ s.words = set-get_or s.words (i + 1) 0 in let w : View = Sessions key (member m.number r.later ∷ []) in
-      let here : i ≡ (i + 1) - 1 = omega arith in dite (ℕ_discrete found 0)
+      let found : ℕ = get_or s.words (i + FIRST) 0 in let same : set s.words (i + FIRST) found ≡ s.words = set-get_or s.words (i + FIRST) 0 in let w : View = Sessions key (member m.number r.later ∷ []) in
+      let here : i ≡ (i + FIRST) - FIRST = omega arith in dite (ℕ_discrete found 0)
       (λ none. (
         v,
         keeps,
@@ -83,28 +86,28 @@ module _ (key : Charter) where
         subst (λ (ws : List ℕ). Gated key (record { words = ws; homes = s.homes; views = set s.views id w })) (sym same) (inr (inr (sees_all s r id m at))),
         λ c x e. (
           (λ none. absurd (word none)),
-          λ _. as_seen key (λ c x. Glimpsed c x ((i + 1) - 1) found (w, [])) m
+          λ _. as_seen key (λ c x. Glimpsed c x ((i + FIRST) - FIRST) found (w, [])) m
               (r.later, refl, mine.front, sym mine.own, r.legal, subst (λ (k : ℕ). Tells (now r.later) k found) here (r.tells i within)) c x e,
         ),
       ))
 
-  pub glances_at : (slots id i : ℕ) (me : Seat) → me ≡ seated key (member_of me.0) → i < key.cells → Allows (Gated key) slots id me (i + 1) (λ x. x) (glanced (step slots (i + 1) 0 0 maybe.none) me)
-  glances_at slots id i me is within = subst (λ (m : Seat). Allows (Gated key) slots id m (i + 1) (λ x. x) (glanced (step slots (i + 1) 0 0 maybe.none) m)) (sym is) (glances slots id i (member_of me.0) within)
+  pub glances_at : (slots id i : ℕ) (me : Seat) → me ≡ seated key (member_of me.0) → i < key.cells → Allows (Gated key) slots id me (i + FIRST) (λ x. x) (glanced (step slots (i + FIRST) 0 0 maybe.none) me)
+  glances_at slots id i me is within = subst (λ (m : Seat). Allows (Gated key) slots id m (i + FIRST) (λ x. x) (glanced (step slots (i + FIRST) 0 0 maybe.none) m)) (sym is) (glances slots id i (member_of me.0) within)
 
   -- a step of the holder that frees nothing
-  holder_steps : (s : St) (r : Running key s) (id : ℕ) (i : Member) (t added : List Entry) (b b' : ℕ) (ws : List ℕ) → get_elem? s.views id ≡ some (Holding key i t b)
-      → length ws ≡ key.cells + 1 → get_or ws 0 0 ≡ get_or s.words 0 0
+  holder_steps : (s : St) (r : Running key s) (id : ℕ) (i : Member) (t added : List Entry) (b b' : List Note) (ws : List ℕ) → get_elem? s.views id ≡ some (Holding key i t b)
+      → length ws ≡ key.cells + FIRST → get_or ws 0 0 ≡ get_or s.words 0 0
       → ((k : ℕ) → k ≢ i.number → of_session k added ≡ []) → AllBelow n added → Stands (begun key) (base key ++ (r.later ++ added))
       → (j : Member) → j.number ≡ i.number → IsMember key (r.later ++ added) r.owner id j
-      → ((p : ℕ) → p < key.cells → Tells (now (r.later ++ added)) p (get_or ws (p + 1) 0))
-      → ((p : ℕ) → p < b' → get_or ws (p + 1) 0 ≡ 0)
+      → ((p : ℕ) → p < key.cells → Tells (now (r.later ++ added)) p (get_or ws (p + FIRST) 0))
+      → ((p : ℕ) → p < key.cells → Agrees b' p (get_or ws (p + FIRST) 0))
       → Running key (record { words = ws; homes = s.homes; views = set s.views id (Holding key j (r.later ++ added) b') })
-  holder_steps s r id i t added b b' ws here wide first mine_only few legal j number ok tells blank = let es : List Entry = r.later ++ added in let w : View = Holding key j es b' in let mine = r.each_seat id (Holding key i t b) here in
+  holder_steps s r id i t added b b' ws here wide first mine_only few legal j number ok tells noted = let es : List Entry = r.later ++ added in let w : View = Holding key j es b' in let mine = r.each_seat id (Holding key i t b) here in
       let named : Names (get_or ws 0 0) j.number = subst (λ (z : ℕ × ℕ). Names z.0 z.1) (λ k. (sym first k, sym number k)) mine.1 in let some_one = names_some (get_or ws 0 0) j.number named in record {
         later = es;
         owner = r.owner;
         holder = r.holder;
-        blanks = b';
+        notes = b';
         wide = wide;
         deep = r.deep;
         legal = legal;
@@ -117,70 +120,77 @@ module _ (key : Charter) where
             (λ m small seat. (seat, mine_only m (λ same. ne (sym seat ∙ (ap r.owner same ∙ mine.4.here)))))
             r.holder (get_or s.words 0 0) r.holder (get_or ws 0 0) v (λ five. ne ((holds_word key r.later r.owner j r.holder (get_or s.words 0 0) v k five).1 ∙ sym mine.2)) k);
         tells = tells;
-        blank = blank;
+        noted = noted;
       }
 
   -- the same where no entry is made
-  holder_stays : (s : St) (r : Running key s) (id : ℕ) (i : Member) (t : List Entry) (b b' : ℕ) (ws : List ℕ) → get_elem? s.views id ≡ some (Holding key i t b)
-      → length ws ≡ key.cells + 1 → get_or ws 0 0 ≡ get_or s.words 0 0
-      → ((p : ℕ) → p < key.cells → Tells (now t) p (get_or ws (p + 1) 0))
-      → ((p : ℕ) → p < b' → get_or ws (p + 1) 0 ≡ 0)
+  holder_stays : (s : St) (r : Running key s) (id : ℕ) (i : Member) (t : List Entry) (b b' : List Note) (ws : List ℕ) → get_elem? s.views id ≡ some (Holding key i t b)
+      → length ws ≡ key.cells + FIRST → get_or ws 0 0 ≡ get_or s.words 0 0
+      → ((p : ℕ) → p < key.cells → Tells (now t) p (get_or ws (p + FIRST) 0))
+      → ((p : ℕ) → p < key.cells → Agrees b' p (get_or ws (p + FIRST) 0))
       → Running key (record { words = ws; homes = s.homes; views = set s.views id (Holding key i t b') })
-  holder_stays s r id i t b b' ws here wide first tells blank = let mine = r.each_seat id (Holding key i t b) here in
+  holder_stays s r id i t b b' ws here wide first tells noted = let mine = r.each_seat id (Holding key i t b) here in
       let whole : r.later ++ [] ≡ t = append-nil r.later ∙ sym mine.3 in
       subst (λ (es : List Entry). Running key (record { words = ws; homes = s.homes; views = set s.views id (Holding key i es b') })) whole
       (holder_steps s r id i t [] b b' ws here wide first (λ k ne. refl) tt (subst (λ es. Stands (begun key) (base key ++ es)) (sym (append-nil r.later)) r.legal) i refl
       (subst (λ es. IsMember key es r.owner id i) (sym (append-nil r.later)) mine.4)
-      (λ p small. subst (λ es. Tells (now es) p (get_or ws (p + 1) 0)) (sym whole) (tells p small)) blank)
+      (λ p small. subst (λ es. Tells (now es) p (get_or ws (p + FIRST) 0)) (sym whole) (tells p small)) noted)
 
   -- what the rule says of the words, by the holder's own view
-  tells_now : (s : St) (r : Running key s) (id : ℕ) (i : Member) (t : List Entry) (b : ℕ) → get_elem? s.views id ≡ some (Holding key i t b) → (p : ℕ) → p < key.cells → Tells (now t) p (get_or s.words (p + 1) 0)
-  tells_now s r id i t b here p small = let mine = r.each_seat id (Holding key i t b) here in subst (λ es. Tells (now es) p (get_or s.words (p + 1) 0)) (sym mine.3) (r.tells p small)
+  tells_now : (s : St) (r : Running key s) (id : ℕ) (i : Member) (t : List Entry) (b : List Note) → get_elem? s.views id ≡ some (Holding key i t b) → (p : ℕ) → p < key.cells → Tells (now t) p (get_or s.words (p + FIRST) 0)
+  tells_now s r id i t b here p small = let mine = r.each_seat id (Holding key i t b) here in subst (λ es. Tells (now es) p (get_or s.words (p + FIRST) 0)) (sym mine.3) (r.tells p small)
 
-  same_blanks : (s : St) (r : Running key s) (id : ℕ) (i : Member) (t : List Entry) (b : ℕ) → get_elem? s.views id ≡ some (Holding key i t b) → b ≡ r.blanks
-  same_blanks s r id i t b here = let mine = r.each_seat id (Holding key i t b) here in let up = names_some (get_or s.words 0 0) i.number mine.1 in
-      let h = r.away (λ z. (let f : ⊥ = absurd (omega arith) in f)) in ap blanks_of (some-injective _ _ (sym here ∙ (ap (λ (j : ℕ). get_elem? s.views j) mine.2 ∙ h.1)))
+  same_notes : (s : St) (r : Running key s) (id : ℕ) (i : Member) (t : List Entry) (b : List Note) → get_elem? s.views id ≡ some (Holding key i t b) → b ≡ r.notes
+  same_notes s r id i t b here = let mine = r.each_seat id (Holding key i t b) here in let up = names_some (get_or s.words 0 0) i.number mine.1 in
+      let h = r.away (λ z. (let f : ⊥ = absurd (omega arith) in f)) in ap notes_of (some-injective _ _ (sym here ∙ (ap (λ (j : ℕ). get_elem? s.views j) mine.2 ∙ h.1)))
 
-  blank_now : (s : St) (r : Running key s) (id : ℕ) (i : Member) (t : List Entry) (b : ℕ) → get_elem? s.views id ≡ some (Holding key i t b) → (p : ℕ) → p < b → get_or s.words (p + 1) 0 ≡ 0
-  blank_now s r id i t b here p below = r.blank p (subst (λ (q : ℕ). p < q) (same_blanks s r id i t b here) below)
+  noted_now : (s : St) (r : Running key s) (id : ℕ) (i : Member) (t : List Entry) (b : List Note) → get_elem? s.views id ≡ some (Holding key i t b) → (p : ℕ) → p < key.cells → Agrees b p (get_or s.words (p + FIRST) 0)
+  noted_now s r id i t b here p few = subst (λ (ns : List Note). Agrees ns p (get_or s.words (p + FIRST) 0)) (sym (same_notes s r id i t b here)) (r.noted p few)
 
-  module _ (slots id : ℕ) (i : Member) (t : List Entry) (b : ℕ) (out : List (ℕ × Option Journal)) where
+  module _ (slots id : ℕ) (i : Member) (t : List Entry) (b : List Note) (out : List (ℕ × Option Journal)) where
     abbrev v : View
     v = Holding key i t b
 
+    -- the place by which a step names it
+    named_as : (at x : ℕ) → ◌≡◌ {A = Seat} (Holding key i t (note at x ∷ b), out) (Holding key i t (note ((at + FIRST) - FIRST) x ∷ b), out)
+    named_as at x = let place_is : at ≡ (at + FIRST) - FIRST = omega arith in ap (λ (p : ℕ). (Holding key i t (note p x ∷ b), out)) place_is
+
     -- the holder reads a word
-    reads : (at : ℕ) → at < key.cells → Allows (Gated key) slots id (v, out) (at + 1) (λ x. x) (read (step slots (at + 1) 0 0 maybe.none) (v, out))
-    reads at within s g deep here small = let r = running key s g id v here (omega arith) in let found : ℕ = get_or s.words (at + 1) 0 in
-        let same : set s.words (at + 1) found ≡ s.words = set-get_or s.words (at + 1) 0 in let place_is : at ≡ (at + 1) - 1 = omega arith in (
-          v,
+    reads : (at : ℕ) → at < key.cells → Allows (Gated key) slots id (v, out) (at + FIRST) (λ x. x) (read (step slots (at + FIRST) 0 0 maybe.none) (v, out))
+    reads at within s g deep here small = let r = running key s g id v here (omega arith) in let found : ℕ = get_or s.words (at + FIRST) 0 in let w : View = Holding key i t (note at found ∷ b) in
+        let same : set s.words (at + FIRST) found ≡ s.words = set-get_or s.words (at + FIRST) 0 in let place_is : at ≡ (at + FIRST) - FIRST = omega arith in (
+          w,
           keeps,
           tt,
-          subst (Gated key) (sym (λ z. record { words = same z; homes = s.homes; views = set_again s.views id v here z })) g,
+          subst (λ (ws : List ℕ). Gated key (record { words = ws; homes = s.homes; views = set s.views id w })) (sym same)
+              (inr (inr (holder_stays s r id i t b (note at found ∷ b) s.words here r.wide refl (tells_now s r id i t b here)
+              (λ p few. ((λ (e : p ≡ at). ap (λ (q : ℕ). get_or s.words (q + FIRST) 0) e), λ ne. noted_now s r id i t b here p few))))),
           (
-            refl,
-            λ c m taken k e. subst (λ (z : Charter × List Entry). Tells (fold (begun z.0) (base z.0 ++ z.1)) ((at + 1) - 1) found) (λ j. (charter_held (e j), taken_of (e j)))
-                (subst (λ (p : ℕ). Tells (now t) p found) place_is (tells_now s r id i t b here at within)),
+            named_as at found,
+            λ c m taken k e. subst (λ (z : Charter × List Entry × List Note). Tells (fold (begun z.0) (base z.0 ++ z.1)) ((at + FIRST) - FIRST) found × Agrees z.2 ((at + FIRST) - FIRST) found) (λ j. (charter_held (e j), taken_of (e j), notes_of (e j)))
+                (subst (λ (p : ℕ). Tells (now t) p found × Agrees b p found) place_is (tells_now s r id i t b here at within, noted_now s r id i t b here at within)),
           ),
         )
 
-    -- the holder makes the next word blank
-    blanks : b < key.cells → Allows (Gated key) slots id (v, out) (b + 1) (λ _. 0) (λ _. blanked (step slots (b + 1) 0 0 maybe.none) (v, out) 0)
-    blanks within s g deep here small = let r = running key s g id v here (omega arith) in let ws : List ℕ = set s.words (b + 1) 0 in let wide = r.wide in
-        let is : get_or ws (b + 1) 0 ≡ 0 = get_or-set_same s.words (b + 1) 0 0 (omega arith) in (
-          Holding key i t (b + 1),
+    -- the holder makes a word blank
+    blanks : (at : ℕ) → at < key.cells → Allows (Gated key) slots id (v, out) (at + FIRST) (λ _. 0) (λ _. blanked (step slots (at + FIRST) 0 0 maybe.none) (v, out) 0)
+    blanks at within s g deep here small = let r = running key s g id v here (omega arith) in let ws : List ℕ = set s.words (at + FIRST) 0 in let wide = r.wide in
+        let is : get_or ws (at + FIRST) 0 ≡ 0 = get_or-set_same s.words (at + FIRST) 0 0 (omega arith) in (
+          Holding key i t (note at 0 ∷ b),
           keeps,
           tt,
-          inr (inr (holder_stays s r id i t b (b + 1) ws here (length-set s.words (b + 1) 0 ∙ wide) (get_or-set_other s.words (b + 1) 0 0 0 (λ e. absurd (omega arith)))
-              (λ p few. dite (ℕ_discrete p b)
-              (λ (e : p ≡ b). λ known. absurd (known (ap (λ (q : ℕ). get_or ws (q + 1) 0) e ∙ is)))
-              (λ ne. subst (Tells (now t) p) (sym (get_or-set_other s.words (b + 1) (p + 1) 0 0 (λ e. ne (omega arith)))) (tells_now s r id i t b here p few)))
-              (λ p below. dite (ℕ_discrete p b)
-              (λ (e : p ≡ b). ap (λ (q : ℕ). get_or ws (q + 1) 0) e ∙ is)
-              (λ ne. get_or-set_other s.words (b + 1) (p + 1) 0 0 (λ e. ne (omega arith)) ∙ blank_now s r id i t b here p (omega arith))))),
-          refl,
+          inr (inr (holder_stays s r id i t b (note at 0 ∷ b) ws here (length-set s.words (at + FIRST) 0 ∙ wide) (get_or-set_other s.words (at + FIRST) 0 0 0 (λ e. absurd (omega arith)))
+              (λ p few. dite (ℕ_discrete p at)
+              (λ (e : p ≡ at). λ known. absurd (known (ap (λ (q : ℕ). get_or ws (q + FIRST) 0) e ∙ is)))
+              (λ ne. subst (Tells (now t) p) (sym (get_or-set_other s.words (at + FIRST) (p + FIRST) 0 0 (λ e. ne (omega arith)))) (tells_now s r id i t b here p few)))
+              (λ p few. (
+                (λ (e : p ≡ at). ap (λ (q : ℕ). get_or ws (q + FIRST) 0) e ∙ is),
+                λ ne. subst (Agrees b p) (sym (get_or-set_other s.words (at + FIRST) (p + FIRST) 0 0 (λ e. ne (omega arith)))) (noted_now s r id i t b here p few),
+              )))),
+          named_as at 0,
         )
 
-  module _ (slots id : ℕ) (i : Member) (t added : List Entry) (b : ℕ) (m : Journal) (legal : Stands m.start m.entries) (is : m ≡ present key (t ++ added)) (mine_only : (k : ℕ) → k ≢ i.number → of_session k added ≡ [])
+  module _ (slots id : ℕ) (i : Member) (t added : List Entry) (b : List Note) (m : Journal) (legal : Stands m.start m.entries) (is : m ≡ present key (t ++ added)) (mine_only : (k : ℕ) → k ≢ i.number → of_session k added ≡ [])
       (few : i.number < n → AllBelow n added) where
     abbrev held : View
     held = Holding key i t b
@@ -189,70 +199,68 @@ module _ (key : Charter) where
     laid = (0, Some m) ∷ []
 
     -- the entries are in the journal, with these words
-    publish : (s : St) (r : Running key s) → get_elem? s.views id ≡ some held → (ws : List ℕ) → length ws ≡ key.cells + 1 → get_or ws 0 0 ≡ get_or s.words 0 0
-        → ((p : ℕ) → p < key.cells → Tells (now (t ++ added)) p (get_or ws (p + 1) 0)) → Gated key (record { words = ws; homes = s.homes; views = set s.views id (published_view held laid) })
+    publish : (s : St) (r : Running key s) → get_elem? s.views id ≡ some held → (ws : List ℕ) → length ws ≡ key.cells + FIRST → get_or ws 0 0 ≡ get_or s.words 0 0
+        → ((p : ℕ) → p < key.cells → Tells (now (t ++ added)) p (get_or ws (p + FIRST) 0)) → Gated key (record { words = ws; homes = s.homes; views = set s.views id (published_view held laid) })
     publish s r here ws wide first tells = let mine = r.each_seat id held here in let es : List Entry = r.later ++ added in let grown : t ++ added ≡ es = ap (λ xs. xs ++ added) mine.3 in
         let is' : m ≡ present key es = is ∙ ap (present key) grown in
         let seen : news key m ≡ es = ap (news key) is' ∙ drop-append_seam (base key) es in
-        let done = holder_steps s r id i t added b 0 ws here wide first mine_only (few mine.4.known) (subst (λ (x : Journal). Stands x.start x.entries) is' legal) (member i.number es) refl
+        let done = holder_steps s r id i t added b [] ws here wide first mine_only (few mine.4.known) (subst (λ (x : Journal). Stands x.start x.entries) is' legal) (member i.number es) refl
         record { known = mine.4.known; here = mine.4.here; front = prefix_refl es; own = refl }
-        (λ p small. subst (λ xs. Tells (now xs) p (get_or ws (p + 1) 0)) grown (tells p small)) (λ p none. absurd (omega arith)) in
-        subst (λ (xs : List Entry). Gated key (record { words = ws; homes = s.homes; views = set s.views id (Holding key (member i.number xs) xs 0) })) (sym seen) (inr (inr done))
+        (λ p small. subst (λ xs. Tells (now xs) p (get_or ws (p + FIRST) 0)) grown (tells p small)) (λ p few. tt) in
+        subst (λ (xs : List Entry). Gated key (record { words = ws; homes = s.homes; views = set s.views id (Holding key (member i.number xs) xs []) })) (sym seen) (inr (inr done))
 
     -- by the store of the one word that they change
-    stores : (at word : ℕ) → at < key.cells → OneWord (begun key) (base key ++ t) (base key ++ (t ++ added)) at word
-        → Allows (Gated key) slots id (held, laid) (at + 1) (λ _. word) (λ _. published (step slots (at + 1) word 0 maybe.none) (held, laid) word)
-    stores at word within one s g deep here small = let r = running key s g id held here (omega arith) in let ws : List ℕ = set s.words (at + 1) word in let wide = r.wide in (
+    stores : (at word : ℕ) → at < key.cells → OneWord (begun key) (base key ++ t) (base key ++ (t ++ added)) b key.cells at word
+        → Allows (Gated key) slots id (held, laid) (at + FIRST) (λ _. word) (λ _. published (step slots (at + FIRST) word 0 maybe.none) (held, laid) word)
+    stores at word within one s g deep here small = let r = running key s g id held here (omega arith) in let ws : List ℕ = set s.words (at + FIRST) word in let wide = r.wide in (
       published_view held laid,
       keeps,
       tt,
-      publish s r here ws (length-set s.words (at + 1) word ∙ wide) (get_or-set_other s.words (at + 1) 0 word 0 (λ e. absurd (omega arith)))
+      publish s r here ws (length-set s.words (at + FIRST) word ∙ wide) (get_or-set_other s.words (at + FIRST) 0 word 0 (λ e. absurd (omega arith)))
           (λ p small. dite (ℕ_discrete p at)
-          (λ (e : p ≡ at). subst (λ (q : ℕ). Tells (now (t ++ added)) q (get_or ws (q + 1) 0)) (sym e) (subst (λ (q : ℕ). Tells (now (t ++ added)) at q) (sym (get_or-set_same s.words (at + 1) word 0 (omega arith))) one.now))
-          (λ ne. subst (λ (q : ℕ). Tells (now (t ++ added)) p q) (sym (get_or-set_other s.words (at + 1) (p + 1) word 0 (λ e. ne (omega arith)))) (one.others p (get_or s.words (p + 1) 0) ne (tells_now s r id i t b here p small)))),
+          (λ (e : p ≡ at). subst (λ (q : ℕ). Tells (now (t ++ added)) q (get_or ws (q + FIRST) 0)) (sym e) (subst (λ (q : ℕ). Tells (now (t ++ added)) at q) (sym (get_or-set_same s.words (at + FIRST) word 0 (omega arith))) one.now))
+          (λ ne. subst (λ (q : ℕ). Tells (now (t ++ added)) p q) (sym (get_or-set_other s.words (at + FIRST) (p + FIRST) word 0 (λ e. ne (omega arith)))) (one.others p (get_or s.words (p + FIRST) 0) ne small (noted_now s r id i t b here p small) (tells_now s r id i t b here p small)))),
       refl,
     )
 
-    -- by a load, where words that they change are blank
-    slips : QuietFrom (begun key) (base key ++ t) (base key ++ (t ++ added)) b key.cells → Allows (Gated key) slots id (held, laid) 0 (λ x. x) (published (step slots 0 0 0 maybe.none) (held, laid))
-    slips quiet s g deep here small = let r = running key s g id held here (omega arith) in let same : set s.words 0 (get_or s.words 0 0) ≡ s.words = set-get_or s.words 0 0 in (
-      published_view held laid,
-      keeps,
-      tt,
-      subst (λ (ws : List ℕ). Gated key (record { words = ws; homes = s.homes; views = set s.views id (published_view held laid) })) (sym same)
-          (publish s r here s.words r.wide refl
-          (λ p few. ⊎_elim (λ (below : p < b). λ known. absurd (known (blank_now s r id i t b here p below))) (λ (from : b ≤ p). quiet p (get_or s.words (p + 1) 0) from few (tells_now s r id i t b here p few)) (cases_lt p b))),
-      refl,
-    )
+    -- by the swap that frees the gate, where no word has to tell of them
+    homes : Quiet (begun key) (base key ++ t) (base key ++ (t ++ added)) b key.cells → Allows (Gated key) slots id (held, laid) 0 (λ _. 0) (λ _. updated (step slots 0 0 0 maybe.none) (held, laid) 0)
+    homes quiet s g deep here small = let r = running key s g id held here (omega arith) in let mine = r.each_seat id held here in let es : List Entry = r.later ++ added in let grown : t ++ added ≡ es = ap (λ xs. xs ++ added) mine.3 in
+        let is' : m ≡ present key es = is ∙ ap (present key) grown in let j : Member = member i.number es in let w : View = Holding key j es [] in
+        let mid : St = record { words = s.words; homes = s.homes; views = set s.views id w } in
+        let there : Running key mid = holder_steps s r id i t added b [] s.words here r.wide refl mine_only (few mine.4.known) (subst (λ (x : Journal). Stands x.start x.entries) is' legal) j refl
+        record { known = mine.4.known; here = mine.4.here; front = prefix_refl es; own = refl }
+        (λ p fits. subst (λ xs. Tells (now xs) p (get_or s.words (p + FIRST) 0)) grown (quiet p (get_or s.words (p + FIRST) 0) fits (noted_now s r id i t b here p fits) (tells_now s r id i t b here p fits))) (λ p fits. tt) in
+        let did = updates key slots id j es m is' mid (inr (inr there)) deep (at_here s.views id held w here) small in (
+          did.0,
+          did.1,
+          did.2,
+          subst (λ (vs : List View). Gated key (record { words = set s.words 0 0; homes = homes_after s.homes laid did.1; views = vs })) (set_twice s.views id w did.0) did.3,
+          did.4,
+        )
 
   -- the holder's view, as it is
-  module _ (slots id : ℕ) (v : View) (b : ℕ) (is : v ≡ Holding key (member_of v) (taken_of v) b) where
+  module _ (slots id : ℕ) (v : View) (b : List Note) (is : v ≡ Holding key (member_of v) (taken_of v) b) where
     abbrev i : Member
     i = member_of v
 
     abbrev t : List Entry
     t = taken_of v
 
-    pub reads_at : (out : List (ℕ × Option Journal)) (at : ℕ) → at < key.cells → Allows (Gated key) slots id (v, out) (at + 1) (λ x. x) (read (step slots (at + 1) 0 0 maybe.none) (v, out))
-    reads_at out at within = subst (λ (w : View). Allows (Gated key) slots id (w, out) (at + 1) (λ x. x) (read (step slots (at + 1) 0 0 maybe.none) (w, out))) (sym is) (reads slots id i t b out at within)
-
-    pub blanks_at : (out : List (ℕ × Option Journal)) → b < key.cells → Allows (Gated key) slots id (v, out) (b + 1) (λ _. 0) (λ _. blanked (step slots (b + 1) 0 0 maybe.none) (v, out) 0)
-    blanks_at out within = subst (λ (w : View). Allows (Gated key) slots id (w, out) (b + 1) (λ _. 0) (λ _. blanked (step slots (b + 1) 0 0 maybe.none) (w, out) 0)) (sym is) (blanks slots id i t b out within)
-
     module _ (m : Journal) (legal : Stands m.start m.entries) (added : List Entry) (adds : m ≡ present key (t ++ added)) (mine : AllOf i.number added) where
-      pub stores_at : (at word : ℕ) → at < key.cells → OneWord (begun key) (base key ++ t) (base key ++ (t ++ added)) at word
-          → Allows (Gated key) slots id (v, (0, Some m) ∷ []) (at + 1) (λ _. word) (λ _. published (step slots (at + 1) word 0 maybe.none) (v, (0, Some m) ∷ []) word)
-      stores_at at word within one = subst (λ (w : View). Allows (Gated key) slots id (w, (0, Some m) ∷ []) (at + 1) (λ _. word) (λ _. published (step slots (at + 1) word 0 maybe.none) (w, (0, Some m) ∷ []) word)) (sym is)
+      pub stores_at : (at word : ℕ) → at < key.cells → OneWord (begun key) (base key ++ t) (base key ++ (t ++ added)) b key.cells at word
+          → Allows (Gated key) slots id (v, (0, Some m) ∷ []) (at + FIRST) (λ _. word) (λ _. published (step slots (at + FIRST) word 0 maybe.none) (v, (0, Some m) ∷ []) word)
+      stores_at at word within one = subst (λ (w : View). Allows (Gated key) slots id (w, (0, Some m) ∷ []) (at + FIRST) (λ _. word) (λ _. published (step slots (at + FIRST) word 0 maybe.none) (w, (0, Some m) ∷ []) word)) (sym is)
           (stores slots id i t added b m legal adds (λ k other. own-none i.number k added mine other) (λ known. below-all n i.number added known mine) at word within one)
 
-      pub slips_at : QuietFrom (begun key) (base key ++ t) (base key ++ (t ++ added)) b key.cells → Allows (Gated key) slots id (v, (0, Some m) ∷ []) 0 (λ x. x) (published (step slots 0 0 0 maybe.none) (v, (0, Some m) ∷ []))
-      slips_at quiet = subst (λ (w : View). Allows (Gated key) slots id (w, (0, Some m) ∷ []) 0 (λ x. x) (published (step slots 0 0 0 maybe.none) (w, (0, Some m) ∷ []))) (sym is)
-          (slips slots id i t added b m legal adds (λ k other. own-none i.number k added mine other) (λ known. below-all n i.number added known mine) quiet)
+      pub homes_at : Quiet (begun key) (base key ++ t) (base key ++ (t ++ added)) b key.cells → Allows (Gated key) slots id (v, (0, Some m) ∷ []) 0 (λ _. 0) (λ _. updated (step slots 0 0 0 maybe.none) (v, (0, Some m) ∷ []) 0)
+      homes_at quiet = subst (λ (w : View). Allows (Gated key) slots id (w, (0, Some m) ∷ []) 0 (λ _. 0) (λ _. updated (step slots 0 0 0 maybe.none) (w, (0, Some m) ∷ []) 0)) (sym is)
+          (homes slots id i t added b m legal adds (λ k other. own-none i.number k added mine other) (λ known. below-all n i.number added known mine) quiet)
 
     -- what the view is once the entries of m are published
     module _ (m : Journal) (added : List Entry) (adds : m ≡ present key (t ++ added)) where
-      pub published_as : published_view v ((0, Some m) ∷ []) ≡ Holding key (member i.number (t ++ added)) (t ++ added) 0
-      published_as = ap (λ (w : View). published_view w ((0, Some m) ∷ [])) is ∙ ap (λ es. Holding key (member i.number es) es 0) (ap (news key) adds ∙ drop-append_seam (base key) (t ++ added))
+      pub published_as : published_view v ((0, Some m) ∷ []) ≡ Holding key (member i.number (t ++ added)) (t ++ added) []
+      published_as = ap (λ (w : View). published_view w ((0, Some m) ∷ [])) is ∙ ap (λ es. Holding key (member i.number es) es []) (ap (news key) adds ∙ drop-append_seam (base key) (t ++ added))
 
       -- and the monitor in hand again is the present one
       pub published_holds : (me : Seat) → me ≡ (published_view v ((0, Some m) ∷ []), (0, None) ∷ []) → Holds key m me × (number_of me.0 ≡ number_of v)
@@ -262,14 +270,22 @@ module _ (key : Charter) where
       )
 
   -- the holder's seat, as it is
-  pub reads_me : (slots id at : ℕ) (me : Seat) (m : Member) (t : List Entry) → me ≡ holding key m t → at < key.cells → Allows (Gated key) slots id me (at + 1) (λ x. x) (read (step slots (at + 1) 0 0 maybe.none) me)
-  reads_me slots id at me m t is within = subst (λ (z : Seat). Allows (Gated key) slots id z (at + 1) (λ x. x) (read (step slots (at + 1) 0 0 maybe.none) z)) (sym is) (reads slots id m t 0 ((0, None) ∷ []) at within)
+  module _ (slots id at : ℕ) (me : Seat) (m : Member) (t : List Entry) (b : List Note) (is : me ≡ noting key m t b) where
+    pub reads_me : at < key.cells → Allows (Gated key) slots id me (at + FIRST) (λ x. x) (read (step slots (at + FIRST) 0 0 maybe.none) me)
+    reads_me within = subst (λ (z : Seat). Allows (Gated key) slots id z (at + FIRST) (λ x. x) (read (step slots (at + FIRST) 0 0 maybe.none) z)) (sym is) (reads slots id m t b ((0, None) ∷ []) at within)
 
-  pub read_tells : (slots at found : ℕ) (me me' : Seat) (m : Member) (t : List Entry) → me ≡ holding key m t → read (step slots (at + 1) 0 0 maybe.none) me found me' → Tells (fold (begun key) (base key ++ t)) at found
-  read_tells slots at found me me' m t is told = let same : (at + 1) - 1 ≡ at = omega arith in subst (λ (p : ℕ). Tells (now t) p found) same (told.1 key m t 0 (ap (λ (z : Seat). z.0) is))
+    pub blanks_me : at < key.cells → Allows (Gated key) slots id me (at + FIRST) (λ _. 0) (λ _. blanked (step slots (at + FIRST) 0 0 maybe.none) me 0)
+    blanks_me within = subst (λ (z : Seat). Allows (Gated key) slots id z (at + FIRST) (λ _. 0) (λ _. blanked (step slots (at + FIRST) 0 0 maybe.none) z 0)) (sym is) (blanks slots id m t b ((0, None) ∷ []) at within)
 
-  pub blanks_me : (slots id b : ℕ) (me : Seat) (m : Member) (t : List Entry) → me ≡ blanking key m t b → b < key.cells → Allows (Gated key) slots id me (b + 1) (λ _. 0) (λ _. blanked (step slots (b + 1) 0 0 maybe.none) me 0)
-  blanks_me slots id b me m t is within = subst (λ (z : Seat). Allows (Gated key) slots id z (b + 1) (λ _. 0) (λ _. blanked (step slots (b + 1) 0 0 maybe.none) z 0)) (sym is) (blanks slots id m t b ((0, None) ∷ []) within)
+    place_is : (at + FIRST) - FIRST ≡ at
+    place_is = omega arith
+
+    -- its notes have one more
+    pub noted_me : (word : ℕ) (me' : Seat) → me' ≡ (noted_view me.0 ((at + FIRST) - FIRST) word, me.1) → me' ≡ noting key m t (note at word ∷ b)
+    noted_me word me' told = told ∙ ap (λ (z : Seat). (noted_view z.0 ((at + FIRST) - FIRST) word, z.1)) is ∙ ap (λ (p : ℕ). noting key m t (note p word ∷ b)) place_is
+
+    pub read_tells : (found : ℕ) (me' : Seat) → read (step slots (at + FIRST) 0 0 maybe.none) me found me' → Tells (fold (begun key) (base key ++ t)) at found × Agrees b at found
+    read_tells found me' told = subst (λ (p : ℕ). Tells (now t) p found × Agrees b p found) place_is (told.1 key m t b (ap (λ (z : Seat). z.0) is))
 
 -- what a session that read a word with no lock then knows
 module _ (key : Charter) (m : Member) (i found : ℕ) (me : Seat) (did : Glimpsed key m i found me) where
@@ -295,14 +311,14 @@ sees_counts key v w c sees was = let more = ap (λ (xs : List Entry). length xs)
     (was.0 ∙ ap (λ (xs : List Entry). length xs) (sym sees.same), (let le : c.seen ≤ length (history w) = omega arith in le))
 
 -- what a read with no lock tells the session
-module _ (key : Charter) (slots i found : ℕ) (me me' : Seat) (is : me ≡ seated key (member_of me.0)) (told : glanced (step slots (i + 1) 0 0 maybe.none) me found me') where
+module _ (key : Charter) (slots i found : ℕ) (me me' : Seat) (is : me ≡ seated key (member_of me.0)) (told : glanced (step slots (i + FIRST) 0 0 maybe.none) me found me') where
   view_is : me.0 ≡ Sessions key (member_of me.0 ∷ [])
   view_is = ap (λ (z : Seat). z.0) is
 
   pub glanced_blank : found ≡ 0 → me' ≡ me
   glanced_blank none = (told key (member_of me.0) view_is).0 none
 
-  glimpse : found ≢ 0 → Glimpsed key (member_of me.0) ((i + 1) - 1) found me'
+  glimpse : found ≢ 0 → Glimpsed key (member_of me.0) ((i + FIRST) - FIRST) found me'
   glimpse word = (told key (member_of me.0) view_is).1 word
 
   pub glanced_session : (me' ≡ seated key (member_of me'.0)) × (number_of me'.0 ≡ number_of me.0)
@@ -314,7 +330,7 @@ module _ (key : Charter) (slots i found : ℕ) (me me' : Seat) (is : me ≡ seat
   glanced_sees word = glimpsed_sees key (member_of me.0) _ found me' (glimpse word) me.0 view_is
 
   pub glanced_tells : found ≢ 0 → Tells (fold (begun key) (history me'.0)) i found
-  glanced_tells word = let same : (i + 1) - 1 ≡ i = omega arith in subst (λ (p : ℕ). Tells (fold (begun key) (history me'.0)) p found) same (glimpsed_tells key (member_of me.0) _ found me' (glimpse word))
+  glanced_tells word = let same : (i + FIRST) - FIRST ≡ i = omega arith in subst (λ (p : ℕ). Tells (fold (begun key) (history me'.0)) p found) same (glimpsed_tells key (member_of me.0) _ found me' (glimpse word))
 
   pub glanced_counts : (c : Counts) → IsCounted c me.0 → IsCounted c me'.0
   glanced_counts c was = dite (ℕ_discrete found 0) (λ none. subst (λ (z : Seat). IsCounted c z.0) (sym (glanced_blank none)) was) (λ word. sees_counts key me.0 me'.0 c (glanced_sees word) was)

@@ -1,25 +1,150 @@
--- What is handed to a step that lets entries into the journal.
-use Rattle.std.proofs.Common.{◌≡◌, ℕ, List, [], ◌∷◌, ◌++◌, refl, sym, subst}
+-- What the monitor in hand has more than the present journal, step by step.
+use Rattle.std.proofs.Common.{◌≡◌, ◌≢◌, ℕ, ◌+◌, ◌<◌, ◌≤◌, ◌%◌, true, List, [], ◌∷◌, ◌++◌, refl, sym, ap, ◌∙◌, subst, arith, append_assoc, append-nil}
+use mathlib.Core.Logic.{dite}
+use native.Mathlib.Decide.{ℕ_discrete}
+use Rattle.mls_tables.specs.declared.mode.Mode.{Mode}
+use Rattle.mls_tables.specs.declared.limits.TheConstants.{MAX_OBJECTS}
+use Rattle.mls_state.specs.State.{State, is_active}
 use Rattle.mls_requests.specs.declared.entry.Entry.{Entry}
-use Rattle.mls_sessions.specs.Cells.{OneWord, QuietFrom}
-use Rattle.mls_sessions.specs.Journals.{Journal, Charter}
-use Rattle.mls_sessions.specs.Rule.{begun, base}
+use Rattle.mls_requests.specs.declared.request.Request.{Request}
+use Rattle.mls_rules.specs.Rules.{reply}
+use Rattle.mls_monitor.specs.Journal.{fold}
+use Rattle.mls_sessions.specs.Cells.{place, bit_of, has_bit, Tells, note, Agrees, Finer, Quiet, OneWord, OfActive}
+use Rattle.mls_sessions.specs.Journals.{Journal, journal, Charter, Appends}
+use Rattle.mls_sessions.specs.Rule.{begun, base, present}
 use Rattle.mls_sessions.specs.Steps.{Seat}
-use Rattle.mls_sessions.specs.Sessions.{member_of, taken_of, blanking, HasMore}
+use Rattle.mls_sessions.specs.Sessions.{member_of, taken_of, notes_of, number_of, noting, Holds, HasMore, Leads, IsNext}
+use Rattle.mls_sessions.specs.Touches.{touch_of, makes_access}
+use Rattle.mls_sessions.specs.declared.gate_table.Note.{Note}
+use Rattle.mls_sessions.specs.declared.touch.Touch.TheVariants.{Nothing, One, Many}
+use Rattle.mls_sessions.proofs.OwnEntries.{all-append}
+use Rattle.mls_sessions.proofs.Touching.{quiet_nothing, quiet_rest, quiet_past, quiet_word, one_word, tells_after}
 
-module _ (key : Charter) (j : Journal) where
-  -- what a store asks for
-  abbrev pub ForStore : Seat → ℕ → ℕ → Type 0
-  ForStore me at word = (added : List Entry) × HasMore key me added j × OneWord (begun key) (base key ++ taken_of me.0) (base key ++ (taken_of me.0 ++ added)) at word
+-- notes that are finer leave words quiet
+pub quiet_finer : (start : State) (old new : List Entry) (ns ms : List Note) (cells : ℕ) → Finer ns ms → Quiet start old new ns cells → Quiet start old new ms cells
+quiet_finer start old new ns ms cells finer quiet i w few agrees was known = quiet i w few (finer i w known agrees) was known
 
-  -- what a load asks for
-  abbrev pub ForLoad : Seat → Type 0
-  ForLoad me = (added : List Entry) × (blanks : ℕ) × HasMore key me added j × (me ≡ blanking key (member_of me.0) (taken_of me.0) blanks)
-      × QuietFrom (begun key) (base key ++ taken_of me.0) (base key ++ (taken_of me.0 ++ added)) blanks key.cells
+pub finer_trans : (ns ms ls : List Note) → Finer ns ms → Finer ms ls → Finer ns ls
+finer_trans ns ms ls a b i w some agrees = a i w some (b i w some agrees)
 
-  pub for_store : (me me' : Seat) → me' ≡ me → (e : Entry) → HasMore key me (e ∷ []) j → (at p word : ℕ) → at ≡ p → OneWord (begun key) (base key ++ taken_of me.0) (base key ++ (taken_of me.0 ++ e ∷ [])) p word → ForStore me' at word
-  for_store me me' same e more at p word is one = subst (λ (z : Seat). ForStore z at word) (sym same) (subst (λ (q : ℕ). ForStore me q word) (sym is) (e ∷ [], more, one))
+-- a word that agrees is noted
+pub finer_read : (ns : List Note) (at x : ℕ) → Agrees ns at x → Finer ns (note at x ∷ ns)
+finer_read ns at x is i w some agrees = dite (ℕ_discrete i at) (λ (e : i ≡ at). subst (λ (z : ℕ × ℕ). Agrees ns z.0 z.1) (λ k. (sym e k, sym (agrees.0 e) k)) is) (λ ne. agrees.1 ne)
 
-  pub for_load : (me me' : Seat) (b : ℕ) → me' ≡ blanking key (member_of me.0) (taken_of me.0) b → (e : Entry) → HasMore key me (e ∷ []) j
-      → QuietFrom (begun key) (base key ++ taken_of me.0) (base key ++ (taken_of me.0 ++ e ∷ [])) b key.cells → ForLoad me'
-  for_load me me' b is e more quiet = subst ForLoad (sym is) (e ∷ [], b, record { grown = more.grown; mine = more.mine }, refl, quiet)
+-- a word is blank
+pub finer_blank : (ns : List Note) (at : ℕ) → Finer ns (note at 0 ∷ ns)
+finer_blank ns at i w some agrees = dite (ℕ_discrete i at) (λ (e : i ≡ at). absurd (some (agrees.0 e))) (λ ne. agrees.1 ne)
+
+-- so the word at that place is
+pub blank_there : {P : Type 0} (ns : List Note) (at x w : ℕ) → x ≡ 0 → w ≢ 0 → Agrees (note at x ∷ ns) at w → P
+blank_there ns at x w none some agrees = absurd (some (agrees.0 refl ∙ none))
+
+-- the words so far are of objects that are there, and one more
+pub active_none : (v : State) (ns : List Note) → OfActive v ns 0
+active_none v ns i w few some agrees = absurd (omega arith)
+
+pub active_more : (v : State) (ns ms : List Note) (k : ℕ) → OfActive v ns k → Finer ns ms → ((w : ℕ) → w ≢ 0 → Agrees ms k w → is_active v (k % MAX_OBJECTS) ≡ true) → OfActive v ms (k + 1)
+active_more v ns ms k all finer here i w few some agrees = dite (ℕ_discrete i k)
+    (λ (e : i ≡ k). subst (λ (p : ℕ). is_active v (p % MAX_OBJECTS) ≡ true) (sym e) (here w some (subst (λ (p : ℕ). Agrees ms p w) e agrees)))
+    (λ ne. all i w (omega arith) some (finer i w some agrees))
+
+module _ (key : Charter) where
+  -- the monitor that was just taken out, or published
+  pub leads_first : (j : Journal) (me : Seat) → Holds key j me → Leads key j me
+  leads_first j me held = let t : List Entry = taken_of me.0 in (
+    held.0 ∙ ap (λ ns. noting key (member_of me.0) t ns) (sym (ap (λ (z : Seat). notes_of z.0) held.0)),
+    [],
+    record { grown = held.1 ∙ ap (present key) (sym (append-nil t)); mine = tt },
+    λ i w few agrees was. subst (λ es. Tells (fold (begun key) (base key ++ es)) i w) (sym (append-nil t)) was,
+  )
+
+  -- an entry more
+  pub next_is : (j j' : Journal) (me : Seat) (k : ℕ) (r : Request) (e : Entry) → Leads key j me → k ≡ number_of me.0 → Appends j k r e j' → IsNext key me e j'
+  next_is j j' me k r e leads is did = let t : List Entry = taken_of me.0 in let added : List Entry = leads.1 in let was = leads.2.grown in record {
+    added = added;
+    more = record {
+      grown = did.appended ∙ ap (λ (b : Journal). journal b.start b.forgotten (b.entries ++ e ∷ [])) was
+          ∙ ap (journal (begun key) key.forgotten) (append_assoc (base key) (t ++ added) (e ∷ []) ∙ ap (λ es. base key ++ es) (append_assoc t added (e ∷ [])));
+      mine = all-append (number_of me.0) added (e ∷ []) leads.2.mine (did.made ∙ is, tt);
+    };
+    quiet = leads.3;
+    answered = did.answered ∙ (λ k. reply (fold (was k).start (was k).entries) (sym did.asked k));
+  }
+
+  module _ (me : Seat) (e : Entry) (j : Journal) (is : me ≡ noting key (member_of me.0) (taken_of me.0) (notes_of me.0)) (next : IsNext key me e j) where
+    abbrev t : List Entry
+    t = taken_of me.0
+
+    abbrev added : List Entry
+    added = next.added
+
+    abbrev mid : List Entry
+    mid = base key ++ (t ++ added)
+
+    abbrev last : List Entry
+    last = base key ++ (t ++ (added ++ e ∷ []))
+
+    joined : base key ++ ((t ++ added) ++ e ∷ []) ≡ last
+    joined = ap (λ es. base key ++ es) (append_assoc t added (e ∷ []))
+
+    -- where the entry is quiet too, by finer notes, so are all
+    leads_on : (me' : Seat) → me' ≡ noting key (member_of me.0) t (notes_of me'.0) → Finer (notes_of me.0) (notes_of me'.0)
+        → Quiet (begun key) mid (base key ++ ((t ++ added) ++ e ∷ [])) (notes_of me'.0) key.cells → Leads key j me' × (number_of me'.0 ≡ number_of me.0)
+    leads_on me' now finer quiet = let ms : List Note = notes_of me'.0 in let then : Seat = noting key (member_of me.0) t ms in
+        let done : Leads key j then = (
+          refl,
+          added ++ e ∷ [],
+          record { grown = next.more.grown; mine = next.more.mine },
+          λ i w few agrees was. subst (λ es. Tells (fold (begun key) es) i w) joined
+              (quiet i w few agrees (quiet_finer (begun key) (base key ++ t) mid (notes_of me.0) ms key.cells finer next.quiet i w few agrees was)),
+        ) in
+        (subst (Leads key j) (sym now) done, ap (λ (z : Seat). number_of z.0) now)
+
+    -- nothing is changed
+    pub leads_nothing : touch_of e ≡ Nothing → Leads key j me × (number_of me.0 ≡ number_of me.0)
+    leads_nothing none = leads_on me is (λ i w some agrees. agrees) (quiet_nothing (begun key) (base key) (t ++ added) e next.answered (notes_of me.0) key.cells none)
+
+    -- objects were deleted
+    pub leads_many : touch_of e ≡ Many → (me' : Seat) → me' ≡ noting key (member_of me.0) t (notes_of me'.0) → Finer (notes_of me.0) (notes_of me'.0)
+        → OfActive (fold j.start j.entries) (notes_of me'.0) key.cells → Leads key j me' × (number_of me'.0 ≡ number_of me.0)
+    leads_many many me' now finer rest = leads_on me' now finer
+        (quiet_rest (begun key) (base key) (t ++ added) e next.answered (notes_of me'.0) key.cells many
+        (subst (λ (v : State). OfActive v (notes_of me'.0) key.cells) (ap (λ (b : Journal). fold b.start b.entries) next.more.grown ∙ ap (fold (begun key)) (sym joined)) rest))
+
+    module _ (s o : ℕ) (x : Mode) (one : touch_of e ≡ One s o x) where
+      -- the triple has no word
+      pub leads_past : (o < MAX_OBJECTS → key.cells ≤ place s o) → Leads key j me × (number_of me.0 ≡ number_of me.0)
+      leads_past past = leads_on me is (λ i w some agrees. agrees) (quiet_past (begun key) (base key) (t ++ added) e next.answered s o x one (notes_of me.0) key.cells past)
+
+      -- the word of the triple was read
+      module _ (at w w' : ℕ) (place_is : at ≡ place s o) (few : at < key.cells) (within : o < MAX_OBJECTS) (me' : Seat) (now : me' ≡ noting key (member_of me.0) t (note at w ∷ notes_of me.0)) (agrees : Agrees (notes_of me.0) at w)
+          (tells : Tells (fold (begun key) (base key ++ t)) at w) (none : w ≡ 0 → w' ≡ 0) (bit : w ≢ 0 → has_bit w' (bit_of s x) ≡ makes_access e.request.action) (rest : w ≢ 0 → (i : ℕ) → i < 64 → i ≢ bit_of s x → has_bit w' i ≡ has_bit w i) where
+        abbrev read : List Note
+        read = note at w ∷ notes_of me.0
+
+        told_new : Tells (fold (begun key) (base key ++ ((t ++ added) ++ e ∷ []))) (place s o) w'
+        told_new = tells_after (begun key) (base key) (t ++ added) e next.answered s o x one w w' within (subst (λ (p : ℕ). Tells (fold (begun key) mid) p w) place_is (next.quiet at w few agrees tells)) none bit rest
+
+        notes_now : notes_of me'.0 ≡ read
+        notes_now = ap (λ (z : Seat). notes_of z.0) now
+
+        -- it stays as it is
+        pub leads_same : w' ≡ w → Leads key j me' × (number_of me'.0 ≡ number_of me.0)
+        leads_same same = leads_on me' (now ∙ ap (noting key (member_of me.0) t) (sym notes_now)) (subst (λ ns. Finer (notes_of me.0) ns) (sym notes_now) (finer_read (notes_of me.0) at w agrees))
+            (subst (λ ns. Quiet (begun key) mid (base key ++ ((t ++ added) ++ e ∷ [])) ns key.cells) ((λ k. note (sym place_is k) (same k) ∷ notes_of me.0) ∙ sym notes_now)
+            (quiet_word (begun key) (base key) (t ++ added) e next.answered s o x one (notes_of me.0) key.cells w' told_new))
+
+        abbrev ForStore : Seat → ℕ → Type 0
+        ForStore z p = (more : List Entry) × HasMore key z more j × OneWord (begun key) (base key ++ taken_of z.0) (base key ++ (taken_of z.0 ++ more)) (notes_of z.0) key.cells p w'
+
+        -- it is stored
+        pub for_store : ForStore me' at
+        for_store = let one_new = one_word (begun key) (base key) (t ++ added) e next.answered s o x one read key.cells w' told_new in
+            let quiet = quiet_finer (begun key) (base key ++ t) mid (notes_of me.0) read key.cells (finer_read (notes_of me.0) at w agrees) next.quiet in
+            let all : OneWord (begun key) (base key ++ t) (base key ++ ((t ++ added) ++ e ∷ [])) read key.cells (place s o) w' =
+            record { now = one_new.now; others = λ i u ne small agreed was. one_new.others i u ne small agreed (quiet i u small agreed was) } in
+            subst (λ (z : Seat). ForStore z at) (sym now) (
+              added ++ e ∷ [],
+              record { grown = next.more.grown; mine = next.more.mine },
+              subst (λ (z : ℕ × List Entry). OneWord (begun key) (base key ++ t) z.1 read key.cells z.0 w') (λ k. (sym place_is k, joined k)) all,
+            )

@@ -68,13 +68,13 @@ module _ (key : Charter) where
     deep = r.deep;
     legal = r.legal;
     theirs = r.theirs;
-    blanks = r.blanks;
+    notes = r.notes;
     tells = r.tells;
-    blank = r.blank;
+    noted = r.noted;
     at_home = r.at_home;
     away = λ held. let h = r.away held in
         let ne : r.holder ≢ id = λ e. idle (ap tag (some-injective _ _ (sym at ∙ (ap (λ (j : ℕ). get_elem? s.views j) (sym e) ∙ h.1)))) in
-        (h.0, at_longer (set s.views id left) (right ∷ []) r.holder (Holding key h.0 r.later r.blanks) (set_else s.views id r.holder left ne ∙ h.1), h.2);
+        (h.0, at_longer (set s.views id left) (right ∷ []) r.holder (Holding key h.0 r.later r.notes) (set_else s.views id r.holder left ne ∙ h.1), h.2);
     each_seat = λ j u e. ⊎_elim
         (others key (λ j v. Knows key r.later r.owner j r.holder word v) (λ j v. Knows key r.later owner' j r.holder word v) s.views id left r.each_seat mine
         (λ j v ne k. knows_goes r.later r.owner owner' j (λ m small here. still m small (λ e. ne (sym here ∙ e)) ∙ here) r.holder word v k) j u)
@@ -142,9 +142,9 @@ module _ (key : Charter) where
         deep = r.deep;
         legal = r.legal;
         theirs = r.theirs;
-        blanks = r.blanks;
+        notes = r.notes;
         tells = r.tells;
-        blank = r.blank;
+        noted = r.noted;
         at_home = r.at_home;
         away = λ held. let h = r.away held in let seen : View → ℕ = tag in
             let a : r.holder ≢ id = λ e. (let z = ap tag (some-injective _ _ (sym at ∙ (ap (λ (j : ℕ). get_elem? s.views j) (sym e) ∙ h.1))) in absurd (omega arith)) in
@@ -181,7 +181,7 @@ module _ (key : Charter) where
   closes id xs up all ws slots f = let s = f.0 in let at = f.1.1 in let v : View = Sessions key xs in let r = running key s f.1.0 id v at (omega arith) in let mine = (r.each_seat id v at).1 in
       dite (ℕ_discrete (get_or s.words 0 0) 0)
       (λ free. (r.later, f.4 0 (Some (present key r.later)) (r.at_home free), known_of r.later r.owner id xs mine, r.theirs, r.legal))
-      (λ held. let h = r.away held in let theirs = (r.each_seat r.holder (Holding key h.0 r.later r.blanks) h.1).4 in let small = theirs.known in
+      (λ held. let h = r.away held in let theirs = (r.each_seat r.holder (Holding key h.0 r.later r.notes) h.1).4 in let small = theirs.known in
       let seat : id ≡ r.holder = sym (owner_of r.later r.owner id 0 xs up mine h.0.number (omega arith) (omega arith)) ∙ theirs.here in
       let two = ap tag (some-injective _ _ (sym at ∙ (ap (λ (j : ℕ). get_elem? s.views j) seat ∙ h.1))) in absurd (omega arith))
 

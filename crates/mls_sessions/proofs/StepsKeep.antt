@@ -1,5 +1,5 @@
 -- Each step of the gate keeps its rule.
-use Rattle.std.proofs.Common.{le_refl, ◌≡◌, ◌≢◌, ℕ, zero, suc, ◌+◌, ◌%◌, ◌<◌, eqb, List, [], ◌∷◌, ◌++◌, get_or, set, refl, sym, ap, ◌∙◌, subst, inl, inr, ⊎_elim, arith, eq-eqb, ne_eqb, length-set, get_or-set_same, get_or-set_other, append-nil, append_assoc, Option, Some, None}
+use Rattle.std.proofs.Common.{le_refl, ◌≡◌, ◌≢◌, ℕ, zero, suc, ◌+◌, ◌-◌, ◌%◌, ◌<◌, eqb, List, [], ◌∷◌, ◌++◌, get_or, set, refl, sym, ap, ◌∙◌, subst, inl, inr, ⊎_elim, arith, eq-eqb, ne_eqb, length-set, get_or-set_same, get_or-set_other, append-nil, append_assoc, Option, Some, None}
 use mathlib.Core.Logic.{dite}
 use mathlib.Core.Option.{some, some-injective, some-ne-none}
 use mathlib.Core.Option as maybe
@@ -15,7 +15,8 @@ use Rattle.mls_sessions.specs.Journals.{Stands, Journal, journal, Charter}
 use Rattle.mls_monitor.specs.Entries.{of_session}
 use Rattle.std.proofs.lemmas.List.{length-replicate, get_or-replicate}
 use Rattle.mls_monitor.specs.Journal.{fold}
-use Rattle.mls_sessions.specs.Cells.{Tells}
+use Rattle.mls_sessions.specs.Cells.{Tells, Agrees}
+use Rattle.mls_sessions.specs.declared.limits.TheConstants.{FIRST}
 use Rattle.mls_sessions.specs.Rule.{member, word_of, Names, base, present, IsMember, Fits, IsUnused, Knows, Running, IsEmpty, IsFilling, Gated, news, begun}
 use Rattle.mls_sessions.specs.Steps.{Seat, filled, settled, Taken, won, kept_view, kept, marked, updated_view, updated}
 use Rattle.mls_sessions.specs.declared.gate_table.Member.{Member}
@@ -75,8 +76,8 @@ at_here (x ∷ vs) zero v w e = refl
 at_here (x ∷ vs) (suc id) v w e = at_here vs id v w e
 
 -- a step on the gate's word leaves the words of accesses
-pub still : (P : ℕ → ℕ → Type 0) (ws : List ℕ) (x m : ℕ) → ((i : ℕ) → i < m → P i (get_or ws (i + 1) 0)) → (i : ℕ) → i < m → P i (get_or (set ws 0 x) (i + 1) 0)
-still P ws x m all i small = subst (P i) (sym (get_or-set_other ws 0 (i + 1) x 0 (λ e. absurd (omega arith)))) (all i small)
+pub still : (P : ℕ → ℕ → Type 0) (ws : List ℕ) (x m : ℕ) → ((i : ℕ) → i < m → P i (get_or ws (i + FIRST) 0)) → (i : ℕ) → i < m → P i (get_or (set ws 0 x) (i + FIRST) 0)
+still P ws x m all i small = subst (P i) (sym (get_or-set_other ws 0 (i + FIRST) x 0 (λ e. absurd (omega arith)))) (all i small)
 
 -- a step that changes nothing
 pub same_state : (s : St) (id : ℕ) (c : List (ℕ × Option Journal)) (v : View) → get_elem? s.views id ≡ some v → stepped s 0 (get_or s.words 0 0) id c v keeps ≡ s
@@ -159,7 +160,7 @@ module _ (key : Charter) where
 
   -- a holder other than the session's own seat shows that there are two sessions
   not_alone : (s : St) (r : Running key s) (id : ℕ) (i : Member) → get_elem? s.views id ≡ some (Sessions key (i ∷ [])) → get_or s.words 0 0 ≢ 0 → key.count ≢ 1
-  not_alone s r id i at held one = let h = r.away held in let mine = (r.each_seat id (Sessions key (i ∷ [])) at).1.0 in let theirs = (r.each_seat r.holder (Holding key h.0 r.later r.blanks) h.1).4 in
+  not_alone s r id i at held one = let h = r.away held in let mine = (r.each_seat id (Sessions key (i ∷ [])) at).1.0 in let theirs = (r.each_seat r.holder (Holding key h.0 r.later r.notes) h.1).4 in
       let a = mine.known in let b = theirs.known in let same : i.number ≡ h.0.number = omega arith in
       let seat : id ≡ r.holder = sym mine.here ∙ (ap r.owner same ∙ theirs.here) in
       let two = ap tag (some-injective _ _ (sym at ∙ (ap (λ (j : ℕ). get_elem? s.views j) seat ∙ h.1))) in absurd (omega arith)
@@ -179,9 +180,9 @@ module _ (key : Charter) where
         at_home = λ z. absurd (omega arith);
         away = λ _. let h = r.away held in (h.0, h.1, same h.0.number h.2);
         each_seat = λ j u e. word_knows r.later r.owner j r.holder was (get_or (set s.words 0 x) 0 0) same u (r.each_seat j u e);
-        blanks = r.blanks;
+        notes = r.notes;
         tells = still (Tells (fold (begun key) (base key ++ r.later))) s.words x key.cells r.tells;
-        blank = still (λ _ w. w ≡ 0) s.words x r.blanks r.blank;
+        noted = still (λ i w. Agrees r.notes i w) s.words x key.cells r.noted;
       })
 
   pub marks : (slots id y x : ℕ) (i : Member) → y ≢ 0 → y % 2 ≡ 0 → x ≡ y + 1
@@ -204,8 +205,8 @@ module _ (key : Charter) where
       ))
 
   takes_out : (s : St) (r : Running key s) (id x : ℕ) (i : Member) → Names x i.number → get_elem? s.views id ≡ some (Sessions key (i ∷ [])) → get_or s.words 0 0 ≡ 0
-      → Running key (stepped s 0 x id [] (Holding key i r.later 0) (takes 0 (Some (present key r.later))))
-  takes_out s r id x i named at free = let up = names_some x i.number named in let w : View = Holding key i r.later 0 in let wide = r.wide in let now : get_or (set s.words 0 x) 0 0 ≡ x = get_or-set_same s.words 0 x 0 (omega arith) in let named' : Names (get_or (set s.words 0 x) 0 0) i.number = subst (λ (y : ℕ). Names y i.number) (sym now) named in record {
+      → Running key (stepped s 0 x id [] (Holding key i r.later []) (takes 0 (Some (present key r.later))))
+  takes_out s r id x i named at free = let up = names_some x i.number named in let w : View = Holding key i r.later [] in let wide = r.wide in let now : get_or (set s.words 0 x) 0 0 ≡ x = get_or-set_same s.words 0 x 0 (omega arith) in let named' : Names (get_or (set s.words 0 x) 0 0) i.number = subst (λ (y : ℕ). Names y i.number) (sym now) named in record {
     later = r.later;
     owner = r.owner;
     holder = id;
@@ -218,15 +219,15 @@ module _ (key : Charter) where
     each_seat = others (λ j v. Knows key r.later r.owner j r.holder (get_or s.words 0 0) v) (λ j v. Knows key r.later r.owner j id (get_or (set s.words 0 x) 0 0) v) s.views id w r.each_seat
         (refl, named', refl, refl, (r.each_seat id (Sessions key (i ∷ [])) at).1.0)
         (λ j v ne k. free_knows r.later r.owner j r.holder id (get_or s.words 0 0) (get_or (set s.words 0 x) 0 0) free v k);
-    blanks = 0;
+    notes = [];
     tells = still (Tells (fold (begun key) (base key ++ r.later))) s.words x key.cells r.tells;
-    blank = λ i small. absurd (omega arith);
+    noted = λ i small. tt;
   }
 
   pub wins : (slots id x : ℕ) (i : Member) → Names x i.number
       → Allows (Gated key) slots id (Sessions key (i ∷ []), []) 0 (λ y. either (eqb y 0) x y) (won (step slots 0 0 x maybe.none) (Sessions key (i ∷ []), []))
   wins slots id x i up s g deep at small = let v : View = Sessions key (i ∷ []) in let r = running key s g id v at (omega arith) in let now : ℕ = get_or s.words 0 0 in dite (ℕ_discrete now 0)
-      (λ free. let w : View = Holding key i r.later 0 in let a : Act (Option Journal) = takes 0 (Some (present key r.later)) in let ok = (r.each_seat id v at).1.0 in (
+      (λ free. let w : View = Holding key i r.later [] in let a : Act (Option Journal) = takes 0 (Some (present key r.later)) in let ok = (r.each_seat id v at).1.0 in (
         w,
         a,
         r.at_home free,
@@ -242,9 +243,9 @@ module _ (key : Charter) where
       ))
 
   -- the holder puts the monitor home, and has the view x from then on
-  puts_home : (s : St) (r : Running key s) (id : ℕ) (i x : Member) (t : List Entry) → get_elem? s.views id ≡ some (Holding key i t 0) → IsMember key r.later r.owner id x
+  puts_home : (s : St) (r : Running key s) (id : ℕ) (i x : Member) (t : List Entry) → get_elem? s.views id ≡ some (Holding key i t []) → IsMember key r.later r.owner id x
       → Running key (stepped s 0 0 id ((0, Some (present key r.later)) ∷ []) (Sessions key (x ∷ [])) gives)
-  puts_home s r id i x t at ok = let w : View = Sessions key (x ∷ []) in let wide = r.wide in let deep = r.deep in let mine = r.each_seat id (Holding key i t 0) at in
+  puts_home s r id i x t at ok = let w : View = Sessions key (x ∷ []) in let wide = r.wide in let deep = r.deep in let mine = r.each_seat id (Holding key i t []) at in
       let none : (k : ℕ) → of_session k [] ≡ [] = λ k. refl in let same : r.later ++ [] ≡ r.later = append-nil r.later in record {
         later = r.later;
         owner = r.owner;
@@ -259,17 +260,17 @@ module _ (key : Charter) where
             (refl, (ok, tt, tt))
             (λ j v ne k. subst (λ es. Knows key es r.owner j r.holder (get_or (set s.words 0 0) 0 0) v) same (knows_moves r.later [] r.owner r.owner j j (λ m small here. (here, refl))
             r.holder (get_or s.words 0 0) r.holder (get_or (set s.words 0 0) 0 0) v (λ five. ne ((holds_word r.later r.owner j r.holder (get_or s.words 0 0) v k five).1 ∙ sym mine.2)) k));
-        blanks = 0;
+        notes = [];
         tells = still (Tells (fold (begun key) (base key ++ r.later))) s.words 0 key.cells r.tells;
-        blank = λ i small. absurd (omega arith);
+        noted = λ i small. tt;
       }
 
   module _ (slots id : ℕ) (i : Member) (t : List Entry) (m : Journal) (is : m ≡ present key t) where
     abbrev out : List (ℕ × Option Journal)
     out = (0, Some m) ∷ []
 
-    pub updates : Allows (Gated key) slots id (Holding key i t 0, out) 0 (λ _. 0) (λ _. updated (step slots 0 0 0 maybe.none) (Holding key i t 0, out) 0)
-    updates s g deep at small = let v : View = Holding key i t 0 in let r = running key s g id v at (omega arith) in let mine = r.each_seat id v at in
+    pub updates : Allows (Gated key) slots id (Holding key i t [], out) 0 (λ _. 0) (λ _. updated (step slots 0 0 0 maybe.none) (Holding key i t [], out) 0)
+    updates s g deep at small = let v : View = Holding key i t [] in let r = running key s g id v at (omega arith) in let mine = r.each_seat id v at in
         let is' : m ≡ present key r.later = is ∙ ap (present key) mine.3 in
         let seen : news key m ≡ r.later = ap (news key) is' ∙ drop-append_seam (base key) r.later in
         let home = puts_home s r id i (member i.number r.later) t at
@@ -281,8 +282,8 @@ module _ (key : Charter) where
           refl,
         )
 
-    pub keeps_seen : Allows (Gated key) slots id (Holding key i t 0, out) 0 (λ _. 0) (λ _. kept (step slots 0 0 0 maybe.none) (Holding key i t 0, out) 0)
-    keeps_seen s g deep at small = let v : View = Holding key i t 0 in let r = running key s g id v at (omega arith) in let mine = r.each_seat id v at in
+    pub keeps_seen : Allows (Gated key) slots id (Holding key i t [], out) 0 (λ _. 0) (λ _. kept (step slots 0 0 0 maybe.none) (Holding key i t [], out) 0)
+    keeps_seen s g deep at small = let v : View = Holding key i t [] in let r = running key s g id v at (omega arith) in let mine = r.each_seat id v at in
         let is' : m ≡ present key r.later = is ∙ ap (present key) mine.3 in
         let home = puts_home s r id i i t at mine.4 in (
           kept_view v,
@@ -293,17 +294,17 @@ module _ (key : Charter) where
         )
 
   -- the office is opened: the empty slot is taken, and the monitor is put home
-  pub starts : Gated key (opening (0 ∷ replicate key.cells 0) (replicate 1 None) (Starting key))
+  pub starts : Gated key (opening (0 ∷ replicate (key.cells + (FIRST - 1)) 0) (replicate 1 None) (Starting key))
   starts = inl refl
 
-  pub starts_with : (ws : List ℕ) → ws ≡ replicate (key.cells + 1) 0 → Gated key (opening ws (replicate 1 None) (Starting key))
-  starts_with ws is = let up : key.cells + 1 ≡ suc key.cells = omega arith in subst (λ (xs : List ℕ). Gated key (opening xs (replicate 1 None) (Starting key))) (sym (is ∙ ap (λ (m : ℕ). replicate m 0) up)) starts
+  pub starts_with : (ws : List ℕ) → ws ≡ replicate (key.cells + FIRST) 0 → Gated key (opening ws (replicate 1 None) (Starting key))
+  starts_with ws is = let up : key.cells + FIRST ≡ suc (key.cells + (FIRST - 1)) = omega arith in subst (λ (xs : List ℕ). Gated key (opening xs (replicate 1 None) (Starting key))) (sym (is ∙ ap (λ (m : ℕ). replicate m 0) up)) starts
 
   abbrev empty : St
-  empty = record { words = 0 ∷ replicate key.cells 0; homes = some None ∷ []; views = Starting key ∷ [] }
+  empty = record { words = 0 ∷ replicate (key.cells + (FIRST - 1)) 0; homes = some None ∷ []; views = Starting key ∷ [] }
 
   abbrev filling : St
-  filling = record { words = 2 ∷ replicate key.cells 0; homes = maybe.none ∷ []; views = Filling key ∷ [] }
+  filling = record { words = 2 ∷ replicate (key.cells + (FIRST - 1)) 0; homes = maybe.none ∷ []; views = Filling key ∷ [] }
 
   module _ (slots : ℕ) where
     abbrev Fills : ℕ → St → Type 0
@@ -322,7 +323,7 @@ module _ (key : Charter) where
 
     module _ (m : Journal) (is : m ≡ journal (begun key) key.forgotten (base key)) (legal : Stands m.start m.entries) where
       abbrev home : St
-      home = record { words = 0 ∷ replicate key.cells 0; homes = some (Some m) ∷ []; views = Giving key n ∷ [] }
+      home = record { words = 0 ∷ replicate (key.cells + (FIRST - 1)) 0; homes = some (Some m) ∷ []; views = Giving key n ∷ [] }
 
       at_start : m ≡ present key []
       at_start = is ∙ ap (journal (begun key) key.forgotten) (sym (append-nil (base key)))
@@ -332,17 +333,17 @@ module _ (key : Charter) where
         later = [];
         owner = λ _. 0;
         holder = 0;
-        wide = ap suc (length-replicate key.cells 0) ∙ (let up : suc key.cells ≡ key.cells + 1 = omega arith in up);
+        wide = ap suc (length-replicate (key.cells + (FIRST - 1)) 0) ∙ (let up : suc (key.cells + (FIRST - 1)) ≡ key.cells + FIRST = omega arith in up);
         deep = refl;
         legal = subst (λ (b : Journal). Stands b.start b.entries) at_start legal;
         theirs = tt;
         at_home = λ _. ap (λ (b : Journal). some (some (Some b))) at_start;
         away = λ held. absurd (held refl);
         each_seat = λ j v e. subst (λ (z : ℕ × View). Knows key [] (λ _. 0) z.0 0 0 z.1) (λ k. (sym (one_id (Giving key n) v j e) k, one_view (Giving key n) v j e k)) (refl, le_refl n, λ _ _ _. (refl, refl));
-        blanks = 0;
-        tells = λ i small known. let zeros : List ℕ = 0 ∷ replicate key.cells 0 in let up : suc i ≡ i + 1 = omega arith in
-            absurd (known (subst (λ (k : ℕ). get_or zeros k 0 ≡ 0) up (get_or-replicate {A = ℕ} key.cells i 0 0 small)));
-        blank = λ i small. absurd (omega arith);
+        notes = [];
+        tells = λ i small known. let zeros : List ℕ = 0 ∷ replicate (key.cells + (FIRST - 1)) 0 in let up : suc (i + (FIRST - 1)) ≡ i + FIRST = omega arith in
+            absurd (known (subst (λ (k : ℕ). get_or zeros k 0 ≡ 0) up (get_or-replicate {A = ℕ} (key.cells + (FIRST - 1)) (i + (FIRST - 1)) 0 0 (omega arith))));
+        noted = λ i small. tt;
       }
 
       abbrev Settles : ℕ → St → Type 0
@@ -369,7 +370,7 @@ module _ (key : Charter) where
   marks_at slots id y x me is some_one even up = subst (λ (m : Seat). Allows (Gated key) slots id m 0 (λ n. either (eqb n y) x n) (marked (step slots 0 y x maybe.none) m)) (sym is) (marks slots id y x (member_of me.0) some_one even up)
 
   -- the holder's view, as it is
-  module _ (slots id : ℕ) (v : View) (is : v ≡ Holding key (member_of v) (taken_of v) 0) (m : Journal) (took : m ≡ present key (taken_of v)) where
+  module _ (slots id : ℕ) (v : View) (is : v ≡ Holding key (member_of v) (taken_of v) []) (m : Journal) (took : m ≡ present key (taken_of v)) where
     abbrev i : Member
     i = member_of v
 

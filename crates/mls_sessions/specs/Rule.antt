@@ -1,5 +1,5 @@
 -- The gate's rule: what holds between any two atomic steps, whichever threads step.
-use Rattle.std.specs.Prelude.{◌≡◌, ◌≢◌, ◌⊎◌, ℕ, ◌+◌, ◌*◌, ◌<◌, ◌≤◌, List, [], ◌∷◌, ◌++◌, length, drop, slice_index}
+use Rattle.std.specs.Prelude.{◌≡◌, ◌≢◌, ◌⊎◌, ℕ, ◌+◌, ◌-◌, ◌*◌, ◌<◌, ◌≤◌, List, [], ◌∷◌, ◌++◌, length, drop, slice_index}
 use Rattle.std.specs.Prelude.{Option, Some, None, replicate}
 use mathlib.Core.List.{IsPrefix}
 use mathlib.Core.Option.{some}
@@ -11,7 +11,9 @@ use Rattle.mls_requests.specs.declared.entry.Entry.{Entry}
 use Rattle.mls_sessions.specs.Journals.{Journal, journal, Charter, Stands}
 use Rattle.mls_monitor.specs.Entries.{of_session, AllBelow}
 use Rattle.mls_monitor.specs.Journal.{fold}
-use Rattle.mls_sessions.specs.Cells.{Tells}
+use Rattle.mls_sessions.specs.Cells.{Tells, Agrees}
+use Rattle.mls_sessions.specs.declared.gate_table.Note.{Note}
+use Rattle.mls_sessions.specs.declared.limits.TheConstants.{FIRST}
 use Rattle.mls_sessions.specs.declared.gate_table.Member.{Member}
 use Rattle.mls_sessions.specs.declared.gate_table.View.{View}
 use Rattle.mls_sessions.specs.declared.gate_table.View.TheVariants.{Spent, Starting, Filling, Giving, Sessions, Holding}
@@ -82,40 +84,40 @@ module _ (key : Charter) (later : List Entry) (owner : ℕ → ℕ) (seat : ℕ)
   Knows holder word (Filling c) = ⊥
   Knows holder word (Giving c g) = (c ≡ key) × (g ≤ key.count) × IsUnused g
   Knows holder word (Sessions c members) = (c ≡ key) × Fits members
-  Knows holder word (Holding c m taken blanks) = (c ≡ key) × Names word m.number × (seat ≡ holder) × (taken ≡ later)
+  Knows holder word (Holding c m taken notes) = (c ≡ key) × Names word m.number × (seat ≡ holder) × (taken ≡ later)
       × IsMember m
 
 -- The rule once the monitor was put in. Clause 1: the word is 0 and the monitor with the present journal is at home; or
 -- one seat holds, and the word names its session. Clause 2: the present journal is legal from the office's start,
 -- begins with the journal when the office was opened, and its later entries have session numbers less than n. Clauses 3
 -- to 5 are what each seat knows. Clause 6: each word of accesses is blank or tells of the state that the present journal
--- leads to, and as many as the holder knows of are blank. (own)
+-- leads to, and is what the holder noted of it. (own)
 pub record Running (key : Charter) (s : TableState (Option Journal) View) : Type 0 where
   pub later : List Entry
   pub owner : ℕ → ℕ
   pub holder : ℕ
-  pub blanks : ℕ
-  pub wide : length s.words ≡ key.cells + 1
+  pub notes : List Note
+  pub wide : length s.words ≡ key.cells + FIRST
   pub deep : length s.homes ≡ 1
   pub legal : Stands (begun key) (base key ++ later)
   pub theirs : AllBelow key.count later
   pub at_home : slice_index s.words 0 ≡ 0 → get_elem? s.homes 0 ≡ some (some (Some (present key later)))
-  pub away : slice_index s.words 0 ≢ 0 → (m : Member) × (get_elem? s.views holder ≡ some (Holding key m later blanks))
+  pub away : slice_index s.words 0 ≢ 0 → (m : Member) × (get_elem? s.views holder ≡ some (Holding key m later notes))
       × Names (slice_index s.words 0) m.number
   pub each_seat : (j : ℕ) (v : View) → get_elem? s.views j ≡ some v
       → Knows key later owner j holder (slice_index s.words 0) v
-  pub tells : (i : ℕ) → i < key.cells → Tells (fold (begun key) (base key ++ later)) i (slice_index s.words (i + 1))
-  pub blank : (i : ℕ) → i < blanks → slice_index s.words (i + 1) ≡ 0
+  pub tells : (i : ℕ) → i < key.cells → Tells (fold (begun key) (base key ++ later)) i (slice_index s.words (i + FIRST))
+  pub noted : (i : ℕ) → i < key.cells → Agrees notes i (slice_index s.words (i + FIRST))
 
 -- Before the monitor was put in: the gate is free, the slot empty, and all words of accesses are blank. (own)
 abbrev pub IsEmpty : Charter → TableState (Option Journal) View → Type 0
 IsEmpty key s =
-    s ≡ record { words = 0 ∷ replicate key.cells 0; homes = some None ∷ []; views = Starting key ∷ [] }
+    s ≡ record { words = 0 ∷ replicate (key.cells + (FIRST - 1)) 0; homes = some None ∷ []; views = Starting key ∷ [] }
 
 -- The first seat has taken the empty slot. (own)
 abbrev pub IsFilling : Charter → TableState (Option Journal) View → Type 0
 IsFilling key s =
-    s ≡ record { words = 2 ∷ replicate key.cells 0; homes = maybe.none ∷ []; views = Filling key ∷ [] }
+    s ≡ record { words = 2 ∷ replicate (key.cells + (FIRST - 1)) 0; homes = maybe.none ∷ []; views = Filling key ∷ [] }
 
 -- The gate's rule. (own)
 abbrev pub Gated : Charter → TableState (Option Journal) View → Type 0

@@ -12,6 +12,8 @@ use Rattle.mls_rules.specs.Rules.{reply}
 use Rattle.mls_monitor.specs.Journal.{fold}
 use Rattle.mls_sessions.specs.Rule.{begun, base, present, news, member}
 use Rattle.mls_sessions.specs.Steps.{Seat}
+use Rattle.mls_sessions.specs.Cells.{Quiet}
+use Rattle.mls_sessions.specs.declared.gate_table.Note.{Note}
 use Rattle.mls_sessions.specs.declared.gate_table.Member.{Member}
 use Rattle.mls_sessions.specs.declared.counts.Counts.{Counts}
 use Rattle.mls_sessions.specs.declared.gate_table.View.{View}
@@ -44,13 +46,18 @@ is_count n = nat_le 1 n && nat_le n MAX_SESSIONS
 -- The session of a seat that has one. (own)
 abbrev pub member_of : View → Member
 member_of (Sessions c (m ∷ rest)) = m
-member_of (Holding c m taken blanks) = m
+member_of (Holding c m taken notes) = m
 member_of v = member 0 []
 
 -- What was added to the journal that a holder took, since the office was opened. (own)
 abbrev pub taken_of : View → List Entry
-taken_of (Holding c m taken blanks) = taken
+taken_of (Holding c m taken notes) = taken
 taken_of v = []
+
+-- What a holder noted of words of accesses. (own)
+abbrev pub notes_of : View → List Note
+notes_of (Holding c m taken notes) = notes
+notes_of v = []
 
 -- A session's number. (own)
 abbrev pub number_of : View → ℕ
@@ -62,11 +69,11 @@ seated key m = (Sessions key (m ∷ []), [])
 
 -- The seat of a session that holds the gate, with the monitor in hand. (own)
 abbrev pub holding : Charter → Member → List Entry → Seat
-holding key m taken = (Holding key m taken 0, (0, None) ∷ [])
+holding key m taken = (Holding key m taken [], (0, None) ∷ [])
 
--- The same, where it made so many words of accesses blank. (own)
-abbrev pub blanking : Charter → Member → List Entry → ℕ → Seat
-blanking key m taken blanks = (Holding key m taken blanks, (0, None) ∷ [])
+-- The same, where it noted this of words of accesses. (own)
+abbrev pub noting : Charter → Member → List Entry → List Note → Seat
+noting key m taken notes = (Holding key m taken notes, (0, None) ∷ [])
 
 -- The seat holds the gate, and this is the journal of the monitor that it took. (own)
 abbrev pub Holds : Charter → Journal → Seat → Type 0
@@ -77,13 +84,27 @@ pub record HasMore (key : Charter) (me : Seat) (added : List Entry) (j : Journal
   pub grown : j ≡ present key (taken_of me.0 ++ added)
   pub mine : AllOf (number_of me.0) added
 
--- An entry has the reply that the rules give after the journal that the holder took. (own)
-abbrev pub IsAnswered : Charter → Seat → Entry → Type 0
-IsAnswered key me e = e.reply ≡ reply (fold (begun key) (base key ++ taken_of me.0)) e.request
+-- These entries more than the present journal has change nothing that a word tells, by what the holder noted. (own)
+abbrev pub IsQuiet : Charter → Seat → List Entry → Type 0
+IsQuiet key me added = Quiet (begun key) (base key ++ taken_of me.0) (base key ++ (taken_of me.0 ++ added))
+    (notes_of me.0) key.cells
+
+-- The seat holds the gate, and the monitor in hand has entries more than the present journal that change nothing which
+-- a word tells: it may be put home as it is. (own)
+abbrev pub Leads : Charter → Journal → Seat → Type 0
+Leads key j me = (me ≡ noting key (member_of me.0) (taken_of me.0) (notes_of me.0))
+    × (added : List Entry) × HasMore key me added j × IsQuiet key me added
+
+-- The monitor in hand has this entry more than one that leads had, with the reply that the rules give there. (own)
+pub record IsNext (key : Charter) (me : Seat) (e : Entry) (j : Journal) : Type 0 where
+  pub added : List Entry
+  pub more : HasMore key me (added ++ e ∷ []) j
+  pub quiet : IsQuiet key me added
+  pub answered : e.reply ≡ reply (fold (begun key) (base key ++ (taken_of me.0 ++ added))) e.request
 
 -- The session took out the monitor with this journal, which begins with its history and has just its own part. (own)
 abbrev pub TookOut : Charter → Member → Journal → Seat → Type 0
-TookOut key m j me = (later : List Entry) × (j ≡ present key later) × (me ≡ (Holding key m later 0, (0, None) ∷ []))
+TookOut key m j me = (later : List Entry) × (j ≡ present key later) × (me ≡ (Holding key m later [], (0, None) ∷ []))
     × IsPrefix m.later later × (of_session m.number m.later ≡ of_session m.number later)
 
 -- The session was given by the office. (own)

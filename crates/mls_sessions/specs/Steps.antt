@@ -1,11 +1,13 @@
 -- What each kind of atomic step tells the seat that makes it, and which views it may change. A seat is its view and
 -- what it holds of the slot. Parking and waking change no view.
-use Rattle.std.specs.Prelude.{◌≡◌, ◌≢◌, ℕ, ◌+◌, ◌-◌, if◌then◌else◌, nat_lt, List, [], ◌∷◌, ◌++◌, length, Option, Some, None}
+use Rattle.std.specs.Prelude.{◌≡◌, ◌≢◌, ℕ, ◌-◌, if◌then◌else◌, nat_lt, List, [], ◌∷◌, ◌++◌, length, Option, Some, None}
 use mathlib.Core.List.{IsPrefix}
 use Rattle.atomic_table.specs.Table.{Me, Step}
 use Rattle.mls_requests.specs.declared.entry.Entry.{Entry}
 use Rattle.mls_monitor.specs.Journal.{fold}
-use Rattle.mls_sessions.specs.Cells.{Tells}
+use Rattle.mls_sessions.specs.Cells.{Tells, Agrees, note}
+use Rattle.mls_sessions.specs.declared.gate_table.Note.{Note}
+use Rattle.mls_sessions.specs.declared.limits.TheConstants.{FIRST}
 use Rattle.mls_sessions.specs.Journals.{Journal, Charter, Stands}
 use Rattle.mls_monitor.specs.Entries.{of_session}
 use Rattle.mls_sessions.specs.Rule.{member, begun, base, present, news}
@@ -32,7 +34,7 @@ settled st me found me' = (c : Charter) → me.0 ≡ Filling c → me' ≡ (Givi
 -- The monitor is out with the session, which learns that its history is a prefix of the journal, and that it knows its
 -- own part. (own)
 abbrev pub Taken : Charter → Member → Seat → Type 0
-Taken c m me = (later : List Entry) × (me ≡ (Holding c m later 0, (0, Some (present c later)) ∷ []))
+Taken c m me = (later : List Entry) × (me ≡ (Holding c m later [], (0, Some (present c later)) ∷ []))
     × IsPrefix m.later later × (of_session m.number m.later ≡ of_session m.number later)
 
 -- Win or lose: the gate was free, and the session holds, with that journal; or it was held, by another session, and no
@@ -47,7 +49,7 @@ marked st me found me' = me' ≡ me
 
 -- The holder's view once the monitor is home, with the history that it had. (own)
 abbrev pub kept_view : View → View
-kept_view (Holding c m taken blanks) = Sessions c (m ∷ [])
+kept_view (Holding c m taken notes) = Sessions c (m ∷ [])
 kept_view v = v
 
 -- Put home and free, after a request that found no memory: the session holds no more, and its history is as before.
@@ -67,7 +69,7 @@ news_in c (x ∷ out) = news_or c x.1
 
 -- The holder's view once the monitor is home, with the journal that was put home. (own)
 abbrev pub updated_view : View → List (ℕ × Option Journal) → View
-updated_view (Holding c m taken blanks) out = Sessions c (member m.number (news_in c out) ∷ [])
+updated_view (Holding c m taken notes) out = Sessions c (member m.number (news_in c out) ∷ [])
 updated_view v out = v
 
 -- Put home and free, after an entry or a check: the session holds no more, and its history is the journal put home.
@@ -86,31 +88,32 @@ Glimpsed c m i word me = (later : List Entry) × (me ≡ (Sessions c (member m.n
 -- journal. (own)
 abbrev pub glanced : OnWord → Seat → ℕ → Seat → Type 0
 glanced st me found me' = (c : Charter) (m : Member) → me.0 ≡ Sessions c (m ∷ []) → (found ≡ 0 → me' ≡ me)
-    × (found ≢ 0 → Glimpsed c m (st.word - 1) found me')
+    × (found ≢ 0 → Glimpsed c m (st.word - FIRST) found me')
 
--- The holder reads a word of accesses, which tells of the state that its journal leads to; no view changes. (own)
+-- The holder's view once it noted a word. (own)
+abbrev pub noted_view : View → ℕ → ℕ → View
+noted_view (Holding c m taken notes) i w = Holding c m taken (note i w ∷ notes)
+noted_view v i w = v
+
+-- The holder reads a word of accesses, and notes it. It is what was noted before, and tells of the state that the
+-- journal leads to which the holder took. (own)
 abbrev pub read : OnWord → Seat → ℕ → Seat → Type 0
-read st me found me' = (me' ≡ me)
-    × ((c : Charter) (m : Member) (taken : List Entry) (blanks : ℕ) → me.0 ≡ Holding c m taken blanks
-    → Tells (fold (begun c) (base c ++ taken)) (st.word - 1) found)
+read st me found me' = (me' ≡ (noted_view me.0 (st.word - FIRST) found, me.1))
+    × ((c : Charter) (m : Member) (taken : List Entry) (notes : List Note) → me.0 ≡ Holding c m taken notes
+    → Tells (fold (begun c) (base c ++ taken)) (st.word - FIRST) found × Agrees notes (st.word - FIRST) found)
 
 -- The holder's view once the entries of the monitor in the slot are in the present journal. (own)
 abbrev pub published_view : View → List (ℕ × Option Journal) → View
-published_view (Holding c m taken blanks) out = Holding c (member m.number (news_in c out)) (news_in c out) 0
+published_view (Holding c m taken notes) out = Holding c (member m.number (news_in c out)) (news_in c out) []
 published_view v out = v
 
 -- The entries of the monitor in the slot are in the present journal from this step on. (own)
 abbrev pub published : OnWord → Seat → ℕ → Seat → Type 0
 published st me found me' = me' ≡ (published_view me.0 me.1, me.1)
 
--- The holder's view once one word more is blank. (own)
-abbrev pub blanked_view : View → View
-blanked_view (Holding c m taken blanks) = Holding c m taken (blanks + 1)
-blanked_view v = v
-
--- The next word of accesses is made blank, and no session finds an answer in it. (own)
+-- A word of accesses is made blank, and noted so: no session finds an answer in it. (own)
 abbrev pub blanked : OnWord → Seat → ℕ → Seat → Type 0
-blanked st me found me' = me' ≡ (blanked_view me.0, me.1)
+blanked st me found me' = me' ≡ (noted_view me.0 (st.word - FIRST) 0, me.1)
 
 -- The longer of two lists. (own)
 abbrev pub longer : List Entry → List Entry → List Entry

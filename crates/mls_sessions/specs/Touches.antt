@@ -33,6 +33,17 @@ touch_by Undefined touch = Nothing
 abbrev pub touch_of : Entry → Touch
 touch_of e = touch_by e.reply (touch_asked e.request.subject e.request.action)
 
+-- Whether an action that is granted makes the triple that it names a current access: a get does. (own)
+abbrev pub makes_access : Action → Bool
+makes_access (Get x o) = true
+makes_access (Release x o) = false
+makes_access (Give x t o) = false
+makes_access (Rescind x t o) = false
+makes_access (Create p l i) = false
+makes_access (Delete o) = false
+makes_access (SubjectLevel l) = false
+makes_access (ObjectLevel o l) = false
+
 -- Whether a triple is among them. (own)
 abbrev pub may_change : Touch → Triple → Bool
 may_change Nothing t = false

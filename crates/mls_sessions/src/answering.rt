@@ -1,10 +1,11 @@
 //! What the monitor answers in one turn at the gate.
 ghost use Rattle.std.specs.Prelude.{◌≡◌, ◌<◌, ◌≤◌, ◌+◌, [], length, take, vec_len, vec_capacity, OnOk, OnErr};
-ghost use Rattle.mls_sessions.specs.Sessions.{Holds, number_of};
+ghost use Rattle.mls_sessions.specs.Sessions.{Leads, number_of};
 ghost use Rattle.mls_sessions.specs.Feeds.{GetsMore, AllGet};
 
 use crate::boxed_monitor::BoxedMonitor;
 use crate::gate_table::{Gate, GateSeat};
+use crate::limits::FIRST;
 use crate::publishing::publish;
 use mls_monitor::Answer;
 use mls_requests::Ask;
@@ -25,12 +26,12 @@ fn answer(
     ask: Ask,
     answers: &mut Vec<Answer>,
 ) -> (BoxedMonitor, Result<(), AllocError>)
-    requires office { (seat.old.table_id ≡ gate.now.table_id) × (gate.now.table_id.words ≡ gate.now.key.cells + 1)
+    requires office { (seat.old.table_id ≡ gate.now.table_id) × (gate.now.table_id.words ≡ gate.now.key.cells + FIRST)
         × (cells ≡ gate.now.key.cells) }
-    requires session { Holds gate.now.key monitor seat.old.me × (number ≡ number_of seat.old.me.0) }
+    requires session { Leads gate.now.key monitor seat.old.me × (number ≡ number_of seat.old.me.0) }
     requires room { vec_len answers.old < vec_capacity answers.old }
     ensures seat { (seat.new.table_id ≡ seat.old.table_id) × (seat.new.id ≡ seat.old.id) }
-    ensures session { Holds gate.now.key result.0 seat.new.me × (number ≡ number_of seat.new.me.0) }
+    ensures session { Leads gate.now.key result.0 seat.new.me × (number ≡ number_of seat.new.me.0) }
     ensures ok { OnOk result.1
         (GetsMore number monitor ask answers.old.items answers.new.items result.0
         × (vec_len answers.new ≡ vec_len answers.old + 1)) }
@@ -71,12 +72,12 @@ pub(crate) fn answer_all(
     asks: &[Ask],
     answers: &mut Vec<Answer>,
 ) -> (BoxedMonitor, Result<(), AllocError>)
-    requires office { (seat.old.table_id ≡ gate.now.table_id) × (gate.now.table_id.words ≡ gate.now.key.cells + 1)
+    requires office { (seat.old.table_id ≡ gate.now.table_id) × (gate.now.table_id.words ≡ gate.now.key.cells + FIRST)
         × (cells ≡ gate.now.key.cells) }
-    requires session { Holds gate.now.key monitor seat.old.me × (number ≡ number_of seat.old.me.0) }
+    requires session { Leads gate.now.key monitor seat.old.me × (number ≡ number_of seat.old.me.0) }
     requires room { (answers.old.items ≡ []) × (length asks.now ≤ vec_capacity answers.old) }
     ensures seat { (seat.new.table_id ≡ seat.old.table_id) × (seat.new.id ≡ seat.old.id) }
-    ensures session { Holds gate.now.key result.0 seat.new.me × (number ≡ number_of seat.new.me.0) }
+    ensures session { Leads gate.now.key result.0 seat.new.me × (number ≡ number_of seat.new.me.0) }
     ensures answered { AllGet number monitor (take (vec_len answers.new) asks.now) answers.new.items result.0 }
     ensures ok { OnOk result.1 (vec_len answers.new ≡ length asks.now) }
     ensures err { OnErr result.1 (vec_len answers.new < length asks.now) }

@@ -1,11 +1,14 @@
 //! The monitor on the heap, as the slot holds it.
 ghost use Rattle.std.specs.Prelude.{◌≡◌, length, drop, IfOk, IfErr};
 ghost use Rattle.std.specs.FinSet as set;
+ghost use Rattle.mls_state.specs.State.{is_active};
+ghost use Rattle.mls_rules.specs.Rules.{reply};
 ghost use Rattle.mls_monitor.specs.Journal.{fold};
 ghost use Rattle.mls_sessions.specs.Journals.{journal_of, Appends, Stands};
 
 use mls_monitor::Monitor;
-use mls_requests::{Entry, Request};
+use mls_requests::{Entry, Reply, Request};
+use mls_rules::decide;
 use mls_tables::{Mode, ObjectId, SubjectId};
 use std::alloc::{AllocError, AllocFailed, Global};
 use std::marker::Model;
@@ -64,6 +67,20 @@ impl BoxedMonitor {
         ensures { let b = (fold self.now.start self.now.entries).accesses in result ≡ set.contains b (s, o, x) }
     {
         self.monitor.check(s, o, x)
+    }
+
+    /// Whether an object is active.
+    pub(crate) fn is_active(&self, o: ObjectId) -> bool
+        ensures { result ≡ is_active (fold self.now.start self.now.entries) o }
+    {
+        self.monitor.state().is_active(o)
+    }
+
+    /// The reply of the rules to a request.
+    pub(crate) fn decide(&self, request: &Request) -> Reply
+        ensures { result ≡ reply (fold self.now.start self.now.entries) request.now }
+    {
+        decide(self.monitor.state(), request)
     }
 
     /// The entries that aren't forgotten. The journal is legal.

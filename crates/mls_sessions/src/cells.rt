@@ -77,6 +77,18 @@ pub(crate) fn with_bit(word: u64, k: u32, is_set: bool) -> u64
     }
 }
 
+/// A word once this triple is a current access, or is none. A blank word stays so.
+pub(crate) fn word_after(word: u64, s: SubjectId, x: Mode, is_held: bool) -> u64
+    ensures blank { word ≡ 0 → result ≡ 0 }
+    ensures same { word ≢ 0 → has_bit result (bit_of s x) ≡ is_held }
+    ensures others { word ≢ 0 → (i : ℕ) → i < 64 → i ≢ bit_of s x → has_bit result i ≡ has_bit word i }
+{
+    if word == BLANK {
+        return BLANK;
+    }
+    with_bit(word, bit_of(s, x), is_held)
+}
+
 /// The mode of a place in the order of modes.
 fn mode_at(k: u16) -> Mode
     requires { k < 4 }
@@ -94,7 +106,8 @@ fn mode_at(k: u16) -> Mode
 #[tactic(auto, using(crate::proofs::Touching::word_bits))]
 pub(crate) fn word_of(monitor: &BoxedMonitor, s: SubjectId, o: ObjectId) -> u64
     requires { o < MAX_OBJECTS }
-    ensures { Tells (fold monitor.now.start monitor.now.entries) (place s o) result }
+    ensures some { result ≢ 0 }
+    ensures tells { Tells (fold monitor.now.start monitor.now.entries) (place s o) result }
 {
     let first = s.number() / SHARE * SHARE;
     let mut word = BLANK;

@@ -6,6 +6,7 @@ ghost use Rattle.mls_sessions.specs.Sessions.{office_at, Ascending, members_of, 
 use crate::boxed_monitor::BoxedMonitor;
 use crate::gate::SLOT;
 use crate::gate_table::{Gate, GateSeat, GateTable};
+use crate::limits::FIRST;
 use crate::session::Session;
 use crate::steps::Gather;
 
@@ -13,7 +14,7 @@ use crate::steps::Gather;
 pub(crate) fn gather(gate: &Gate, mut sessions: Vec<Session>) -> GateSeat
     requires some { 0 < vec_len sessions }
     requires office { Ascending (office_at gate.now.table_id gate.now.key) 0 sessions.items
-        × (gate.now.table_id.words ≡ gate.now.key.cells + 1) }
+        × (gate.now.table_id.words ≡ gate.now.key.cells + FIRST) }
     ensures { (result.table_id ≡ gate.now.table_id)
         × (result.me ≡ (Sessions gate.now.key (members_of sessions.items), [])) }
 {
@@ -31,7 +32,7 @@ pub(crate) fn gather(gate: &Gate, mut sessions: Vec<Session>) -> GateSeat
 
 /// Takes the monitor out of a table that all its sessions are given back to.
 pub(crate) fn take_home(table: GateTable, sessions: Vec<Session>) -> BoxedMonitor
-    requires table { (table.shared.table_id.words ≡ table.shared.key.cells + 1) × (table.shared.table_id.slots ≡ 1) }
+    requires table { (table.shared.table_id.words ≡ table.shared.key.cells + FIRST) × (table.shared.table_id.slots ≡ 1) }
     requires office { Ascending (office_at table.shared.table_id table.shared.key) 0 sessions.items }
     requires all { (length sessions.items ≡ table.shared.key.count) × (0 < table.shared.key.count) }
     ensures { Leaves (office_at table.shared.table_id table.shared.key) sessions.items result }

@@ -13,6 +13,7 @@ ghost use Rattle.mls_sessions.specs.Steps.{kept_view};
 
 use crate::boxed_monitor::BoxedMonitor;
 use crate::gate_table::{Gate, GateSeat, View};
+use crate::limits::FIRST;
 use crate::steps::{Glance, Mark, Win};
 use atomic_table::Play;
 use std::hint::spin_loop;
@@ -46,7 +47,7 @@ fn is_marked(word: u64) -> bool
 /// Looks at the word so often and once more, as long as the gate is held and nobody may sleep. It returns what it saw
 /// last. It looks once at least, or a session would never see that the gate is free.
 pub(crate) fn look(gate: &Gate, looks: u64) -> u64
-    requires { gate.now.table_id.words ≡ gate.now.key.cells + 1 }
+    requires { gate.now.table_id.words ≡ gate.now.key.cells + FIRST }
 {
     for _ in 0..looks {
         let seen = gate.peek(WORD);
@@ -60,7 +61,7 @@ pub(crate) fn look(gate: &Gate, looks: u64) -> u64
 
 /// Marks the word that was seen, since someone may sleep. It returns the marked word, unless another word was found.
 pub(crate) fn mark(gate: &Gate, seat: &mut GateSeat, seen: u64) -> Option<u64>
-    requires office { (seat.old.table_id ≡ gate.now.table_id) × (gate.now.table_id.words ≡ gate.now.key.cells + 1) }
+    requires office { (seat.old.table_id ≡ gate.now.table_id) × (gate.now.table_id.words ≡ gate.now.key.cells + FIRST) }
     requires session { seat.old.me ≡ seated gate.now.key (member_of seat.old.me.0) }
     requires held { seen ≢ 0 }
     ensures seat { (seat.new.table_id ≡ seat.old.table_id) × (seat.new.id ≡ seat.old.id) }
@@ -76,7 +77,7 @@ pub(crate) fn mark(gate: &Gate, seat: &mut GateSeat, seen: u64) -> Option<u64>
 /// Reads a word of accesses by one load. Where it isn't blank, the session has now seen the present journal, and the
 /// word tells of the state which that leads to.
 pub(crate) fn glance(gate: &Gate, seat: &mut GateSeat, place: u32) -> u64
-    requires office { (seat.old.table_id ≡ gate.now.table_id) × (gate.now.table_id.words ≡ gate.now.key.cells + 1) }
+    requires office { (seat.old.table_id ≡ gate.now.table_id) × (gate.now.table_id.words ≡ gate.now.key.cells + FIRST) }
     requires session { seat.old.me ≡ seated gate.now.key (member_of seat.old.me.0) }
     requires place { place < gate.now.key.cells }
     ensures seat { (seat.new.table_id ≡ seat.old.table_id) × (seat.new.id ≡ seat.old.id) }
@@ -87,13 +88,13 @@ pub(crate) fn glance(gate: &Gate, seat: &mut GateSeat, place: u32) -> u64
     ensures tells { result ≢ 0 → Tells (fold (begun gate.now.key) (history seat.new.me.0)) place result }
     ensures counts { (c : Counts) → IsCounted c seat.old.me.0 → IsCounted c seat.new.me.0 }
 {
-    gate.load::<Glance>(seat, place as usize + 1)
+    gate.load::<Glance>(seat, place as usize + FIRST)
 }
 
 /// Takes the monitor out where the gate is free, and leaves this word in it, which names the session. Or else it
 /// returns the word that it found.
 pub(crate) fn win(gate: &Gate, seat: &mut GateSeat, held: u64) -> Result<BoxedMonitor, u64>
-    requires office { (seat.old.table_id ≡ gate.now.table_id) × (gate.now.table_id.words ≡ gate.now.key.cells + 1) }
+    requires office { (seat.old.table_id ≡ gate.now.table_id) × (gate.now.table_id.words ≡ gate.now.key.cells + FIRST) }
     requires session { seat.old.me ≡ seated gate.now.key (member_of seat.old.me.0) }
     requires held { Names held (member_of seat.old.me.0).number }
     ensures seat { (seat.new.table_id ≡ seat.old.table_id) × (seat.new.id ≡ seat.old.id) }
@@ -111,13 +112,13 @@ pub(crate) fn win(gate: &Gate, seat: &mut GateSeat, held: u64) -> Result<BoxedMo
     }
 }
 
-/// Puts the monitor home and frees the gate. It wakes one that sleeps, if there may be one.
+/// Puts the monitor home and frees the gate. It wakes nobody, and returns whether someone may sleep.
 pub(crate) fn put_home<M: Play<Option<BoxedMonitor>, View>>(
     gate: &Gate,
     seat: &mut GateSeat,
     monitor: BoxedMonitor,
-)
-    requires office { (seat.old.table_id ≡ gate.now.table_id) × (gate.now.table_id.words ≡ gate.now.key.cells + 1)
+) -> bool
+    requires office { (seat.old.table_id ≡ gate.now.table_id) × (gate.now.table_id.words ≡ gate.now.key.cells + FIRST)
         × (seat.old.me.1 ≡ (0, None) ∷ []) }
     requires rule { Stands monitor.start monitor.entries
         → Allows (Gated gate.now.key) gate.now.table_id.slots seat.old.id (seat.old.me.0, (0, Some monitor) ∷ []) 0
@@ -134,7 +135,14 @@ pub(crate) fn put_home<M: Play<Option<BoxedMonitor>, View>>(
         Some(_) => unreachable!(),
     }
     let found = gate.swap::<M>(seat, WORD, FREE);
-    if is_marked(found) {
+    is_marked(found)
+}
+
+/// Wakes one that sleeps, if there may be one.
+pub(crate) fn wake(gate: &Gate, may_sleep: bool)
+    requires { gate.now.table_id.words ≡ gate.now.key.cells + FIRST }
+{
+    if may_sleep {
         gate.wake_one(WORD);
     }
 }

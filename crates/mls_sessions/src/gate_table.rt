@@ -60,6 +60,12 @@ pub struct Member {
     pub later: LinkedList<Entry>,
 }
 
+/// What the session that holds the gate knows of a word of accesses, by its place among them.
+pub struct Note {
+    pub cell: u64,
+    pub word: u64,
+}
+
 /// What a seat knows. It exists in proofs alone: no value of it is made.
 pub enum View {
     /// It was joined into another seat.
@@ -72,9 +78,9 @@ pub enum View {
     Giving(Charter, u64),
     /// The sessions that it stands for.
     Sessions(Charter, LinkedList<Member>),
-    /// Its session holds the gate, and took the monitor out, or published it, with this journal since the opening. So
-    /// many words of accesses are blank.
-    Holding(Charter, Member, LinkedList<Entry>, u64),
+    /// Its session holds the gate, and took the monitor out, or published it, with this journal since the opening. It
+    /// noted this of words of accesses.
+    Holding(Charter, Member, LinkedList<Entry>, LinkedList<Note>),
 }
 
 /// The gate's rule, which each atomic step keeps.

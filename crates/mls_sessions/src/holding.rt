@@ -1,20 +1,23 @@
 //! The steps of the session that holds the gate on the words of accesses, by which entries join the present journal.
-ghost use Rattle.std.specs.Prelude.{◌≡◌, ◌+◌, ◌<◌, ◌++◌, ◌∷◌, [], ℕ, List, Some, None};
+ghost use Rattle.std.specs.Prelude.{◌≡◌, ◌≢◌, ◌+◌, ◌%◌, ◌<◌, ◌++◌, ◌∷◌, [], ℕ, true, List, Some, None};
 ghost use mathlib.Core.Option as maybe;
 ghost use Rattle.atomic_table.specs.Table.{step, Allows};
 ghost use Rattle.mls_requests.specs.declared.entry.Entry.{Entry};
 ghost use Rattle.mls_monitor.specs.Journal.{fold};
-ghost use Rattle.mls_sessions.specs.Cells.{Tells, OneWord, QuietFrom};
+ghost use Rattle.mls_state.specs.State.{is_active};
+ghost use Rattle.mls_sessions.specs.Cells.{Tells, OneWord, Agrees, Finer, OfActive, note};
 ghost use Rattle.mls_sessions.specs.Journals.{Journal, Stands};
 ghost use Rattle.mls_sessions.specs.Rule.{Gated, begun, base};
-ghost use Rattle.mls_sessions.specs.Sessions.{member_of, taken_of, number_of, blanking, holding, Holds, HasMore};
+ghost use Rattle.mls_sessions.specs.Sessions.{member_of, taken_of, notes_of, number_of, noting, Holds, HasMore};
 ghost use Rattle.mls_sessions.specs.Steps.{published, published_view};
 
 use crate::boxed_monitor::BoxedMonitor;
 use crate::cells::BLANK;
-use crate::gate::{SLOT, WORD};
+use crate::gate::SLOT;
 use crate::gate_table::{Gate, GateSeat};
+use crate::limits::FIRST;
 use crate::steps::{Blank, Publish, Read};
+use mls_tables::{MAX_OBJECTS, ObjectId};
 
 /// Lays the monitor into the slot.
 fn lay(gate: &Gate, seat: &mut GateSeat, monitor: BoxedMonitor)
@@ -52,36 +55,19 @@ fn store_with(
     at: u32,
     word: u64,
 ) -> BoxedMonitor
-    requires office { (seat.old.table_id ≡ gate.now.table_id) × (gate.now.table_id.words ≡ gate.now.key.cells + 1)
+    requires office { (seat.old.table_id ≡ gate.now.table_id) × (gate.now.table_id.words ≡ gate.now.key.cells + FIRST)
         × (seat.old.me.1 ≡ (0, None) ∷ []) }
     requires place { at < gate.now.key.cells }
     requires rule { Stands monitor.start monitor.entries
         → Allows (Gated gate.now.key) gate.now.table_id.slots seat.old.id (seat.old.me.0, (0, Some monitor) ∷ [])
-        (at + 1) (λ _. word) (λ _. published (step gate.now.table_id.slots (at + 1) word 0 maybe.none)
+        (at + FIRST) (λ _. word) (λ _. published (step gate.now.table_id.slots (at + FIRST) word 0 maybe.none)
         (seat.old.me.0, (0, Some monitor) ∷ []) word) }
     ensures seat { (seat.new.table_id ≡ seat.old.table_id) × (seat.new.id ≡ seat.old.id) }
     ensures told { seat.new.me ≡ (published_view seat.old.me.0 ((0, Some monitor) ∷ []), (0, None) ∷ []) }
     ensures same { result ≡ monitor }
 {
     lay(gate, seat, monitor);
-    gate.store::<Publish>(seat, at as usize + 1, word);
-    take_up(gate, seat)
-}
-
-/// Loads the gate's word, while the monitor lies in the slot.
-fn load_with(gate: &Gate, seat: &mut GateSeat, monitor: BoxedMonitor) -> BoxedMonitor
-    requires office { (seat.old.table_id ≡ gate.now.table_id) × (gate.now.table_id.words ≡ gate.now.key.cells + 1)
-        × (seat.old.me.1 ≡ (0, None) ∷ []) }
-    requires rule { Stands monitor.start monitor.entries
-        → Allows (Gated gate.now.key) gate.now.table_id.slots seat.old.id (seat.old.me.0, (0, Some monitor) ∷ []) 0
-        (λ n. n) (published (step gate.now.table_id.slots 0 0 0 maybe.none)
-        (seat.old.me.0, (0, Some monitor) ∷ [])) }
-    ensures seat { (seat.new.table_id ≡ seat.old.table_id) × (seat.new.id ≡ seat.old.id) }
-    ensures told { seat.new.me ≡ (published_view seat.old.me.0 ((0, Some monitor) ∷ []), (0, None) ∷ []) }
-    ensures same { result ≡ monitor }
-{
-    lay(gate, seat, monitor);
-    gate.load::<Publish>(seat, WORD);
+    gate.store::<Publish>(seat, at as usize + FIRST, word);
     take_up(gate, seat)
 }
 
@@ -93,12 +79,13 @@ pub(crate) fn store_word(
     at: u32,
     word: u64,
 ) -> BoxedMonitor
-    requires office { (seat.old.table_id ≡ gate.now.table_id) × (gate.now.table_id.words ≡ gate.now.key.cells + 1) }
-    requires holds { seat.old.me ≡ holding gate.now.key (member_of seat.old.me.0) (taken_of seat.old.me.0) }
+    requires office { (seat.old.table_id ≡ gate.now.table_id) × (gate.now.table_id.words ≡ gate.now.key.cells + FIRST) }
+    requires holds { seat.old.me
+        ≡ noting gate.now.key (member_of seat.old.me.0) (taken_of seat.old.me.0) (notes_of seat.old.me.0) }
     requires place { at < gate.now.key.cells }
     requires entries { (added : List Entry) × HasMore gate.now.key seat.old.me added monitor
         × OneWord (begun gate.now.key) (base gate.now.key ++ taken_of seat.old.me.0)
-        (base gate.now.key ++ (taken_of seat.old.me.0 ++ added)) at word }
+        (base gate.now.key ++ (taken_of seat.old.me.0 ++ added)) (notes_of seat.old.me.0) gate.now.key.cells at word }
     ensures seat { (seat.new.table_id ≡ seat.old.table_id) × (seat.new.id ≡ seat.old.id) }
     ensures holds { Holds gate.now.key result seat.new.me × (number_of seat.new.me.0 ≡ number_of seat.old.me.0) }
     ensures same { result ≡ monitor }
@@ -106,42 +93,70 @@ pub(crate) fn store_word(
     store_with(gate, seat, monitor, at, word)
 }
 
-/// Lets entries into the present journal, where so many words are blank and the others tell what they told.
-pub(crate) fn slip(gate: &Gate, seat: &mut GateSeat, monitor: BoxedMonitor) -> BoxedMonitor
-    requires office { (seat.old.table_id ≡ gate.now.table_id) × (gate.now.table_id.words ≡ gate.now.key.cells + 1) }
-    requires entries { (added : List Entry) × (blanks : ℕ) × HasMore gate.now.key seat.old.me added monitor
-        × (seat.old.me ≡ blanking gate.now.key (member_of seat.old.me.0) (taken_of seat.old.me.0) blanks)
-        × QuietFrom (begun gate.now.key) (base gate.now.key ++ taken_of seat.old.me.0)
-        (base gate.now.key ++ (taken_of seat.old.me.0 ++ added)) blanks gate.now.key.cells }
+/// Reads the word at a place, and notes it.
+pub(crate) fn read(gate: &Gate, seat: &mut GateSeat, at: u32) -> u64
+    requires office { (seat.old.table_id ≡ gate.now.table_id) × (gate.now.table_id.words ≡ gate.now.key.cells + FIRST) }
+    requires holds { seat.old.me
+        ≡ noting gate.now.key (member_of seat.old.me.0) (taken_of seat.old.me.0) (notes_of seat.old.me.0) }
+    requires place { at < gate.now.key.cells }
     ensures seat { (seat.new.table_id ≡ seat.old.table_id) × (seat.new.id ≡ seat.old.id) }
-    ensures holds { Holds gate.now.key result seat.new.me × (number_of seat.new.me.0 ≡ number_of seat.old.me.0) }
-    ensures same { result ≡ monitor }
+    ensures noted { seat.new.me ≡ noting gate.now.key (member_of seat.old.me.0) (taken_of seat.old.me.0)
+        (note at result ∷ notes_of seat.old.me.0) }
+    ensures agrees { Agrees (notes_of seat.old.me.0) at result }
+    ensures tells { Tells (fold (begun gate.now.key) (base gate.now.key ++ taken_of seat.old.me.0)) at result }
 {
-    load_with(gate, seat, monitor)
+    gate.load::<Read>(seat, at as usize + FIRST)
 }
 
-/// Makes all words of accesses blank.
-pub(crate) fn blank_all(gate: &Gate, seat: &mut GateSeat, cells: u32)
-    requires office { (seat.old.table_id ≡ gate.now.table_id) × (gate.now.table_id.words ≡ gate.now.key.cells + 1)
-        × (cells ≡ gate.now.key.cells) }
-    requires holds { seat.old.me ≡ holding gate.now.key (member_of seat.old.me.0) (taken_of seat.old.me.0) }
+/// Makes the word at a place blank, and notes it.
+fn blank(gate: &Gate, seat: &mut GateSeat, at: u32)
+    requires office { (seat.old.table_id ≡ gate.now.table_id) × (gate.now.table_id.words ≡ gate.now.key.cells + FIRST) }
+    requires holds { seat.old.me
+        ≡ noting gate.now.key (member_of seat.old.me.0) (taken_of seat.old.me.0) (notes_of seat.old.me.0) }
+    requires place { at < gate.now.key.cells }
+    ensures seat { (seat.new.table_id ≡ seat.old.table_id) × (seat.new.id ≡ seat.old.id) }
+    ensures noted { seat.new.me ≡ noting gate.now.key (member_of seat.old.me.0) (taken_of seat.old.me.0)
+        (note at 0 ∷ notes_of seat.old.me.0) }
+{
+    gate.store::<Blank>(seat, at as usize + FIRST, BLANK);
+}
+
+/// Makes the word at a place blank, unless it is so, or is that of an object that the monitor has.
+fn blank_unless_there(gate: &Gate, seat: &mut GateSeat, monitor: &BoxedMonitor, at: u32)
+    requires office { (seat.old.table_id ≡ gate.now.table_id) × (gate.now.table_id.words ≡ gate.now.key.cells + FIRST) }
+    requires holds { seat.old.me
+        ≡ noting gate.now.key (member_of seat.old.me.0) (taken_of seat.old.me.0) (notes_of seat.old.me.0) }
+    requires place { at < gate.now.key.cells }
     ensures seat { (seat.new.table_id ≡ seat.old.table_id) × (seat.new.id ≡ seat.old.id) }
     ensures holds { seat.new.me
-        ≡ blanking gate.now.key (member_of seat.old.me.0) (taken_of seat.old.me.0) gate.now.key.cells }
+        ≡ noting gate.now.key (member_of seat.old.me.0) (taken_of seat.old.me.0) (notes_of seat.new.me.0) }
+    ensures finer { Finer (notes_of seat.old.me.0) (notes_of seat.new.me.0) }
+    ensures there { (w : ℕ) → w ≢ 0 → Agrees (notes_of seat.new.me.0) at w
+        → is_active (fold monitor.now.start monitor.now.entries) (at % MAX_OBJECTS) ≡ true }
 {
-    for i in 0..cells {
-        gate.store::<Blank>(seat, i as usize + 1, BLANK);
+    let word = read(gate, seat, at);
+    if word == BLANK {
+        return;
+    }
+    let is_there = monitor.is_active(ObjectId::new((at % u32::from(MAX_OBJECTS)) as u16));
+    if !is_there {
+        blank(gate, seat, at);
     }
 }
 
-/// Reads the word at a place.
-pub(crate) fn read(gate: &Gate, seat: &mut GateSeat, at: u32) -> u64
-    requires office { (seat.old.table_id ≡ gate.now.table_id) × (gate.now.table_id.words ≡ gate.now.key.cells + 1) }
-    requires holds { seat.old.me ≡ holding gate.now.key (member_of seat.old.me.0) (taken_of seat.old.me.0) }
-    requires place { at < gate.now.key.cells }
+/// Makes the words of objects blank that the monitor doesn't have.
+pub(crate) fn blank_deleted(gate: &Gate, seat: &mut GateSeat, cells: u32, monitor: &BoxedMonitor)
+    requires office { (seat.old.table_id ≡ gate.now.table_id) × (gate.now.table_id.words ≡ gate.now.key.cells + FIRST)
+        × (cells ≡ gate.now.key.cells) }
+    requires holds { seat.old.me
+        ≡ noting gate.now.key (member_of seat.old.me.0) (taken_of seat.old.me.0) (notes_of seat.old.me.0) }
     ensures seat { (seat.new.table_id ≡ seat.old.table_id) × (seat.new.id ≡ seat.old.id) }
-    ensures same { seat.new.me ≡ seat.old.me }
-    ensures tells { Tells (fold (begun gate.now.key) (base gate.now.key ++ taken_of seat.old.me.0)) at result }
+    ensures holds { seat.new.me
+        ≡ noting gate.now.key (member_of seat.old.me.0) (taken_of seat.old.me.0) (notes_of seat.new.me.0) }
+    ensures finer { Finer (notes_of seat.old.me.0) (notes_of seat.new.me.0) }
+    ensures rest { OfActive (fold monitor.now.start monitor.now.entries) (notes_of seat.new.me.0) cells }
 {
-    gate.load::<Read>(seat, at as usize + 1)
+    for i in 0..cells {
+        blank_unless_there(gate, seat, monitor, i);
+    }
 }

@@ -8,6 +8,7 @@ mod backoff;
 mod boxed_monitor;
 mod cells;
 mod closing;
+mod consulting;
 mod counts;
 mod exchange;
 mod gate;
@@ -35,6 +36,7 @@ mod try_fault;
 mod turn;
 mod waiting;
 
+pub use consulting::Decision;
 pub use limits::MAX_SESSIONS;
 pub use mls_monitor::{Answer, Feed, Stage};
 pub use office::Office;

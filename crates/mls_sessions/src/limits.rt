@@ -3,6 +3,10 @@
 /// The most sessions of an office. Their numbers are below this.
 pub const MAX_SESSIONS: u16 = 64;
 
+/// The place of the first word of accesses in the table. It is so far from the gate's word that the two never stand in
+/// one line of a cache, nor in two that are fetched together.
+pub const FIRST: usize = 16;
+
 /// How often a session looks at a held gate before it naps or sleeps, for each ask of its turn. Each look takes the
 /// gate's word from the processor of whoever holds it, so that more looks cost more where many threads wait. Who asks
 /// much in one turn works long between its turns, and so do the others who run with it: there it pays to wait for the

@@ -6,12 +6,13 @@ ghost use Rattle.mls_sessions.specs.Sessions.{member_of, seated};
 
 use crate::gate::WORD;
 use crate::gate_table::{Gate, GateSeat};
+use crate::limits::FIRST;
 use crate::steps::{Gather, Look, Move, Part};
 
 /// Joins the seats of two sessions, looks, and parts them again, both with the longer of the two histories.
 pub(crate) fn meet_at(gate: &Gate, mine: &mut GateSeat, theirs: &mut GateSeat)
     requires office { (mine.old.table_id ≡ gate.now.table_id) × (theirs.old.table_id ≡ gate.now.table_id)
-        × (gate.now.table_id.words ≡ gate.now.key.cells + 1) }
+        × (gate.now.table_id.words ≡ gate.now.key.cells + FIRST) }
     requires sessions { (mine.old.me ≡ seated gate.now.key (member_of mine.old.me.0))
         × (theirs.old.me ≡ seated gate.now.key (member_of theirs.old.me.0)) }
     ensures office { (mine.new.table_id ≡ gate.now.table_id) × (theirs.new.table_id ≡ gate.now.table_id) }

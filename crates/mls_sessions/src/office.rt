@@ -8,6 +8,7 @@ ghost use Rattle.mls_sessions.specs.Sessions.{is_count, newcomers, Ascending, Le
 use crate::backoff::Backoff;
 use crate::cells::cells_for;
 use crate::closing::take_home;
+use crate::gate::wake;
 use crate::gate_table::GateTable;
 use crate::limits::MAX_SESSIONS;
 use crate::lobby::Lobby;
@@ -33,6 +34,7 @@ pub struct Office {
 
 impl Model for Office {
     ghost use Rattle.std.specs.Prelude.{◌≡◌, ◌<◌, ◌+◌};
+    ghost use Rattle.mls_sessions.specs.declared.limits.TheConstants.{FIRST};
     ghost use Rattle.mls_sessions.specs.Rule.{base_length};
     ghost use Rattle.mls_sessions.specs.Sessions.{Office, office_at, office_code};
 
@@ -42,7 +44,7 @@ impl Model for Office {
 
     ghost view = { λ o. office_at o.table.shared.table_id o.table.shared.key };
 
-    ghost invariant = { λ o. (o.table.shared.table_id.words ≡ o.cells + 1) × (o.table.shared.table_id.slots ≡ 1)
+    ghost invariant = { λ o. (o.table.shared.table_id.words ≡ o.cells + FIRST) × (o.table.shared.table_id.slots ≡ 1)
         × (0 < o.count) × (o.count ≡ o.table.shared.key.count) × (o.cells ≡ o.table.shared.key.cells)
         × (o.base ≡ base_length o.table.shared.key) };
 }
@@ -107,6 +109,11 @@ impl Office {
         ensures { result ≡ base_length self.now.charter }
     {
         self.base
+    }
+
+    /// Wakes one session that sleeps at the gate, if one does. It doesn't wait.
+    pub fn wake_one(&self) {
+        wake(&self.table.shared, true);
     }
 
     /// Gives the monitor back, with the journal of all sessions. The sessions are given ascending by number. It doesn't

@@ -8,6 +8,7 @@ ghost use Rattle.mls_sessions.specs.Sessions.{office_at, newcomers};
 use crate::boxed_monitor::BoxedMonitor;
 use crate::gate::{FREE, OPENING, WORD, put_home};
 use crate::gate_table::{Charter, Gate, GateSeat, GateTable};
+use crate::limits::FIRST;
 use crate::office_fault::{OfficeFault, OfficeFaultKind};
 use crate::session::Session;
 use crate::steps::{Fill, Give, Settle};
@@ -16,7 +17,7 @@ use std::alloc::Global;
 
 /// Puts the monitor into the empty slot.
 pub(crate) fn settle(gate: &Gate, seat: &mut GateSeat, monitor: BoxedMonitor)
-    requires office { (seat.old.table_id ≡ gate.now.table_id) × (gate.now.table_id.words ≡ gate.now.key.cells + 1) }
+    requires office { (seat.old.table_id ≡ gate.now.table_id) × (gate.now.table_id.words ≡ gate.now.key.cells + FIRST) }
     requires first { (seat.old.me ≡ (Starting gate.now.key, []))
         × (monitor ≡ journal (begun gate.now.key) gate.now.key.forgotten (base gate.now.key)) }
     ensures seat { (seat.new.table_id ≡ seat.old.table_id) × (seat.new.id ≡ seat.old.id) }
@@ -24,7 +25,8 @@ pub(crate) fn settle(gate: &Gate, seat: &mut GateSeat, monitor: BoxedMonitor)
 {
     let found = gate.compare_exchange::<Fill>(seat, WORD, FREE, OPENING);
     let _ = found;
-    put_home::<Settle>(gate, seat, monitor);
+    let may_sleep = put_home::<Settle>(gate, seat, monitor);
+    let _ = may_sleep;
 }
 
 /// A table for so many sessions, with so many words of accesses and the monitor in its slot, and its first seat.
@@ -38,14 +40,14 @@ pub(crate) fn open_table(
     cells: u32,
 ) -> Result<(GateTable, GateSeat), OfficeFault>
     ensures table { IfOk result
-        (λ r. (r.0.shared.table_id.words ≡ r.0.shared.key.cells + 1) × (r.0.shared.table_id.slots ≡ 1)) }
+        (λ r. (r.0.shared.table_id.words ≡ r.0.shared.key.cells + FIRST) × (r.0.shared.table_id.slots ≡ 1)) }
     ensures charter { IfOk result (λ r. r.0.shared.key ≡ charter_of monitor count cells) }
     ensures seat { IfOk result
         (λ r. (r.1.table_id ≡ r.0.shared.table_id) × (r.1.me ≡ (Giving r.0.shared.key count, []))) }
     ensures err { IfErr result (λ fault. (fault.kind ≡ OfficeFaultKind.Memory) × (fault.monitor ≡ monitor)) }
 {
     let charter = Charter::of(&monitor, u64::from(count), u64::from(cells));
-    let Ok(words) = Vec::from_elem(alloc, FREE, cells as usize + 1) else {
+    let Ok(words) = Vec::from_elem(alloc, FREE, cells as usize + FIRST) else {
         return Err(OfficeFault {
             kind: OfficeFaultKind::Memory,
             monitor,
@@ -78,7 +80,7 @@ pub(crate) fn give_all(
     count: u32,
     base: u64,
 )
-    requires office { (seat.old.table_id ≡ gate.now.table_id) × (gate.now.table_id.words ≡ gate.now.key.cells + 1) }
+    requires office { (seat.old.table_id ≡ gate.now.table_id) × (gate.now.table_id.words ≡ gate.now.key.cells + FIRST) }
     requires first { (seat.old.me ≡ (Giving gate.now.key count, [])) × (count ≡ gate.now.key.count)
         × (base ≡ base_length gate.now.key) }
     requires room { (sessions.old.items ≡ []) × (count ≤ vec_capacity sessions.old) }

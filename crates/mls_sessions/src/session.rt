@@ -6,6 +6,7 @@ ghost use Rattle.mls_sessions.specs.Sessions.{session_at, seated, IsOf, Meets, h
 
 mod asking;
 mod checking;
+mod deciding;
 
 use crate::counts::Counts;
 use crate::gate_table::GateSeat;

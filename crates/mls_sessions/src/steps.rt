@@ -56,7 +56,7 @@ impl Play<Option<BoxedMonitor>, View> for Glance {
     ghost then = { glanced };
 }
 
-/// The holder reads a word of accesses.
+/// The holder reads a word of accesses, and notes it.
 pub struct Read;
 
 impl Play<Option<BoxedMonitor>, View> for Read {
@@ -70,7 +70,7 @@ impl Play<Option<BoxedMonitor>, View> for Publish {
     ghost then = { published };
 }
 
-/// The holder makes the next word of accesses blank.
+/// The holder makes a word of accesses blank, and notes it.
 pub struct Blank;
 
 impl Play<Option<BoxedMonitor>, View> for Blank {

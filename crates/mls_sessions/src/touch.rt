@@ -1,6 +1,6 @@
 //! Which current accesses an entry may change.
 ghost use Rattle.std.specs.Prelude.{◌≡◌};
-ghost use Rattle.mls_sessions.specs.Touches.{touch_asked, touch_of};
+ghost use Rattle.mls_sessions.specs.Touches.{touch_asked, touch_of, makes_access};
 
 use mls_requests::{Action, Entry, Reply, Request};
 use mls_tables::{Mode, ObjectId, SubjectId};
@@ -38,4 +38,11 @@ pub(crate) fn touch_of(entry: &Entry) -> Touch
         Reply::Yes | Reply::Created(_) => touch_asked(&entry.request),
         Reply::No(_) | Reply::Undefined => Touch::Nothing,
     }
+}
+
+/// Whether an entry, where it was granted, made the triple that it names a current access.
+pub(crate) fn makes_access(entry: &Entry) -> bool
+    ensures { result ≡ makes_access entry.now.request.action }
+{
+    matches!(entry.request.action, Action::Get(_, _))
 }

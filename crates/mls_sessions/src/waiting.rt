@@ -6,6 +6,7 @@ ghost use Rattle.mls_sessions.specs.Sessions.{member_of, seated, TookOut, number
 use crate::boxed_monitor::BoxedMonitor;
 use crate::gate::{FREE, WORD, look, mark, named, win};
 use crate::gate_table::{Gate, GateSeat};
+use crate::limits::FIRST;
 use crate::office::Office;
 use crate::pace::Pace;
 use std::sync::Wait;
@@ -13,7 +14,7 @@ use std::sync::Wait;
 /// Sets the mark and sleeps until it is woken, unless the gate's word is another by then. It returns whether it may
 /// have slept.
 fn sleep<R: Wait>(gate: &Gate, rt: &R, seat: &mut GateSeat, seen: u64) -> bool
-    requires office { (seat.old.table_id ≡ gate.now.table_id) × (gate.now.table_id.words ≡ gate.now.key.cells + 1) }
+    requires office { (seat.old.table_id ≡ gate.now.table_id) × (gate.now.table_id.words ≡ gate.now.key.cells + FIRST) }
     requires session { seat.old.me ≡ seated gate.now.key (member_of seat.old.me.0) }
     requires held { seen ≢ 0 }
     ensures seat { (seat.new.table_id ≡ seat.old.table_id) × (seat.new.id ≡ seat.old.id) }

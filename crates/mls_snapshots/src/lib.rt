@@ -24,6 +24,8 @@ mod text_lists;
 
 pub use read_fault::ReadStateFault;
 pub use scheme_names::{category_names, level_names};
+pub use state_lines::{push_object_line, push_subject_line};
 pub use state_reading::read_state;
 pub use state_start::{StateStart, StateStartFault, start_of_state};
 pub use state_writing::state_text;
+pub use table_lines::{push_cell, push_row};

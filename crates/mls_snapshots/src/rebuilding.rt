@@ -123,6 +123,17 @@ impl Objects {
         }
         Ok(true)
     }
+
+    /// Adds what rows say behind the root.
+    fn complete(&mut self, rows: &StateRows, root: &ObjectLine) -> Result<(), AllocError> {
+        self.grow(rows, root)?;
+        put_triples(&mut self.state, rows)
+    }
+
+    /// The state that was built.
+    fn into_state(self) -> State {
+        self.state
+    }
 }
 
 /// Puts the triples of rows into a state, as far as they name what is there.
@@ -183,8 +194,11 @@ pub(crate) fn rebuild(
     let Some(mut objects) = first_objects(alloc, names, rows, root)? else {
         return Ok(None);
     };
-    objects.grow(rows, root)?;
-    let Objects { mut state, .. } = objects;
-    put_triples(&mut state, rows)?;
-    Ok(Some(state))
+    match objects.complete(rows, root) {
+        Ok(()) => Ok(Some(objects.into_state())),
+        Err(AllocError) => {
+            drop(objects);
+            Err(AllocError)
+        }
+    }
 }

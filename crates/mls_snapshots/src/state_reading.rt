@@ -1,5 +1,5 @@
 //! States read from their text.
-ghost use Rattle.std.specs.Prelude.{◌≡◌, IsTrue, IfOk, string_bytes};
+ghost use Rattle.std.specs.Prelude.{◌≡◌, IsTrue, IfOk, OnOk, string_bytes};
 ghost use Rattle.mls_snapshots.specs.Reading.{IsOfStart};
 ghost use Rattle.mls_snapshots.specs.Renumbering.{HasSameSubjects};
 ghost use Rattle.mls_snapshots.specs.States.{state_text};
@@ -31,21 +31,49 @@ fn first_difference(one: &str, other: &str) -> u64 {
     line
 }
 
+/// The state that the lines of a text say, if they say one; any other where they don't.
+fn read_lines(alloc: Global, names: &Names, text: &str) -> Result<State, ReadStateFault> {
+    let rows = StateRows::read(alloc, names, text)?;
+    let rebuilt = rebuild(alloc, names, &rows);
+    drop(rows);
+    match rebuilt {
+        Ok(Some(state)) => Ok(state),
+        Ok(None) => Err(ReadStateFault::Line(1)),
+        Err(AllocError) => Err(ReadStateFault::Memory),
+    }
+}
+
+/// Compares a text with that of a state.
+///
+/// # Errors
+/// `Line` where they differ, and `Memory`.
+fn compare_text(
+    alloc: Global,
+    names: &Names,
+    state: &State,
+    text: &str,
+) -> Result<(), ReadStateFault>
+    ensures { OnOk result (state_text names.now state.now ≡ text.now) }
+{
+    let written = state_text(alloc, names, state)?;
+    if !is_same_text(written.as_str(), text) {
+        return Err(ReadStateFault::Line(first_difference(written.as_str(), text)));
+    }
+    Ok(())
+}
+
 /// The state whose text this is.
 fn read_text(alloc: Global, names: &Names, text: &str) -> Result<State, ReadStateFault>
     ensures { IfOk result (λ state. state_text names.now state ≡ text.now) }
 {
-    let rows = StateRows::read(alloc, names, text)?;
-    let rebuilt = rebuild(alloc, names, &rows);
-    drop(rows);
-    let Some(state) = rebuilt? else {
-        return Err(ReadStateFault::Line(1));
-    };
-    let written = state_text(alloc, names, &state)?;
-    if !is_same_text(written.as_str(), text) {
-        return Err(ReadStateFault::Line(first_difference(written.as_str(), text)));
+    let state = read_lines(alloc, names, text)?;
+    match compare_text(alloc, names, &state, text) {
+        Ok(()) => Ok(state),
+        Err(fault) => {
+            drop(state);
+            Err(fault)
+        }
     }
-    Ok(state)
 }
 
 /// Whether a state is of a start: what no rule changes is as there.
@@ -56,6 +84,21 @@ fn is_of_start(alloc: Global, start: &Start, state: &State) -> Result<bool, Allo
     let is = has_same_kind(&opening, state) && has_fixed_subjects(&opening, state);
     drop(opening);
     Ok(is)
+}
+
+/// The start that opens with a state.
+///
+/// # Errors
+/// `NotSecure` where the state isn't secure, and `Memory`.
+fn begin(alloc: Global, state: State) -> Result<Start, ReadStateFault>
+    ensures state { IfOk result (λ begun. begun ≡ state) }
+    ensures secure { OnOk result (IsSecure state) }
+{
+    match Start::of_state(alloc, state) {
+        Ok(begun) => Ok(begun),
+        Err(StateRefused::NotSecure) => Err(ReadStateFault::NotSecure),
+        Err(StateRefused::Memory) => Err(ReadStateFault::Memory),
+    }
 }
 
 /// Reads the text of a state, with the names of its start, and gives a start that opens with just that state: its
@@ -82,12 +125,16 @@ pub fn read_state(
         return Err(ReadStateFault::Line(1));
     };
     let state = read_text(alloc, names, text)?;
-    if !is_of_start(alloc, start, &state)? {
-        return Err(ReadStateFault::OtherStart);
-    }
-    match Start::of_state(alloc, state) {
-        Ok(begun) => Ok(begun),
-        Err(StateRefused::NotSecure) => Err(ReadStateFault::NotSecure),
-        Err(StateRefused::Memory) => Err(ReadStateFault::Memory),
+    let is = is_of_start(alloc, start, &state);
+    match is {
+        Ok(true) => begin(alloc, state),
+        Ok(false) => {
+            drop(state);
+            Err(ReadStateFault::OtherStart)
+        }
+        Err(AllocError) => {
+            drop(state);
+            Err(ReadStateFault::Memory)
+        }
     }
 }

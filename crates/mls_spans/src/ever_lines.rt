@@ -47,8 +47,11 @@ fn push_mark(text: &mut String, marks: Option<&Marks>, number: u64) -> Result<()
     }
 }
 
-/// Appends the number of an entry, and its time where times are told.
-fn push_entry(text: &mut String, marks: Option<&Marks>, number: u64) -> Result<(), AllocError>
+/// Appends the number of an entry, and its time where times are told: `N [TIME]`.
+///
+/// # Errors
+/// `AllocError` where an allocation failed. The text may then have a part of it.
+pub fn push_entry(text: &mut String, marks: Option<&Marks>, number: u64) -> Result<(), AllocError>
     ensures { OnOk result (string_bytes text.new
         ≡ string_bytes text.old ++ entry_text (rows_lent marks.entry) number) }
 {

@@ -39,8 +39,12 @@ fn spans_of(alloc: Global, start: &Start, entries: &[Entry]) -> Result<Vec<Span>
     spans
 }
 
-/// The answer that lists the spans that are asked for.
-fn list_chosen(
+/// The answer that lists the spans over a start and its entries that are asked for, by these names. It is a positive one
+/// where there is one.
+///
+/// # Errors
+/// `Files` with `Memory` where an allocation failed.
+pub fn list_spans(
     alloc: Global,
     names: &Names,
     start: &Start,
@@ -67,7 +71,7 @@ fn list_replay(alloc: Global, replay: &Replay, words: &Words<'_>) -> Result<Answ
     let start = replay.start();
     let entries = replay.entries();
     match choose(names, words) {
-        Ok(choice) => list_chosen(alloc, names, start, entries, &choice),
+        Ok(choice) => list_spans(alloc, names, start, entries, &choice),
         Err(fault) => Err(fault),
     }
 }

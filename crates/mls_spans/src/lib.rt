@@ -26,11 +26,12 @@ mod using;
 mod window;
 mod windows;
 
-pub use choosing::{Choice, Filter, Words};
+pub use choosing::{Choice, Filter, Words, choose};
 pub use ever::list_ever;
-pub use held::list_held;
+pub use ever_lines::push_entry;
+pub use held::{list_held, list_spans};
 pub use span::{Ending, Span};
 pub use states::States;
 pub use usage::Usage;
 pub use uses::Uses;
-pub use using::list_usage;
+pub use using::{entries_between, list_usage, list_usages};

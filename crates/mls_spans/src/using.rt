@@ -38,8 +38,8 @@ fn entries_from(entries: &[Entry], first: u64) -> &[Entry]
     &entries[first as usize..]
 }
 
-/// The entries between the first and the last of some states.
-pub(crate) fn entries_between(entries: &[Entry], states: States) -> &[Entry]
+/// The entries between the first and the last of some states. It doesn't allocate.
+pub fn entries_between(entries: &[Entry], states: States) -> &[Entry]
     ensures { result.now ≡ between states entries.now }
 {
     entries_from(entries_up_to(entries, states.last), states.first)
@@ -55,8 +55,12 @@ fn usages_over(alloc: Global, first: &State, entries: &[Entry]) -> Result<Vec<Us
     usages
 }
 
-/// The answer that lists the permissions over entries from a state.
-fn list_usages(
+/// The answer that lists the permissions over entries from a state, by these names. It is a positive one where each was
+/// granted.
+///
+/// # Errors
+/// `AllocError` where an allocation failed.
+pub fn list_usages(
     alloc: Global,
     names: &Names,
     first: &State,

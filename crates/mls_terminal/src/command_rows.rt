@@ -14,6 +14,7 @@ pub(crate) enum CommandName {
     Explain,
     Who,
     Powers,
+    About,
     Lint,
     Lattice,
     Journal,
@@ -21,6 +22,7 @@ pub(crate) enum CommandName {
     Held,
     Usage,
     Compare,
+    Report,
 }
 
 /// A command of the program.
@@ -279,6 +281,32 @@ const POWERS_ARGUMENTS: [Argument; 7] = [
     },
 ];
 
+/// The arguments of `about`.
+const ABOUT_ARGUMENTS: [Argument; 7] = [
+    OF_JOURNAL,
+    AT,
+    MARKS_OF_JOURNAL,
+    WHEN,
+    Argument {
+        name: "as-object",
+        kind: Kind::Flag,
+        help: "The object of this name, though a subject has it, too",
+    },
+    START,
+    Argument {
+        name: "NAME",
+        kind: Kind::Operand,
+        help: "A subject's name, or else an object's: its name, or # and its number (quoted)",
+    },
+];
+
+/// The option `--after` of a question.
+const AFTER: Argument = Argument {
+    name: "after",
+    kind: Kind::Text("MAP"),
+    help: "The map that START was made with, by mls state --start --map: its objects are told by the names that they had",
+};
+
 /// The arguments of `lint`.
 const LINT_ARGUMENTS: [Argument; 1] = [START];
 
@@ -286,7 +314,7 @@ const LINT_ARGUMENTS: [Argument; 1] = [START];
 const LATTICE_ARGUMENTS: [Argument; 1] = [START];
 
 /// The arguments of `journal`.
-const JOURNAL_ARGUMENTS: [Argument; 15] = [
+const JOURNAL_ARGUMENTS: [Argument; 16] = [
     Argument {
         name: "subject",
         kind: Kind::Text("SUBJ"),
@@ -340,20 +368,21 @@ const JOURNAL_ARGUMENTS: [Argument; 15] = [
     },
     Argument {
         name: "json",
-        kind: Kind::FlagWithout("summary"),
-        help: "Prints a JSON object for each, in a line",
+        kind: Kind::Flag,
+        help: "Prints a JSON object for each, in a line; of the summary one object",
     },
     Argument {
         name: "explain",
         kind: Kind::FlagWithoutEither("summary", "json"),
         help: "Prints under each why it has its reply, as mls explain --at does of its number",
     },
+    AFTER,
     START,
     JOURNAL,
 ];
 
 /// The arguments of `state`.
-const STATE_ARGUMENTS: [Argument; 6] = [
+const STATE_ARGUMENTS: [Argument; 7] = [
     Argument {
         name: "at",
         kind: Kind::Entry,
@@ -366,12 +395,17 @@ const STATE_ARGUMENTS: [Argument; 6] = [
         kind: Kind::Flag,
         help: "Prints a start file that opens with the state, its objects numbered anew: for a new journal",
     },
+    Argument {
+        name: "map",
+        kind: Kind::TextBeside("FILE", "start"),
+        help: "Makes FILE, a line for each object: its new number, its number in JOURNAL, and its name there",
+    },
     START,
     JOURNAL,
 ];
 
 /// The arguments of `held`.
-const HELD_ARGUMENTS: [Argument; 8] = [
+const HELD_ARGUMENTS: [Argument; 9] = [
     Argument {
         name: "subject",
         kind: Kind::Text("SUBJ"),
@@ -402,12 +436,13 @@ const HELD_ARGUMENTS: [Argument; 8] = [
         kind: Kind::Entry,
         help: "What was held in the state after entry N, or earlier",
     },
+    AFTER,
     START,
     JOURNAL,
 ];
 
 /// The arguments of `usage`.
-const USAGE_ARGUMENTS: [Argument; 4] = [
+const USAGE_ARGUMENTS: [Argument; 5] = [
     Argument {
         name: "from",
         kind: Kind::Entry,
@@ -418,6 +453,7 @@ const USAGE_ARGUMENTS: [Argument; 4] = [
         kind: Kind::Entry,
         help: "The permissions of the state after entry N, or of an earlier one, and the entries up to N",
     },
+    AFTER,
     START,
     JOURNAL,
 ];
@@ -441,8 +477,11 @@ const COMPARE_ARGUMENTS: [Argument; 3] = [
     },
 ];
 
+/// The arguments of `report`.
+const REPORT_ARGUMENTS: [Argument; 3] = [MARKS_OF_OPERAND, START, JOURNAL];
+
 /// The commands, in the order of help.
-pub(crate) const COMMANDS: [CommandRow; 16] = [
+pub(crate) const COMMANDS: [CommandRow; 18] = [
     CommandRow {
         command: CommandName::Check,
         name: "check",
@@ -529,6 +568,17 @@ pub(crate) const COMMANDS: [CommandRow; 16] = [
         arguments: &POWERS_ARGUMENTS,
     },
     CommandRow {
+        command: CommandName::About,
+        name: "about",
+        about: "Prints all that there is to tell of a subject: its labels, its permissions and whether each get would be \
+            granted now, what it holds and what it may change; and with a journal how many entries it asked, and which \
+            gave it permissions. Of an object: its labels, its children, who may get it, who holds it; and with a \
+            journal which entries changed it. The status is 0 where there is a line, else 4",
+        example: "Examples: mls about examples/standard.json bob; mls about --journal office.journal \
+            examples/office.json salaries",
+        arguments: &ABOUT_ARGUMENTS,
+    },
+    CommandRow {
         command: CommandName::Lint,
         name: "lint",
         about: "Prints what is suspicious in a start file: members that a JSON object has twice, permissions \
@@ -593,5 +643,14 @@ pub(crate) const COMMANDS: [CommandRow; 16] = [
             where something is printed, else 0. Without a journal nothing means that both open alike, but for numbers",
         example: "Example: mls compare examples/office.json new.json office.journal",
         arguments: &COMPARE_ARGUMENTS,
+    },
+    CommandRow {
+        command: CommandName::Report,
+        name: "report",
+        about: "Prints a page about a journal, in HTML, to be looked at: how many entries were granted and denied, why \
+            those were denied that were, the labels of START, what subjects may change, who held what, and how \
+            permissions were used. It needs no network. At most 2000 lines of a kind are shown",
+        example: "Example: mls report examples/office.json office.journal > office.html",
+        arguments: &REPORT_ARGUMENTS,
     },
 ];

@@ -4,7 +4,7 @@ ghost use Rattle.std.specs.Prelude.{◌≡◌, ◌≤◌, vec_len, IfOk, OnOk};
 use crate::held::Held;
 use crate::output::is_taken;
 use crate::progress::Progress;
-use std::fs::File;
+use std::fs::{File, OpenOptions};
 use std::io::Read;
 
 /// Why a file wasn't read or written.
@@ -116,6 +116,18 @@ impl Input<'_> {
         held.keep(file)?;
         read
     }
+}
+
+/// Makes a file that isn't there yet, whatever has its name, with this text, and says whether all of it was written.
+pub fn make_file(rt: &HostRuntime, path: &str, text: &str) -> bool {
+    let mut options = OpenOptions::new();
+    options.write(true).create_new(true);
+    let Ok(mut file) = options.open(rt, path) else {
+        return false;
+    };
+    let written = is_taken(&mut file, text.as_bytes());
+    drop(file);
+    written
 }
 
 /// Makes a file anew with this text, and says whether all of it was written.

@@ -1,6 +1,7 @@
 //! What a command line asks for.
 
 use crate::question::Question;
+use mls_json::Lines;
 use mls_marks::Digest;
 
 /// What a run of scripts is asked for.
@@ -70,4 +71,12 @@ pub enum Job<'a> {
     Serve(ServeWords<'a>),
     /// To answer a question about start files or journals.
     Question(Question<'a>),
+}
+
+/// What a command line asks for, and how it is told.
+#[derive(Debug, Drop)]
+pub struct Asked<'a> {
+    pub job: Job<'a>,
+    /// The lines that are printed as JSON objects, where this is asked for.
+    pub lines: Option<Lines>,
 }

@@ -1,7 +1,11 @@
-//! What a person at a terminal is told while a command works for more than a second.
+//! What a person at a terminal is told while a command works for more than a second, and how its answer is printed.
 ghost use Rattle.std.specs.Prelude.{◌≡◌};
 
+use crate::output::{NO_MEMORY, print, refused};
+use mls_json::{Lines, objects};
 use std::io::IsTerminal;
+use std::process::ExitCode;
+use std::str;
 use std::time::Instant;
 
 /// Work on so many bytes takes more than a second.
@@ -13,7 +17,7 @@ const STEP: usize = 8_388_608;
 /// How many seconds a command works before it says what it does.
 const PATIENCE: u64 = 1;
 
-/// What a command tells of its work, where standard error is a terminal.
+/// What a command tells of its work, where standard error is a terminal, and in which form it prints its answer.
 #[derive(Drop)]
 pub struct Progress<'a> {
     rt: &'a HostRuntime,
@@ -23,11 +27,13 @@ pub struct Progress<'a> {
     read: usize,
     /// Whether a line stands on the terminal.
     is_shown: bool,
+    /// The lines that are printed as JSON objects, where this is asked for.
+    lines: Option<Lines>,
 }
 
 impl<'a> Progress<'a> {
-    /// The progress of work that begins now.
-    pub fn new(rt: &'a HostRuntime) -> Progress<'a> {
+    /// The progress of work that begins now, whose lines are printed as JSON objects where they are named.
+    pub fn new(rt: &'a HostRuntime, lines: Option<Lines>) -> Progress<'a> {
         let begun = if rt.stderr().is_terminal() {
             Instant::now(rt).ok()
         } else {
@@ -38,6 +44,7 @@ impl<'a> Progress<'a> {
             begun,
             read: 0,
             is_shown: false,
+            lines,
         }
     }
 
@@ -84,5 +91,31 @@ impl<'a> Progress<'a> {
             let _ = eprint!(self.rt; "\r\x1b[K");
             self.is_shown = false;
         }
+    }
+
+    /// Whether JSON objects are printed.
+    pub fn is_json(&self) -> bool {
+        self.lines.is_some()
+    }
+
+    /// Ends the work, and prints the text that it came to, or the JSON objects that tell it.
+    pub fn print(&mut self, text: &[u8]) -> ExitCode {
+        self.end();
+        match (self.lines, str::from_utf8(text)) {
+            (Some(lines), Ok(text)) => print_objects(self.rt, lines, text),
+            _ => print(self.rt, text),
+        }
+    }
+}
+
+/// Prints the JSON objects of a text.
+fn print_objects(rt: &HostRuntime, lines: Lines, text: &str) -> ExitCode {
+    match objects(rt.alloc(), lines.table(text), text) {
+        Ok(found) => {
+            let status = print(rt, &found);
+            drop(found);
+            status
+        }
+        Err(_) => refused(rt, NO_MEMORY, 1),
     }
 }

@@ -33,6 +33,8 @@ pub struct JournalWords<'a> {
     pub since: Option<Time>,
     /// The time of the last batch of which entries are asked for.
     pub until: Option<Time>,
+    /// The file of the map that the start was made with, where objects are told by the names that it has.
+    pub after: Option<&'a str>,
 }
 
 /// What `held` is asked for.
@@ -41,6 +43,8 @@ pub struct HeldWords<'a> {
     pub start: &'a str,
     pub journal: &'a str,
     pub filter: HeldFilter<'a>,
+    /// The file of the map that the start was made with, where objects are told by the names that it has.
+    pub after: Option<&'a str>,
 }
 
 /// What `who --ever` is asked for.
@@ -69,6 +73,17 @@ pub struct UsageWords<'a> {
     pub journal: &'a str,
     /// The states whose permissions are asked for.
     pub states: States,
+    /// The file of the map that the start was made with, where objects are told by the names that it has.
+    pub after: Option<&'a str>,
+}
+
+/// What `report` is asked for.
+#[derive(Clone, Copy, Debug)]
+pub struct ReportWords<'a> {
+    pub start: &'a str,
+    pub journal: &'a str,
+    /// The file of the journal's marks, where there is one.
+    pub marks: Option<&'a str>,
 }
 
 /// A question about start files or journals.
@@ -100,6 +115,14 @@ pub enum Question<'a> {
         /// Whether only labels of objects are asked for that don't dominate the present ones.
         downgrades: bool,
     },
+    /// All that there is to tell of a subject or of an object.
+    About {
+        source: Source<'a>,
+        /// The word that names it.
+        name: &'a str,
+        /// Whether it is to name an object.
+        is_object: bool,
+    },
     /// What is wrong with a start file, or suspicious in it.
     Lint {
         start: &'a str,
@@ -115,6 +138,8 @@ pub enum Question<'a> {
         source: Source<'a>,
         /// Whether it is written as a start file.
         is_start: bool,
+        /// The file that is then made, which tells the old numbers of its objects, where one is.
+        map: Option<&'a str>,
     },
     /// Who held what over a journal.
     Held(HeldWords<'a>),
@@ -127,4 +152,6 @@ pub enum Question<'a> {
         /// The file of a journal of the first start, where its requests are asked of both.
         journal: Option<&'a str>,
     },
+    /// A page about a journal.
+    Report(ReportWords<'a>),
 }

@@ -1,6 +1,8 @@
 //! What the words of a question ask for.
 use crate::job::Job;
-use crate::question::{EverWords, HeldWords, JournalWords, Question, Source, UsageWords};
+use crate::question::{
+    EverWords, HeldWords, JournalWords, Question, ReportWords, Source, UsageWords,
+};
 use crate::times::{time_by, time_from};
 use crate::words_fault::{FormedOption, WordsFault};
 use clap::ArgMatches;
@@ -114,6 +116,7 @@ pub(crate) fn journal_words<'a>(matches: &ArgMatches<'a>) -> Result<Job<'a>, Wor
         marks: matches.get_str("marks"),
         since,
         until,
+        after: matches.get_str("after"),
     })))
 }
 
@@ -150,6 +153,7 @@ pub(crate) fn held_words<'a>(matches: &ArgMatches<'a>) -> Result<Job<'a>, WordsF
             mode: mode(matches),
             states,
         },
+        after: matches.get_str("after"),
     })))
 }
 
@@ -163,6 +167,7 @@ pub(crate) fn usage_words<'a>(matches: &ArgMatches<'a>) -> Result<Job<'a>, Words
         start: operand(matches, "START"),
         journal: operand(matches, "JOURNAL"),
         states: States::between(from, to),
+        after: matches.get_str("after"),
     })))
 }
 
@@ -249,6 +254,19 @@ pub(crate) fn powers_words<'a>(matches: &ArgMatches<'a>) -> Result<Job<'a>, Word
     }))
 }
 
+/// What `about` was asked for.
+///
+/// # Errors
+/// `Time` where a word is to be a time and is none.
+pub(crate) fn about_words<'a>(matches: &ArgMatches<'a>) -> Result<Job<'a>, WordsFault<'a>> {
+    let when = when(matches)?;
+    Ok(Job::Question(Question::About {
+        source: source(matches, matches.get_str("journal"), when),
+        name: operand(matches, "NAME"),
+        is_object: matches.get_flag("as-object"),
+    }))
+}
+
 /// What `state` was asked for.
 ///
 /// # Errors
@@ -258,6 +276,7 @@ pub(crate) fn state_words<'a>(matches: &ArgMatches<'a>) -> Result<Job<'a>, Words
     Ok(Job::Question(Question::State {
         source: source(matches, matches.get_str("JOURNAL"), when),
         is_start: matches.get_flag("start"),
+        map: matches.get_str("map"),
     }))
 }
 
@@ -268,4 +287,13 @@ pub(crate) fn compare_words<'a>(matches: &ArgMatches<'a>) -> Question<'a> {
         second: operand(matches, "START2"),
         journal: matches.get_str("JOURNAL"),
     }
+}
+
+/// What `report` was asked for.
+pub(crate) fn report_words<'a>(matches: &ArgMatches<'a>) -> Question<'a> {
+    Question::Report(ReportWords {
+        start: operand(matches, "START"),
+        journal: operand(matches, "JOURNAL"),
+        marks: matches.get_str("marks"),
+    })
 }

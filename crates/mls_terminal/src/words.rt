@@ -1,11 +1,12 @@
 //! The words of a command line.
 use crate::command_rows::{COMMANDS, CommandName, CommandRow};
-use crate::job::{Job, RunWords, ServeWords};
+use crate::job::{Asked, Job, RunWords, ServeWords};
+use crate::json_words::{asked_lines, json_argument};
 use crate::output::{NOT_WRITTEN, refused};
 use crate::question::Question;
 use crate::question_words::{
-    ask_words, compare_words, explain_words, held_words, journal_words, operand, powers_words,
-    state_words, usage_words, who_words,
+    about_words, ask_words, compare_words, explain_words, held_words, journal_words, operand,
+    powers_words, report_words, state_words, usage_words, who_words,
 };
 use crate::verify_words::verify_words;
 use crate::words_fault::{WordsFault, words_refused};
@@ -14,7 +15,7 @@ use std::alloc::{AllocError, Global};
 use std::process::ExitCode;
 
 /// The version, and the toolchain's line.
-const VERSION: &str = "0.2.0, proved with rattle-kit-13f logic dac8208d650f15bf";
+const VERSION: &str = "0.2.0, proved with rattle-kit-13b logic dac8208d650f15bf";
 
 const ABOUT: &str =
     "A reference monitor for multilevel security. Without a command it answers the script on \
@@ -28,6 +29,9 @@ fn command_of<'a>(alloc: Global, row: &CommandRow) -> Result<Command<'a>, AllocE
         .about(row.about)
         .after_help(row.example);
     for argument in row.arguments {
+        command = command.arg(argument.built(alloc)?)?;
+    }
+    if let Some(argument) = json_argument(row.command) {
         command = command.arg(argument.built(alloc)?)?;
     }
     Ok(command)
@@ -128,6 +132,7 @@ fn command_job<'a>(
         CommandName::Explain => explain_words(words),
         CommandName::Who => who_words(words),
         CommandName::Powers => powers_words(words),
+        CommandName::About => about_words(words),
         CommandName::Lint => Ok(Job::Question(Question::Lint {
             start: operand(words, "START"),
         })),
@@ -139,15 +144,22 @@ fn command_job<'a>(
         CommandName::Held => held_words(words),
         CommandName::Usage => usage_words(words),
         CommandName::Compare => Ok(Job::Question(compare_words(words))),
+        CommandName::Report => Ok(Job::Question(report_words(words))),
     }
 }
 
 /// What was asked for: without a command, to answer standard input.
-fn job_of<'a>(alloc: Global, matches: &ArgMatches<'a>) -> Result<Job<'a>, WordsFault<'a>> {
-    match matches.subcommand() {
-        Some((name, words)) => command_job(alloc, command_named(name)?, words),
-        None => Ok(Job::Answer),
-    }
+fn asked<'a>(alloc: Global, matches: &ArgMatches<'a>) -> Result<Asked<'a>, WordsFault<'a>> {
+    let Some((name, words)) = matches.subcommand() else {
+        return Ok(Asked {
+            job: Job::Answer,
+            lines: None,
+        });
+    };
+    let command = command_named(name)?;
+    let lines = asked_lines(command, words);
+    let job = command_job(alloc, command, words)?;
+    Ok(Asked { job, lines })
 }
 
 /// The words of a command line by the arguments that they are.
@@ -172,15 +184,15 @@ fn explained(rt: &HostRuntime, error: Error) -> ExitCode {
 /// # Errors
 /// The status to end with where there is nothing to do: help or the version was asked for and is printed, or the words
 /// aren't understood and it is said why.
-pub fn read_words<'a>(rt: &HostRuntime, words: &'a [String]) -> Result<Job<'a>, ExitCode> {
+pub fn read_words<'a>(rt: &HostRuntime, words: &'a [String]) -> Result<Asked<'a>, ExitCode> {
     let matches = match parse(rt.alloc(), words) {
         Ok(matches) => matches,
         Err(error) => return Err(explained(rt, error)),
     };
-    let job = job_of(rt.alloc(), &matches);
+    let asked = asked(rt.alloc(), &matches);
     drop(matches);
-    match job {
-        Ok(job) => Ok(job),
+    match asked {
+        Ok(asked) => Ok(asked),
         Err(fault) => Err(words_refused(rt, fault)),
     }
 }

@@ -20,6 +20,7 @@ pub const MLS_EREPLAY: c_int = -7;
 pub const MLS_ERANGE: c_int = -8;
 pub const MLS_ENOTFOUND: c_int = -9;
 pub const MLS_ESTATE: c_int = -10;
+pub const MLS_EBUSY: c_int = -11;
 
 // Actions.
 pub const MLS_GET: u8 = 0;
@@ -109,6 +110,35 @@ pub struct mls_monitor {
 
 /// A closed handle.
 pub const MLS_INIT: mls_monitor = mls_monitor { held: 0, monitor: ptr::null_mut() };
+
+/// An office: a monitor that threads share by sessions. Its fields are the library's.
+#[repr(C)]
+#[derive(Debug)]
+pub struct mls_office {
+    pub held: u32,
+    pub hall: *mut c_void,
+    pub count: u16,
+}
+
+/// A closed office.
+pub const MLS_OFFICE_INIT: mls_office = mls_office { held: 0, hall: ptr::null_mut(), count: 0 };
+
+/// The handle of a session of an office. Its fields are the library's.
+#[repr(C)]
+#[derive(Debug)]
+pub struct mls_session {
+    pub held: u32,
+    pub place: *mut c_void,
+    pub office: *mut c_void,
+    pub number: u16,
+}
+
+/// A closed handle of a session.
+pub const MLS_SESSION_INIT: mls_session =
+    mls_session { held: 0, place: ptr::null_mut(), office: ptr::null_mut(), number: 0 };
+
+/// An office has no more sessions than this.
+pub const MLS_SESSIONS: u16 = 64;
 
 /// A label: a level below 16, and bit n % 64 of word n / 64 for category n, 0 to 255.
 #[repr(C)]
@@ -314,6 +344,18 @@ extern "C" {
     ) -> c_int;
     pub fn mls_state_text(m: *mut mls_monitor, buf: *mut c_char, cap: usize, len: *mut usize) -> c_int;
     pub fn mls_close(m: *mut mls_monitor);
+    pub fn mls_office_open(
+        office: *mut mls_office,
+        m: *mut mls_monitor,
+        sessions: *mut mls_session,
+        count: u16,
+    ) -> c_int;
+    pub fn mls_office_close(office: *mut mls_office, sessions: *mut mls_session, m: *mut mls_monitor) -> c_int;
+    pub fn mls_office_drop(office: *mut mls_office);
+    pub fn mls_session_drop(s: *mut mls_session);
+    pub fn mls_session_submit(s: *mut mls_session, request: *const mls_request, answer: *mut mls_answer) -> c_int;
+    pub fn mls_session_check(s: *mut mls_session, subject: u16, object: u16, mode: u8, held: *mut c_int) -> c_int;
+    pub fn mls_session_decide(s: *mut mls_session, request: *const mls_request, answer: *mut mls_answer) -> c_int;
     pub fn mls_version() -> *const c_char;
     pub fn mls_status_word(status: c_int) -> *const c_char;
     pub fn mls_action_word(action: c_int) -> *const c_char;

@@ -39,6 +39,8 @@ macro_rules! layout {
 fn layouts() -> Vec<Layout> {
     vec![
         layout!(mls_monitor: held monitor),
+        layout!(mls_office: held hall count),
+        layout!(mls_session: held place office number),
         layout!(mls_label: level categories),
         layout!(mls_request: action mode subject other object security integrity),
         layout!(mls_answer: number reply object),

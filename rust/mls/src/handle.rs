@@ -1,9 +1,11 @@
 //! A handle of the library: the one module that calls it. What the header has the caller keep is kept here.
 #![allow(unsafe_code)]
 
+mod offices;
 mod plain;
 mod readers;
 
+pub(crate) use offices::{OfficeHandle, SessionHandle};
 pub(crate) use plain::{dominates, mode_word, reason_word, reply_word, version};
 
 use mls_sys::*;
@@ -24,6 +26,11 @@ pub(crate) struct Handle(Box<UnsafeCell<mls_monitor>>);
 unsafe impl Send for Handle {}
 
 impl Handle {
+    /// A handle that a call is to open.
+    fn closed() -> Handle {
+        Handle(Box::new(UnsafeCell::new(MLS_INIT)))
+    }
+
     /// The handle that `mls_open` leaves, or its status and the fault.
     pub fn open(start: &[u8]) -> Result<Handle, (c_int, mls_fault)> {
         // SAFETY: the start is valid for its length, and overlaps neither the handle nor the fault, which are new.
@@ -157,7 +164,7 @@ fn told<T>(status: c_int, value: T) -> Result<T, c_int> {
 
 /// A handle that a call has opened, or its status and the fault.
 fn opened(call: impl FnOnce(*mut mls_monitor, *mut mls_fault) -> c_int) -> Result<Handle, (c_int, mls_fault)> {
-    let handle = Handle(Box::new(UnsafeCell::new(MLS_INIT)));
+    let handle = Handle::closed();
     let mut fault = mls_fault::default();
     match call(handle.0.get(), &mut fault) {
         MLS_OK => Ok(handle),

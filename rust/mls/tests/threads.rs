@@ -1,5 +1,5 @@
 //! A monitor behind a mutex, asked by many threads; and one that goes from thread to thread.
-use mls::{Mode, Monitor, Object, Subject};
+use mls::{CloseError, Mode, Monitor, Object, Office, OfficeError, Request, Session, Subject};
 use std::sync::{Arc, Mutex};
 use std::thread;
 
@@ -48,4 +48,54 @@ fn a_monitor_goes_from_thread_to_thread() {
         .unwrap();
     }
     assert_eq!(monitor.entry_count(), u64::from(THREADS));
+}
+
+#[test]
+fn sessions_ask_side_by_side() {
+    let (office, sessions) = Office::open(Monitor::open(START).unwrap(), THREADS as u16).unwrap();
+    let work = |mut session: Session| {
+        move || {
+            let (ann, plans) = (Subject(0), Object(1));
+            let mut numbers = Vec::new();
+            for _ in 0..ROUNDS {
+                numbers.push(session.get(ann, plans, Mode::Read).unwrap().number);
+                session.check(ann, plans, Mode::Read);
+                assert!(session.decide(&Request::Get { subject: ann, object: plans, mode: Mode::Read }).is_granted());
+                numbers.push(session.release(ann, plans, Mode::Read).unwrap().number);
+            }
+            (session, numbers)
+        }
+    };
+    let running: Vec<_> = sessions.into_iter().map(|it| thread::spawn(work(it))).collect();
+    let (sessions, numbers): (Vec<_>, Vec<_>) = running.into_iter().map(|it| it.join().unwrap()).unzip();
+    let monitor = office.close(sessions).unwrap();
+    assert_eq!(monitor.entry_count(), u64::from(THREADS) * 2 * ROUNDS as u64);
+    for (session, wanted) in numbers.into_iter().enumerate() {
+        let found = monitor.entries(0).filter(|it| it.session == session as u32).map(|it| it.answer.number);
+        assert_eq!(found.collect::<Vec<_>>(), wanted);
+    }
+    let resumed = Monitor::resume(START, monitor.journal(0).unwrap().as_bytes()).unwrap();
+    assert_eq!(resumed.entry_count(), monitor.entry_count());
+}
+
+#[test]
+fn an_office_is_closed_with_its_sessions_alone() {
+    for count in [0, Office::MAX_SESSIONS + 1] {
+        let refused = Office::open(Monitor::open(START).unwrap(), count).unwrap_err();
+        assert!(matches!(refused, OfficeError::BadCount(_)));
+    }
+    let (office, mut sessions) = Office::open(Monitor::open(START).unwrap(), 2).unwrap();
+    let (_other, mut strangers) = Office::open(Monitor::open(START).unwrap(), 2).unwrap();
+    assert!(sessions[1].get(Subject(0), Object(1), Mode::Read).unwrap().is_granted());
+    assert!(!strangers[1].check(Subject(0), Object(1), Mode::Read));
+    let (first, second) = (sessions.remove(0), sessions.remove(0));
+    let CloseError { office, sessions } = office.close(vec![second]).unwrap_err();
+    let CloseError { office, mut sessions } =
+        office.close(sessions.into_iter().chain([strangers.remove(0)]).collect()).unwrap_err();
+    let second = sessions.remove(1);
+    let monitor = office.close(vec![second, first]).unwrap();
+    assert_eq!(monitor.entries(0).map(|it| it.session).collect::<Vec<_>>(), [1]);
+    let (office, mut sessions) = Office::open(monitor, 3).unwrap();
+    drop(sessions.remove(1));
+    assert!(office.close(sessions).is_err());
 }

@@ -18,7 +18,7 @@ fn ended(
 ) -> ExitCode {
     progress.end();
     match done {
-        Ok(text) => print(progress.rt(), text.as_bytes()),
+        Ok(text) => progress.print(text.as_bytes()),
         Err(fault) => command_refused(progress.rt(), fault_file(&fault, start, journal), &fault),
     }
 }

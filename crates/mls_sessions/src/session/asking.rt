@@ -4,7 +4,7 @@ ghost use Rattle.std.specs.Prelude.{OnOk, OnErr};
 ghost use Rattle.mls_sessions.specs.Sessions.{IsOf, Submits, number_of};
 ghost use Rattle.mls_sessions.specs.Feeds.{Learns};
 
-use crate::gate::{named, win};
+use crate::gate::{named, wake, win};
 use crate::office::Office;
 use crate::session::Session;
 use crate::try_fault::TryFault;
@@ -37,7 +37,7 @@ impl Session {
         let gate = &office.table.shared;
         let number = self.number();
         let monitor = wait(office, rt, &mut self.seat, &mut self.pace, number, 1);
-        record(
+        let (made, may_sleep) = record(
             gate,
             office.cells,
             &mut self.seat,
@@ -45,7 +45,9 @@ impl Session {
             monitor,
             number,
             request,
-        )
+        );
+        wake(gate, may_sleep);
+        made
     }
 
     /// As [`submit`](Session::submit), but it doesn't wait.
@@ -61,22 +63,45 @@ impl Session {
         ensures err { OnErr result (self.new ≡ self.old) }
         ensures alone { office.now.charter.count ≡ 1 → IfErr result (λ fault. fault ≢ TryFault.Busy) }
     {
+        let (made, may_sleep) = self.submit_quietly(office, request);
+        wake(&office.table.shared, may_sleep);
+        made
+    }
+
+    /// As [`try_submit`](Session::try_submit), but it wakes nobody. It returns also whether another session may sleep
+    /// until it is woken, as [`Office::wake_one`] does. Where no session of the office ever waits, nobody sleeps.
+    ///
+    /// # Errors
+    /// As those of [`try_submit`](Session::try_submit).
+    pub fn submit_quietly(
+        &mut self,
+        office: &Office,
+        request: Request,
+    ) -> (Result<Entry, TryFault>, bool)
+        requires { IsOf office.now self.old }
+        ensures office { IsOf office.now self.new }
+        ensures number { number_of self.new.view ≡ number_of self.old.view }
+        ensures ok { IfOk result.0 (λ e. Submits office.now.charter self.old.view request e self.new.view) }
+        ensures err { OnErr result.0 (self.new ≡ self.old) }
+        ensures alone { office.now.charter.count ≡ 1 → IfErr result.0 (λ fault. fault ≢ TryFault.Busy) }
+    {
         let gate = &office.table.shared;
         let number = self.number();
-        match win(gate, &mut self.seat, named(number)) {
-            Ok(monitor) => match record(
-                gate,
-                office.cells,
-                &mut self.seat,
-                &mut self.counts,
-                monitor,
-                number,
-                request,
-            ) {
-                Ok(entry) => Ok(entry),
-                Err(_) => Err(TryFault::Memory),
-            },
-            Err(_) => Err(TryFault::Busy),
+        let Ok(monitor) = win(gate, &mut self.seat, named(number)) else {
+            return (Err(TryFault::Busy), false);
+        };
+        let (made, may_sleep) = record(
+            gate,
+            office.cells,
+            &mut self.seat,
+            &mut self.counts,
+            monitor,
+            number,
+            request,
+        );
+        match made {
+            Ok(entry) => (Ok(entry), may_sleep),
+            Err(_) => (Err(TryFault::Memory), may_sleep),
         }
     }
 

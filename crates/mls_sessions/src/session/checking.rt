@@ -6,7 +6,7 @@ ghost use Rattle.mls_sessions.specs.Rule.{begun};
 ghost use Rattle.mls_sessions.specs.Sessions.{IsOf, Sees, history, number_of};
 
 use crate::cells::{BLANK, bit_of, cell_of, has_bit};
-use crate::gate::{glance, named, win};
+use crate::gate::{glance, named, wake, win};
 use crate::office::Office;
 use crate::session::Session;
 use crate::try_fault::Busy;
@@ -57,7 +57,7 @@ impl Session {
         let gate = &office.table.shared;
         let number = self.number();
         let taken = wait(office, rt, &mut self.seat, &mut self.pace, number, 1);
-        inspect(
+        let (is_held, may_sleep) = inspect(
             gate,
             office.cells,
             &mut self.seat,
@@ -66,15 +66,18 @@ impl Session {
             s,
             o,
             x,
-        )
+        );
+        wake(gate, may_sleep);
+        is_held
     }
 
     /// Returns whether the triple is a current access; false where it names an unknown subject or an object that isn't
     /// active. The history grows by what others added, and the answer is that of the state which it led to.
     ///
     /// It reads one word, that of the object for eight subjects, and waits for the gate only where the word is blank, or
-    /// the triple has none. All words are blank when the office opens, and where an object is deleted. A check that
-    /// waited fills its word, but one of several asks of one turn fills none. A triple without a word always waits.
+    /// the triple has none. All words are blank when the office opens, and those of an object where it is deleted. A
+    /// check that waited fills its word, but one of several asks of one turn fills none. A triple without a word always
+    /// waits.
     pub fn check<R: Wait>(
         &mut self,
         office: &Office,
@@ -118,23 +121,51 @@ impl Session {
         ensures busy { OnErr result (self.new ≡ self.old) }
         ensures alone { office.now.charter.count ≡ 1 → IsOk result }
     {
+        let (told, may_sleep) = self.check_quietly(office, s, o, x);
+        wake(&office.table.shared, may_sleep);
+        told
+    }
+
+    /// As [`try_check`](Session::try_check), but it wakes nobody. It returns also whether another session may sleep
+    /// until it is woken, as [`Office::wake_one`] does. Where no session of the office ever waits, nobody sleeps.
+    ///
+    /// # Errors
+    /// As those of [`try_check`](Session::try_check).
+    pub fn check_quietly(
+        &mut self,
+        office: &Office,
+        s: SubjectId,
+        o: ObjectId,
+        x: Mode,
+    ) -> (Result<bool, Busy>, bool)
+        requires { IsOf office.now self.old }
+        ensures office { IsOf office.now self.new }
+        ensures number { number_of self.new.view ≡ number_of self.old.view }
+        ensures seen { IfOk result.0 (λ _. Sees office.now.charter self.old.view self.new.view) }
+        ensures answer { let b =
+            (fold (begun office.now.charter) (history self.new.view)).accesses in IfOk result.0
+            (λ is_held. is_held ≡ set.contains b (s, o, x)) }
+        ensures busy { OnErr result.0 (self.new ≡ self.old) }
+        ensures alone { office.now.charter.count ≡ 1 → IsOk result.0 }
+    {
         if let Some(is_held) = self.glance(office, s, o, x) {
-            return Ok(is_held);
+            return (Ok(is_held), false);
         }
         let gate = &office.table.shared;
         let name = named(self.number());
-        match win(gate, &mut self.seat, name) {
-            Ok(monitor) => Ok(inspect(
-                gate,
-                office.cells,
-                &mut self.seat,
-                &mut self.counts,
-                monitor,
-                s,
-                o,
-                x,
-            )),
-            Err(_) => Err(Busy),
-        }
+        let Ok(monitor) = win(gate, &mut self.seat, name) else {
+            return (Err(Busy), false);
+        };
+        let (is_held, may_sleep) = inspect(
+            gate,
+            office.cells,
+            &mut self.seat,
+            &mut self.counts,
+            monitor,
+            s,
+            o,
+            x,
+        );
+        (Ok(is_held), may_sleep)
     }
 }

@@ -5,10 +5,10 @@ use crate::counts::Counts;
 use crate::gate::{named, win};
 use crate::office::Office;
 use crate::session::Session;
-use crate::tests::small::{get_read, small_monitor};
+use crate::tests::small::{get_read, labels, small_monitor};
 use crate::try_fault::{Busy, TryFault};
 use crate::turn::inspect;
-use mls_requests::Reply;
+use mls_requests::{Action, Reply, Request};
 use mls_tables::{Mode, ObjectId, SubjectId};
 use std::process::Abort;
 use std::test::Fail;
@@ -26,8 +26,46 @@ fn is_answered(rt: &impl Abort, office: &Office, second: &mut Session)
     assert!(rt; second.made() == 1 && second.seen() == 1);
 }
 
-/// The second session is told that the gate is busy, but where it reads the word that was written; it has seen and made
-/// what it had.
+/// The second session is granted an action of the subject.
+fn is_granted(
+    rt: &impl Abort,
+    office: &Office,
+    second: &mut Session,
+    action: Action,
+    granted: Reply,
+)
+    requires { IsOf office.now second.old }
+    ensures { IsOf office.now second.new }
+{
+    let subject = SubjectId(0);
+    match second.try_submit(office, Request { subject, action }) {
+        Ok(entry) => assert!(rt; entry.reply == granted),
+        Err(_) => panic!(rt; "the gate is free"),
+    }
+}
+
+/// The second session makes an object, and deletes it once its word was written: the word is blank again.
+fn makes_and_deletes(rt: &impl Abort, office: &Office, second: &mut Session)
+    requires { IsOf office.now second.old }
+    ensures { IsOf office.now second.new }
+{
+    let (security, integrity) = labels();
+    let (root, made) = (ObjectId(0), ObjectId(1));
+    is_granted(
+        rt,
+        office,
+        second,
+        Action::Get(Mode::Write, root),
+        Reply::Yes,
+    );
+    let create = Action::Create(root, security, integrity);
+    is_granted(rt, office, second, create, Reply::Created(made));
+    assert!(rt; second.try_check(office, SubjectId(0), made, Mode::Read) == Ok(false));
+    is_granted(rt, office, second, Action::Delete(made), Reply::Yes);
+}
+
+/// The second session is told that the gate is busy, but where it reads the word that was written, which the deletion
+/// of another object left; it has seen and made what it had.
 fn is_busy(rt: &impl Abort, office: &Office, second: &mut Session)
     requires { IsOf office.now second.old }
     ensures { IsOf office.now second.new }
@@ -51,7 +89,7 @@ fn holds_and_puts_home(rt: &impl Abort, office: &Office, first: Session, second:
     };
     is_busy(rt, office, second);
     let mut counts = Counts { made: 0, seen: 0 };
-    let is_held = inspect(
+    let (is_held, may_sleep) = inspect(
         gate,
         office.cells,
         &mut seat,
@@ -61,7 +99,7 @@ fn holds_and_puts_home(rt: &impl Abort, office: &Office, first: Session, second:
         ObjectId(0),
         Mode::Read,
     );
-    assert!(rt; is_held && counts.seen == 1);
+    assert!(rt; is_held && counts.seen == 4 && !may_sleep);
     assert!(rt; second.try_check(office, SubjectId(0), ObjectId(1), Mode::Read) == Ok(false));
 }
 
@@ -77,6 +115,7 @@ fn a_held_gate_is_busy(rt: HostRuntime) -> Result<(), Fail> {
         panic!(rt; "two sessions")
     };
     is_answered(&rt, &office, &mut second);
+    makes_and_deletes(&rt, &office, &mut second);
     holds_and_puts_home(&rt, &office, first, &mut second);
     drop(second);
     drop(office);

@@ -6,14 +6,20 @@ use mls_start::{Start, StartBuilder};
 use mls_tables::{Mode, ObjectId, SubjectId};
 use std::alloc::{AllocError, Global};
 
-/// A start with one subject, which may read the root.
-fn small_start(alloc: Global) -> Result<Start, AllocError> {
+/// The labels that all have.
+pub fn labels() -> (SecLabel, IntLabel) {
     let label = Label::new(0, CatSet::empty());
-    let (security, integrity) = (SecLabel::of(label), IntLabel::of(label));
+    (SecLabel::of(label), IntLabel::of(label))
+}
+
+/// A start with one subject, which may read and write the root.
+fn small_start(alloc: Global) -> Result<Start, AllocError> {
+    let (security, integrity) = labels();
     let bounds = Bounds::new(1, 0);
     let mut builder = StartBuilder::new(alloc, bounds, bounds, security, integrity);
     builder.subject(security, security, integrity, false)?;
     builder.allow(SubjectId(0), ObjectId(0), Mode::Read)?;
+    builder.allow(SubjectId(0), ObjectId(0), Mode::Write)?;
     match builder.build() {
         Ok(start) => Ok(start),
         Err(_) => Err(AllocError),

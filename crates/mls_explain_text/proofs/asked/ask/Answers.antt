@@ -1,7 +1,7 @@
 use Rattle.std.proofs.Common.{string_bytes}
 use Rattle.std.specs.Prelude.{option_map}
 use Rattle.mls_explain_text.specs.Files.{AnswersLine, RefusesLine}
-use Rattle.mls_explain_text.proofs.Seeing.{seen_ok, seen_err}
+use Rattle.mls_explain_text.proofs.Laws.{seen_ok, seen_err}
 use Rattle.mls_explain_text.proofs.asked.ask.Goals as goal
 
 pub returns-clause-ok : goal.returns-clause-ok

@@ -1,14 +1,14 @@
-use Rattle.std.proofs.Common.{◌∷◌, ◌++◌, [], sym}
-use Rattle.mls_sessions.specs.Rule.{begun, base}
-use Rattle.mls_sessions.specs.Sessions.{taken_of}
-use Rattle.mls_sessions.proofs.Touching.{quiet_nothing, quiet_blank}
-use Rattle.mls_sessions.proofs.Handing.{for_load}
+use Rattle.std.proofs.Common.{ℕ, sym, subst}
+use Rattle.mls_monitor.specs.Journal.{fold}
+use Rattle.mls_sessions.specs.Cells.{OfActive}
+use Rattle.mls_sessions.specs.Sessions.{notes_of}
+use Rattle.mls_sessions.proofs.Handing.{leads_nothing, leads_many}
 use Rattle.mls_sessions.proofs.publishing.publish.Goals as goal
 
-pub slip-requires-clause-entries : goal.slip-requires-clause-entries
-slip-requires-clause-entries c = let key = c.args.gate.now.key in
-    (c.args.entry.now ∷ [], 0, c.requires.entry, c.requires.holds, quiet_nothing (begun key) (base key) (taken_of c.args.seat.now.me.0) c.args.entry.now c.requires.answered key.cells (sym c.in-Nothing.ensures))
+pub returns-in-Nothing-clause-leads : goal.returns-in-Nothing-clause-leads
+returns-in-Nothing-clause-leads c = leads_nothing c.args.gate.now.key c.args.seat.now.me c.args.entry.now c.args.monitor c.requires.holds c.requires.entry (sym c.in-Nothing.ensures)
 
-pub slip-requires-in-Many-clause-entries : goal.slip-requires-in-Many-clause-entries
-slip-requires-in-Many-clause-entries c = let key = c.args.gate.now.key in let old = c.args.seat.now.me in
-    for_load key c.args.monitor old _ key.cells c.blank_all.ensures.holds c.args.entry.now c.requires.entry (quiet_blank (begun key) (base key ++ taken_of old.0) (base key ++ (taken_of old.0 ++ c.args.entry.now ∷ [])) key.cells)
+pub returns-in-Many-clause-leads : goal.returns-in-Many-clause-leads
+returns-in-Many-clause-leads c = let me = c.blank_deleted.new.seat.me in let v = fold c.args.monitor.start c.args.monitor.entries in
+    leads_many c.args.gate.now.key c.args.seat.now.me c.args.entry.now c.args.monitor c.requires.holds c.requires.entry (sym c.in-Many.ensures) me c.blank_deleted.ensures.holds c.blank_deleted.ensures.finer
+    (subst (λ (n : ℕ). OfActive v (notes_of me.0) n) c.requires.office.2 c.blank_deleted.ensures.rest)

@@ -1,0 +1,192 @@
+"""A start that was made of the state of a journal: `mls state --start --map`, and `mls journal`, `held` and `usage` with `--after`, with
+answers that were worked out by hand, and over random journals as the others are answered with other names of objects."""
+import copy
+import os
+
+import json_rows
+import question_texts as texts
+import question_worlds as worlds
+import snapshot_rows as snapshots
+import spans
+import usages
+from outside import EXAMPLES, TOP, in_its_folder, put, ran_program, same
+from policy import State
+
+STANDARD, REUSED = (f"{EXAMPLES}/{it}.json" for it in ("standard", "reused"))
+# The journal of the example of `state --start` in FORMATS.md: sec makes object 4, and gives bob read on it.
+JOURNAL = b"0 0 2 get-write 0 yes\n1 0 2 create 0 2:1 1 created 4\n2 0 2 give read 1 4 yes\n"
+NEXT = b"0 0 2 create 0 0 0 created 5\n1 0 2 give read 1 5 yes\n2 0 1 get-read 4 no simple\n3 0 1 get-read 5 yes\n"
+MAP = b"0 0 root\n1 1 plans\n2 2 memo\n3 3 tool\n4 4 #4\n"
+EXAMPLE = "mls journal --after reused.map"
+# What is asked of the next journal, and what is printed.
+LISTED = [
+    (["journal"], "0 session 0 sec create root U lo: created 5\n1 session 0 sec give read bob +#5: yes\n2 session 0 bob get-read #4: no simple\n"
+     "3 session 0 bob get-read +#5: yes\n", 0),
+    (["journal", "--object", "#4"], "2 session 0 bob get-read #4: no simple\n", 0),
+    (["journal", "--object", "+#5", "--reply", "created"], "0 session 0 sec create root U lo: created 5\n", 0),
+    (["journal", "--object", "+#6"], "", 4),
+    (["journal", "--object", "memo"], "", 4),
+    (["journal", "--by", "bob", "--json"],
+     '{"number":2,"session":0,"subject":1,"subject_name":"bob","action":"get-read","object":4,"object_name":"#4","reply":"no","reason":"simple"}\n'
+     '{"number":3,"session":0,"subject":1,"subject_name":"bob","action":"get-read","object":5,"object_name":"+#5","reply":"yes"}\n', 0),
+    (["journal", "--object", "#4", "--explain"],
+     "2 session 0 bob get-read #4: no simple\n  discretionary holds: bob is permitted read of #4\n"
+     "  simple fails: maximum C does not dominate S:B of #4\n  star fails: current U does not dominate S:B of #4\n"
+     "  integrity holds: hi of #4 dominates lo of bob\n  remedy: none by level\n", 0),
+    (["journal", "--summary", "--object", "+#5"], "entries 3\nbob yes 1\nsec yes 1\nsec created 1\n", 0),
+    (["held"], "sec write root: start on\nbob read +#5: 3 on\n", 0),
+    (["held", "--json"],
+     '{"subject_name":"sec","mode":"write","object_name":"root","begin":null,"end":null,"by":null}\n'
+     '{"subject_name":"bob","mode":"read","object_name":"+#5","begin":3,"end":null,"by":null}\n', 0),
+    (["held", "--object", "+#5"], "bob read +#5: 3 on\n", 0),
+    (["held", "--object", "#4"], "", 4),
+]
+# Maps that aren't that of the start, and one that is another start's.
+UNFIT = [
+    b"", MAP[:-1], MAP + b"\n", MAP + b"5 5 #5\n", MAP[:-5], MAP.replace(b"2 2 memo", b"2 2 mem"), MAP.replace(b"0 0 root\n1 1 plans\n", b"1 1 plans\n0 0 root\n"),
+    MAP.replace(b"4 4 #4", b"4 4 #5"), MAP.replace(b"4 4 #4", b"4 5 #5"), MAP.replace(b"4 4 #4", b"4 4 o5"), MAP.replace(b"3 3 tool", b"3 3  tool"),
+    MAP.replace(b"3 3 tool", b"3 03 tool"), MAP.replace(b"3 3 tool", b"3 tool"), MAP.replace(b"1 1", b"1 -1"), MAP.replace(b"\n", b"\r\n"),
+    MAP.replace(b"plans", b"pl\xffns"), b"\x00" + MAP,
+]
+
+
+def rotated():
+    """Makes the start, the journal and the map of the example, and the next journal."""
+    put("reused.journal", JOURNAL)
+    if os.path.exists("reused.map"):
+        os.remove("reused.map")
+    status, text, error = ran_program(["state", "--start", "--map", "reused.map", REUSED, "reused.journal"])
+    same((status, error), (0, b""))
+    put("next.json", text)
+    put("next.journal", NEXT)
+    return text.decode()
+
+
+def asked(words, text, status):
+    words = [words[0], "--after", "reused.map", *words[1:], "next.json", "next.journal"]
+    same((words, *ran_program(words)), (words, status, text.encode(), b""))
+    if "--json" in words:
+        json_rows.rows_of(words[0], text.encode())
+
+
+def refused(words, told, status=1):
+    same((words, *ran_program(words)), (words, status, b"", told.encode()))
+
+
+def content(name):
+    with open(name, "rb") as file:
+        return file.read()
+
+
+def a_map_of_a_state():
+    text = rotated()
+    same(content("reused.map"), MAP)
+    same((0, text.encode(), b""), ran_program(["state", "--start", REUSED, "reused.journal"]))
+
+
+def maps_in_the_documents():
+    """The examples of FORMATS.md, as they stand there."""
+    rotated()
+    with open(f"{TOP}/docs/FORMATS.md", encoding="ascii") as page:
+        text = page.read()
+    same(text.count("\n    $ cat reused.map\n" + "".join(f"    {it}\n" for it in MAP.decode().splitlines())), 1)
+    put("next.journal", NEXT[: NEXT.index(b"3 0")])
+    _, *found = text.split(f"\n    $ {EXAMPLE} ")
+    same(len(found), 2)
+    for words, it in zip((["journal"], ["journal", "--object", "#4"]), found):
+        _, *lines = it.split("\n\n")[0].rstrip("\n").split("\n")
+        asked(words, "".join(f"{line[4:]}\n" for line in lines), 0)
+
+
+def files_that_are_there():
+    """No file is made anew, and no start is printed without its map."""
+    put("reused.journal", JOURNAL)
+    put("there", b"kept\n")
+    for path in ("there", ".", "none/map", ""):
+        refused(["state", "--start", f"--map={path}", REUSED, "reused.journal"], f"mls: {path}: file\n")
+    same(content("there"), b"kept\n")
+    os.symlink("nowhere", "link")
+    refused(["state", "--start", "--map", "link", REUSED, "reused.journal"], "mls: link: file\n")
+    put("torn.journal", JOURNAL[:-1])
+    refused(["state", "--start", "--map", "unmade", REUSED, "torn.journal"], "mls: torn.journal: line 3: entry 1 BadForm\n")
+    same((os.path.exists("unmade"), os.path.exists("nowhere")), (False, False))
+
+
+def what_is_told_after():
+    rotated()
+    for words, text, status in LISTED:
+        asked(words, text, status)
+    status, output, _ = ran_program(["usage", "--after", "reused.map", "next.json", "next.journal"])
+    lines = output.decode().splitlines()
+    same((status, [it for it in lines if "#" in it]), (4, ["bob read #4: 0 granted, 1 denied, last 2", "bob read +#5: 1 granted, 0 denied, last 3"]))
+
+
+def objects_that_no_map_has():
+    rotated()
+    for command in ("journal", "held"):
+        for word in ("o4", "#5", "#0", "4", "+#4", "+#05", "+#4096", "roots", ""):
+            refused([command, "--after", "reused.map", f"--object={word}", "next.json", "next.journal"], f"mls: {word}: bad name\n")
+        refused([command, "--after", "reused.map", "--object", "x", "--subject", "zoe", "next.json", "next.journal"], "mls: zoe: bad name (bob?)\n")
+    refused(["journal", "--after", "reused.map", "--object", "x", "--by", "zoe", "next.json", "next.journal"], "mls: zoe: bad name (bob?)\n")
+
+
+def maps_that_do_not_fit():
+    rotated()
+    put("torn.journal", NEXT[:-1])
+    put("empty.json", b"")
+    for map_text in UNFIT:
+        put("other.map", map_text)
+        for command in ("journal", "held", "usage"):
+            refused([command, "--after", "other.map", "next.json", "torn.journal"], "mls: other.map: map\n")
+    for command in ("journal", "held", "usage"):
+        files = [command, "--after", "other.map"]
+        refused([*files, "empty.json", "torn.journal"], "mls: empty.json: start 1 Json\n")
+        refused([command, "--after", "none.map", "empty.json", "torn.journal"], "mls: none.map: file\n")
+        refused([command, "--after", "none.map", "next.json", "none.journal"], "mls: none.journal: file\n")
+        refused([command, "--after", "reused.map", "next.json", "torn.journal"], "mls: torn.journal: line 4: entry 1 BadForm\n")
+    refused(["held", "--after", "reused.map", "--at", "9", "next.json", "next.journal"], "mls: next.journal: at most 4\n")
+
+
+def words_that_have_no_map():
+    for words in (["state", "--map", "m", STANDARD, "j"], ["who", "--after", "m", STANDARD, "memo"], ["state", "--start", "--after", "m", STANDARD, "j"]):
+        status, output, error = ran_program(words)
+        same((words, status, output, bool(error)), (words, 2, b"", True))
+
+
+def rotation_by_chance(world):
+    """The map of a random state, and what a random journal over its start has, by the names of the map."""
+    rnd = world.rnd
+    if os.path.exists("start.map"):
+        os.remove("start.map")
+    text = snapshots.snapshot("--map", "start.map", world.start, world.journal)
+    same(text, snapshots.start_text(world.last))
+    old = snapshots.order(world.last)
+    called = [world.last.object(it) for it in old]
+    same(content("start.map").decode(), "".join(f"{new} {it} {name}\n" for new, (it, name) in enumerate(zip(old, called))))
+    put("next.json", text.encode())
+    opening = State(text)
+    entries = worlds.journal(rnd, copy.deepcopy(opening), 20)
+    put("next.journal", worlds.lines_of(entries).encode())
+    opening.objects = called + [f"+#{it}" for it in range(len(called), 4096)]
+    states = [copy.deepcopy(opening)]
+    for it in entries:
+        states.append(copy.deepcopy(states[-1]))
+        states[-1].apply(it.subject, it.action)
+    said = lambda *words: ran_program([words[0], "--after", "start.map", *words[1:], "next.json", "next.journal"])
+    wanted = lambda found: (found[1], found[0].encode(), b"")
+    same(said("journal"), wanted(texts.journal(opening, entries)))
+    same(said("journal", "--json"), wanted(texts.objects(opening, entries)))
+    same(said("journal", "--explain"), wanted(texts.explained_journal(lambda it: states[it], opening, entries)))
+    same(said("held"), wanted(spans.listed(states, entries)))
+    same(said("usage"), wanted(usages.listed(states, entries)))
+    o = rnd.choice(sorted({it for state in states for it in state.label}))
+    same(said("journal", "--object", opening.objects[o]), wanted(texts.journal(opening, texts.listed(opening, entries, object=o))))
+    same(said("held", "--object", opening.objects[o]), wanted(spans.listed(states, entries, object=o)))
+
+
+CHECKS = [*map(in_its_folder, [
+    a_map_of_a_state, maps_in_the_documents, files_that_are_there, what_is_told_after, objects_that_no_map_has, maps_that_do_not_fit,
+    words_that_have_no_map,
+])]
+# (it is asked of random starts and journals)
+OF_WORLDS = [rotation_by_chance]

@@ -1,0 +1,135 @@
+/* Tests an office: eight threads, each with the handle of a session of its own, ask side by side.
+ *
+ *     office START [ROUNDS]
+ *
+ * START is the standard start's file. Prints what fails, and last 'ok' where nothing did. */
+#include "mls_shared.h"
+
+#include <stdio.h>
+#include <stdlib.h>
+#include <string.h>
+
+enum { ANN, BOB, SEC };
+enum { ROOT, PLANS, MEMO, TOOL, MADE };
+enum { THREADS = 8, BEFORE = 1 + 2 * THREADS };
+
+static int failed;
+
+#define CHECK(x) \
+    do { \
+        if (!(x)) { \
+            printf("line %d: %s\n", __LINE__, #x); \
+            failed = 1; \
+        } \
+    } while (0)
+
+static uint8_t start[1 << 16];
+static size_t start_len;
+static long rounds = 2000;
+
+/* A thread: its session, the object that it alone gets and releases, the numbers of its entries, and what went wrong. */
+typedef struct {
+    mls_session *session;
+    uint16_t object;
+    uint64_t *numbers;
+    long wrong;
+} worker;
+
+static mls_session sessions[THREADS];
+
+/* Whether what isn't yet held, or is held, is told so, also by what would be answered to a get that names no object. */
+static long is_wrong_told(const worker *w, int held) {
+    mls_request unknown = mls_request_of(MLS_GET, ANN, 4000, MLS_READ);
+    mls_answer a;
+    long wrong = mls_wait_check(w->session, ANN, w->object, MLS_READ) != held;
+    wrong += mls_wait_check(w->session, ANN, w->object, MLS_WRITE) != 0;
+    wrong += mls_wait_decide(w->session, &unknown, &a) != MLS_OK || a.reply != MLS_UNDEFINED;
+    return wrong;
+}
+
+/* Gets and releases its object in turn. */
+static void *work(void *at) {
+    worker *w = at;
+    mls_request q = mls_request_of(MLS_GET, ANN, w->object, MLS_READ);
+    mls_answer a;
+    long n;
+    for (n = 0; n < rounds; n++) {
+        q.action = (uint8_t)(n % 2 ? MLS_RELEASE : MLS_GET);
+        w->wrong += mls_wait_submit(w->session, &q, &a) != MLS_OK || a.reply != MLS_YES;
+        w->numbers[n] = a.number;
+        w->wrong += n && a.number <= w->numbers[n - 1];
+        w->wrong += is_wrong_told(w, n % 2 == 0);
+        /* (what another thread does with its object may be so or so) */
+        w->wrong += mls_wait_check(w->session, ANN, MADE + (uint16_t)(n % THREADS), MLS_READ) > 1;
+    }
+    return NULL;
+}
+
+/* An open monitor in which ann may read an object for each thread. */
+static void prepare(mls_monitor *m) {
+    mls_fault fault;
+    mls_answer a;
+    mls_label security = { 0, { 0, 0, 0, 0 } }, integrity = { 0, { 0, 0, 0, 0 } };
+    uint16_t n;
+    CHECK(mls_open(m, start, start_len, &fault) == MLS_OK);
+    CHECK(mls_read_label(m, MLS_SECURITY_LABEL, (const uint8_t *)"S:A", 3, &security) == MLS_OK);
+    CHECK(mls_read_label(m, MLS_INTEGRITY_LABEL, (const uint8_t *)"hi", 2, &integrity) == MLS_OK);
+    CHECK(mls_get(m, 99, SEC, ROOT, MLS_WRITE, &a) == MLS_OK && a.reply == MLS_YES);
+    for (n = 0; n < THREADS; n++) {
+        CHECK(mls_create(m, 99, SEC, ROOT, &security, &integrity, &a) == MLS_OK && a.object == MADE + n);
+        CHECK(mls_give(m, 99, SEC, ANN, MADE + n, MLS_READ, &a) == MLS_OK && a.reply == MLS_YES);
+    }
+}
+
+/* The journal has what was there before, and each thread's entries, each once and in order. */
+static void has_all(mls_monitor *m, const worker *workers) {
+    mls_journal_entry e;
+    uint64_t n;
+    long done[THREADS] = { 0 };
+    int k;
+    CHECK(mls_entries(m) == BEFORE + (uint64_t)(THREADS * rounds));
+    for (n = 0; n < mls_entries(m); n++) {
+        CHECK(mls_entry(m, n, &e) == MLS_OK && e.number == n);
+        if (n < BEFORE) {
+            CHECK(e.session == 99);
+            continue;
+        }
+        k = (int)e.session;
+        CHECK(k < THREADS && done[k] < rounds && workers[k].numbers[done[k]] == n && e.reply == MLS_YES);
+        CHECK(e.request.action == (done[k] % 2 ? MLS_RELEASE : MLS_GET) && e.request.object == workers[k].object);
+        done[k]++;
+    }
+    for (k = 0; k < THREADS; k++) CHECK(mls_check(m, ANN, workers[k].object, MLS_READ) == rounds % 2);
+}
+
+int main(int argc, char **argv) {
+    FILE *file = argc > 1 ? fopen(argv[1], "rb") : NULL;
+    mls_monitor m = MLS_INIT;
+    mls_office office = MLS_OFFICE_INIT;
+    pthread_t threads[THREADS];
+    worker workers[THREADS];
+    int k;
+    if (!file) return 2;
+    start_len = fread(start, 1, sizeof start, file);
+    fclose(file);
+    if (argc > 2) rounds = atol(argv[2]);
+    prepare(&m);
+    CHECK(mls_office_open(&office, &m, sessions, THREADS) == MLS_OK && !m.held);
+    for (k = 0; k < THREADS; k++) {
+        workers[k].session = &sessions[k];
+        workers[k].object = (uint16_t)(MADE + k);
+        workers[k].numbers = malloc((size_t)rounds * sizeof(uint64_t));
+        workers[k].wrong = 0;
+        if (!workers[k].numbers || pthread_create(&threads[k], NULL, work, &workers[k])) return 2;
+    }
+    for (k = 0; k < THREADS; k++) {
+        pthread_join(threads[k], NULL);
+        CHECK(workers[k].wrong == 0);
+    }
+    CHECK(mls_office_close(&office, sessions, &m) == MLS_OK && m.held);
+    has_all(&m, workers);
+    for (k = 0; k < THREADS; k++) free(workers[k].numbers);
+    mls_close(&m);
+    if (!failed) printf("ok\n");
+    return failed;
+}

@@ -1,0 +1,7 @@
+pub mod Naming
+pub mod Permissions
+pub mod Counting
+pub mod Entries
+pub mod Subjects
+pub mod Objects
+pub mod About

@@ -1,0 +1,101 @@
+-- Lists of sessions at home, and what opening and closing tell.
+use Rattle.std.proofs.Common.{◌≡◌, ℕ, suc, zero, ◌+◌, ◌<◌, ◌≤◌, Bool, List, [], ◌∷◌, ◌++◌, length, drop, refl, sym, ap, subst, ◌∙◌, arith, eq-eqb, append-nil, ⊎_elim}
+use Rattle.std.proofs.Math.Nat.{eq-or-lt_of_le}
+use Rattle.std.proofs.Math.Seq.{drop-append_seam}
+use Rattle.std.specs.Prelude.{Option, Some, None, IsSomeAnd, if◌then◌else◌, ◌==◌}
+use mathlib.Core.List.{cons≢nil}
+use Rattle.mls_requests.specs.declared.entry.Entry.{Entry}
+use Rattle.mls_requests.specs.declared.request.Request.{Request}
+use Rattle.mls_monitor.specs.Journal.{Monitor}
+use Rattle.mls_monitor.specs.Entries.{of_session, AllBelow}
+use Rattle.mls_sessions.specs.Journals.{Journal, journal, journal_of}
+use Rattle.mls_sessions.specs.Rule.{begun, base, news}
+use Rattle.mls_sessions.specs.Sessions.{Office, Session, Ascending, IsOf, HasAll, Leaves, Submits, newcomers, number_of}
+use Rattle.mls_c.specs.Opened.{Opened, with_journal}
+use Rattle.mls_c.specs.Answers.{answer_of}
+use Rattle.mls_c.specs.declared.answer.Answer.{Answer}
+use Rattle.mls_c.specs.Offices.{Place, Hall, Seats, NumbersBelow, MakesEntry, HasMonitor, OpensOffice, ClosesOffice}
+pub use Rattle.mls_sessions.proofs.Laws.{ascending_last}
+
+-- all sessions of an office have numbers below their count
+pub all_below : (o : Office) (k : ℕ) (ss : List Session) → Ascending o k ss → NumbersBelow o.charter.count ss
+all_below o k [] a = tt
+all_below o k (s ∷ ss) a = (a.0.2, all_below o (number_of s.view + 1) ss a.2)
+
+least_last : (o : Office) (k : ℕ) (xs : List Session) (s : Session) → Ascending o k (xs ++ s ∷ []) → k ≤ number_of s.view
+least_last o k [] s a = a.1
+least_last o k (x ∷ xs) s a = let t = least_last o (number_of x.view + 1) xs s a.2 in let low = a.1 in omega arith
+
+-- the others have numbers below that of the last
+pub below_last : (o : Office) (k : ℕ) (xs : List Session) (s : Session) → Ascending o k (xs ++ s ∷ []) → NumbersBelow (number_of s.view) xs
+below_last o k [] s a = tt
+below_last o k (x ∷ xs) s a = let t = least_last o (number_of x.view + 1) xs s a.2 in let lt : number_of x.view < number_of s.view = omega arith in (lt, below_last o (number_of x.view + 1) xs s a.2)
+
+-- one with a number above those of the others may come last
+pub one_more : (o : Office) (k n : ℕ) (xs : List Session) (s : Session) → Ascending o k xs → NumbersBelow n xs → n ≤ number_of s.view → k ≤ number_of s.view → IsOf o s → Ascending o k (xs ++ s ∷ [])
+one_more o k n [] s a b le low of = (of, low, tt)
+one_more o k n (x ∷ xs) s a b le low of = let lt = b.0 in let next : number_of x.view + 1 ≤ number_of s.view = omega arith in (a.0, a.1, one_more o (number_of x.view + 1) n xs s a.2 b.1 le next of)
+
+pub below_more : (n m : ℕ) (xs : List Session) (s : Session) → NumbersBelow n xs → n ≤ number_of s.view → m ≡ number_of s.view + 1 → NumbersBelow m (xs ++ s ∷ [])
+below_more n m [] s b le is = let lt : number_of s.view < m = omega arith in (lt, tt)
+below_more n m (x ∷ xs) s b le is = let small = b.0 in let lt : number_of x.view < m = omega arith in (lt, below_more n m xs s b.1 le is)
+
+-- a session made an entry
+pub makes_entry : (p q : Place) (request : Option Request) (r : Request) (e : Entry) (answer : Answer) → request ≡ Some r → q.office ≡ p.office → Submits p.office.charter p.session.view r e q.session.view → answer ≡ answer_of e.number e.reply
+    → MakesEntry (Some p) request (Some q) answer
+makes_entry p q request r e answer is same made told = subst (λ (x : Option Request). MakesEntry (Some p) x (Some q) answer) (sym is) (same, (e, made, told))
+
+-- sessions that made nothing leave the journal as it was
+has_back : (o : Office) (j : Journal) (xs ys : List Session) → HasAll o j (xs ++ ys) → HasAll o j ys
+has_back o j [] ys all = all
+has_back o j (x ∷ xs) ys all = has_back o j xs ys all.2
+
+has_front : (o : Office) (j : Journal) (xs ys : List Session) → HasAll o j (xs ++ ys) → HasAll o j xs
+has_front o j [] ys all = tt
+has_front o j (x ∷ xs) ys all = (all.0, all.1, has_front o j xs ys all.2)
+
+none_left : (n : ℕ) (es : List Entry) → AllBelow n es → ((k : ℕ) → k < n → of_session k es ≡ []) → es ≡ []
+none_left n [] b none = refl
+none_left n (e ∷ es) b none = absurd (cons≢nil (sym (ap (λ (x : Bool). if x then e ∷ of_session e.session es else of_session e.session es) (eq-eqb e.session e.session refl)) ∙ none e.session b.0))
+
+none_of : (o : Office) (j : Journal) (k m : ℕ) → HasAll o j (newcomers o (suc m)) → k ≡ m → of_session k (news o.charter j) ≡ []
+none_of o j k m all is = subst (λ (n : ℕ). of_session n (news o.charter j) ≡ []) (sym is) (has_back o j (newcomers o m) _ all).1
+
+own_none : (o : Office) (j : Journal) (n k : ℕ) → k < n → HasAll o j (newcomers o n) → of_session k (news o.charter j) ≡ []
+own_none o j zero k lt all = absurd (omega arith)
+own_none o j (suc m) k lt all = let le : k ≤ m = omega arith in
+    ⊎_elim (λ (is : k ≡ m). none_of o j k m all is) (λ (low : k < m). own_none o j m k low (has_front o j (newcomers o m) _ all)) (eq-or-lt_of_le le)
+
+no_news : (o : Office) (n : ℕ) (j : Journal) → o.charter.count ≡ n → Leaves o (newcomers o n) j → news o.charter j ≡ []
+no_news o n j is left = none_left o.charter.count (news o.charter j) left.below (λ k lt. own_none o j n k (subst (λ (c : ℕ). k < c) is lt) left.all)
+
+as_before : (o : Office) (n : ℕ) (j : Journal) → o.charter.count ≡ n → Leaves o (newcomers o n) j → j.entries ≡ base o.charter
+as_before o n j is left = let p = left.begins in
+    let rest : p.0 ≡ [] = sym (drop-append_seam (base o.charter) p.0) ∙ ap (λ (es : List Entry). drop (length (base o.charter)) es) p.1 ∙ no_news o n j is left in
+    sym p.1 ∙ ap (λ (es : List Entry). base o.charter ++ es) rest ∙ append-nil (base o.charter)
+
+pub leaves_as_opened : (o : Office) (m : Monitor) (n : ℕ) (home : List Session) (j : Journal) → begun o.charter ≡ m.start → base o.charter ≡ m.entries → o.charter.forgotten ≡ m.forgotten → o.charter.count ≡ n → home ≡ newcomers o n → Leaves o home j
+    → j ≡ journal_of m
+leaves_as_opened o m n home j start entries forgotten count all left =
+    let now : Leaves o (newcomers o n) j = subst (λ (ss : List Session). Leaves o ss j) all left in
+    let a = now.start ∙ start in let b = now.forgotten ∙ forgotten in let c = as_before o n j count now ∙ entries in λ k. journal (a k) (b k) (c k)
+
+-- an open monitor with the journal that it had is as it was
+pub restored : (o now : Opened) (m : Monitor) (j : Journal) → j ≡ journal_of m → m.start ≡ o.start → m.entries ≡ o.entries → m.forgotten ≡ o.forgotten → now ≡ with_journal o.names j → now ≡ o
+restored o now m j same start entries forgotten is = is ∙ ap (with_journal o.names) same ∙ (λ k. record { names = o.names; start = start k; entries = entries k; forgotten = forgotten k })
+
+-- an office is opened with a monitor
+pub opens_office : (old : Option Opened) (n : ℕ) (new : Option Hall) (v : Opened) (h : Hall) → old ≡ Some v → new ≡ Some h → h.opened.names ≡ v.names → IsSomeAnd h.seats (HasMonitor v n) → OpensOffice old n new
+opens_office old n new v h was is names seats = subst (λ (x : Option Opened). OpensOffice x n new) (sym was) (subst (λ (x : Option Hall). OpensOffice (Some v) n x) (sym is) (names, seats))
+
+-- an office is closed
+abbrev pub Gives : Hall → Opened → Type 0
+Gives h v = IsSomeAnd h.seats (λ t. (v.names ≡ h.opened.names) × Leaves t.office t.home (journal v.start v.forgotten v.entries))
+
+given : (h : Hall) (seats : Option Seats) (v : Opened) → IsSomeAnd seats (λ t. (v.names ≡ h.opened.names) × Leaves t.office t.home (journal v.start v.forgotten v.entries))
+    → IsSomeAnd seats (λ t. IsSomeAnd (Some v) (λ w. (w.names ≡ h.opened.names) × Leaves t.office t.home (journal w.start w.forgotten w.entries)))
+given h None v g = g
+given h (Some t) v g = g
+
+pub closes_office : (old : Option Hall) (new : Option Opened) (h : Hall) (v : Opened) → old ≡ Some h → new ≡ Some v → Gives h v → ClosesOffice old new
+closes_office old new h v was is g = subst (λ (x : Option Hall). ClosesOffice x new) (sym was) (subst (λ (x : Option Opened). ClosesOffice (Some h) x) (sym is) (given h h.seats v g))

@@ -1,0 +1,191 @@
+//! An office with those of its sessions that are at home.
+ghost use Rattle.std.specs.Prelude.{◌≡◌, ◌<◌, ◌∷◌, [], ◌++◌, length, IfOk, IfErr, OnOk, OnErr, IsErr, IsTrue};
+ghost use Rattle.mls_sessions.specs.Journals.{journal_of};
+ghost use Rattle.mls_sessions.specs.Rule.{begun, base};
+ghost use Rattle.mls_sessions.specs.Sessions.{Leaves, is_count, newcomers};
+
+use crate::place::Place;
+use mls_monitor::Monitor;
+use mls_sessions::{Office, OfficeFault, OfficeFaultKind, Session};
+use std::alloc::Global;
+use std::marker::Model;
+use std::sync::Arc;
+
+/// An office, which the handles of its sessions share, and the sessions that aren't handed out, ascending by number.
+#[derive(Drop)]
+pub struct Seats {
+    office: Arc<Office, Global>,
+    home: Vec<Session>,
+    /// All numbers at home are below this.
+    above: u64,
+    count: u16,
+}
+
+impl Model for Seats {
+    ghost use Rattle.std.specs.Prelude.{◌≡◌};
+    ghost use Rattle.std.specs.Arc.{arc_value};
+    ghost use Rattle.mls_sessions.specs.Sessions.{Ascending};
+    ghost use Rattle.mls_c.specs.Offices.{Seats, seats_code, NumbersBelow};
+
+    ghost Value = { Seats };
+
+    ghost coded = { seats_code };
+
+    ghost view = { λ t. record { office = arc_value t.office; home = t.home.items } };
+
+    ghost invariant = { λ t. Ascending (arc_value t.office) 0 t.home.items × NumbersBelow t.above t.home.items
+        × ((arc_value t.office).charter.count ≡ t.count) };
+}
+
+/// Why a session isn't handed out.
+#[derive(Clone, Copy)]
+pub enum HandFault {
+    /// None is at home.
+    NoneLeft,
+    /// An allocation failed.
+    Memory,
+}
+
+/// Why a session isn't taken back.
+#[derive(Clone, Copy)]
+pub enum BackFaultKind {
+    /// Its number isn't above those at home.
+    OutOfOrder,
+    /// An allocation failed.
+    Memory,
+}
+
+/// A session that isn't taken back: why, and the session as it was handed in.
+#[derive(Drop)]
+pub struct BackFault {
+    pub kind: BackFaultKind,
+    pub place: Box<Place, Global>,
+}
+
+impl Seats {
+    /// Opens a monitor to so many sessions, which are all at home.
+    ///
+    /// # Errors
+    /// `Memory` where an allocation failed, with the monitor: its start and journal are as they were.
+    #[tactic(auto, using(crate::proofs::Offices::all_below, crate::proofs::Offices::leaves_as_opened))]
+    pub(crate) fn open(alloc: Global, monitor: Monitor, count: u16) -> Result<Seats, OfficeFault>
+        requires { IsTrue (is_count count) }
+        ensures start { IfOk result (λ t. begun t.office.charter ≡ monitor.start) }
+        ensures entries { IfOk result (λ t. base t.office.charter ≡ monitor.entries) }
+        ensures forgotten { IfOk result (λ t. t.office.charter.forgotten ≡ monitor.forgotten) }
+        ensures count { IfOk result (λ t. t.office.charter.count ≡ count) }
+        ensures home { IfOk result (λ t. t.home ≡ newcomers t.office count) }
+        ensures err { IfErr result (λ fault. journal_of fault.monitor ≡ journal_of monitor) }
+    {
+        let (office, home) = Office::open(alloc, monitor, count)?;
+        match Arc::new(alloc, office) {
+            Ok(office) => Ok(Seats {
+                office,
+                home,
+                above: u64::from(count),
+                count,
+            }),
+            Err(refused) => match refused.value.close(home) {
+                Ok(monitor) => Err(OfficeFault {
+                    kind: OfficeFaultKind::Memory,
+                    monitor,
+                }),
+                Err(_) => unreachable!(),
+            },
+        }
+    }
+
+    /// Hands out the last of the sessions at home.
+    ///
+    /// # Errors
+    /// `NoneLeft` where none is at home, `Memory` where an allocation failed; all is then as before.
+    #[tactic(auto, using(crate::proofs::Offices::ascending_last, crate::proofs::Offices::below_last))]
+    pub(crate) fn hand_out(&mut self, alloc: Global) -> Result<Box<Place, Global>, HandFault>
+        ensures office { self.new.office ≡ self.old.office }
+        ensures ok { IfOk result (λ p. (p.value.office ≡ self.old.office)
+            × (self.old.home ≡ self.new.home ++ p.value.session ∷ [])) }
+        ensures err { OnErr result (self.new ≡ self.old) }
+    {
+        let Ok(office) = Arc::try_clone(&self.office) else {
+            return Err(HandFault::Memory);
+        };
+        let Some(session) = self.home.pop() else {
+            return Err(HandFault::NoneLeft);
+        };
+        let number = session.number();
+        match Box::new(alloc, Place::of(office, session)) {
+            Ok(place) => {
+                self.above = u64::from(number);
+                Ok(place)
+            }
+            Err(refused) => {
+                self.home.push_reserved(refused.value.into_session());
+                Err(HandFault::Memory)
+            }
+        }
+    }
+
+    /// Takes a session of the office back.
+    ///
+    /// # Errors
+    /// `OutOfOrder` where its number isn't above those at home, `Memory` where an allocation failed; with the session as
+    /// it was handed in, and all is as before.
+    #[tactic(auto, using(crate::proofs::Offices::one_more, crate::proofs::Offices::below_more))]
+    pub(crate) fn take_back(&mut self, place: Box<Place, Global>) -> Result<(), BackFault>
+        requires { place.value.office ≡ self.old.office }
+        ensures office { self.new.office ≡ self.old.office }
+        ensures ok { OnOk result (self.new.home ≡ self.old.home ++ place.value.session ∷ []) }
+        ensures err { OnErr result (self.new ≡ self.old) }
+        ensures given { IfErr result (λ fault. fault.place.value ≡ place.value) }
+    {
+        let number = u64::from(place.number());
+        if number < self.above {
+            return Err(BackFault {
+                kind: BackFaultKind::OutOfOrder,
+                place,
+            });
+        }
+        if self.home.reserve(1).is_err() {
+            return Err(BackFault {
+                kind: BackFaultKind::Memory,
+                place,
+            });
+        }
+        self.home
+            .push_reserved(Box::into_inner(place).into_session());
+        self.above = number + 1;
+        Ok(())
+    }
+
+    /// Closes the office, and gives the monitor back, with the journal of all sessions.
+    ///
+    /// # Errors
+    /// The office with its sessions, where some are out.
+    pub(crate) fn close(self) -> Result<Monitor, Seats>
+        ensures ok { IfOk result (λ m. Leaves self.office self.home (journal_of m)) }
+        ensures err { IfErr result (λ seats. seats ≡ self) }
+        ensures out { length self.home < self.office.charter.count → IsErr result }
+    {
+        if self.home.len() < self.count as usize {
+            return Err(self);
+        }
+        let Seats {
+            office,
+            home,
+            above,
+            count,
+        } = self;
+        match Arc::try_unwrap(office) {
+            Ok(office) => match office.close(home) {
+                Ok(monitor) => Ok(monitor),
+                Err(_) => unreachable!(),
+            },
+            Err(office) => Err(Seats {
+                office,
+                home,
+                above,
+                count,
+            }),
+        }
+    }
+}

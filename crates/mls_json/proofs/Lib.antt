@@ -1,0 +1,5 @@
+mod Kept
+mod Signs
+mod Joining
+mod Digits
+mod Pushing

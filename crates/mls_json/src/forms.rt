@@ -1,0 +1,15 @@
+//! The forms of the lines of each command. The first that a line has tells it.
+mod common;
+mod compared;
+mod explained;
+mod spans;
+mod starts;
+mod subjects;
+mod whole;
+
+pub(crate) use compared::COMPARE;
+pub(crate) use explained::{EXPLAIN, EXPLAIN_LEVEL};
+pub(crate) use spans::{EVER_HEAD, EVER_SPANS, HELD, USAGE};
+pub(crate) use starts::{LINT, STATE};
+pub(crate) use subjects::{POWERS, WHO};
+pub(crate) use whole::{ASK, CHECK, SUMMARY, VERIFY};

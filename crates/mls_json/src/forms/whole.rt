@@ -1,0 +1,152 @@
+//! Lines that are told by one object.
+use crate::form::{Form, Place};
+use crate::forms::common::{REASON, SUBJECT};
+use crate::part::{Fixed, Kind, Mark, Part};
+
+/// Of `check`.
+pub(crate) static CHECK: [Form; 5] = [
+    Form {
+        place: Place::Object,
+        parts: &[
+            Part::Word("subjects"),
+            Part::Told("subjects", Kind::Number, Mark::Nothing),
+        ],
+    },
+    Form {
+        place: Place::Object,
+        parts: &[
+            Part::Word("objects"),
+            Part::Told("objects", Kind::Number, Mark::Nothing),
+        ],
+    },
+    Form {
+        place: Place::Object,
+        parts: &[
+            Part::Word("cells"),
+            Part::Told("cells", Kind::Number, Mark::Nothing),
+        ],
+    },
+    Form {
+        place: Place::Object,
+        parts: &[
+            Part::Word("accesses"),
+            Part::Told("accesses", Kind::Number, Mark::Nothing),
+        ],
+    },
+    Form {
+        place: Place::Object,
+        parts: &[
+            Part::Word("secure"),
+            Part::Told("secure", Kind::YesOrNo, Mark::Nothing),
+        ],
+    },
+];
+
+/// Of `verify`.
+pub(crate) static VERIFY: [Form; 4] = [
+    Form {
+        place: Place::Object,
+        parts: &[
+            Part::Word("entries"),
+            Part::Told("entries", Kind::Number, Mark::Nothing),
+        ],
+    },
+    Form {
+        place: Place::Object,
+        parts: &[
+            Part::Word("last"),
+            Part::Told("last", Kind::Text, Mark::Nothing),
+        ],
+    },
+    Form {
+        place: Place::Object,
+        parts: &[
+            Part::Word("from"),
+            Part::Told("from", Kind::Text, Mark::Nothing),
+            Part::Word("to"),
+            Part::Told("to", Kind::Text, Mark::Nothing),
+        ],
+    },
+    Form {
+        place: Place::Object,
+        parts: &[
+            Part::Word("unmarked"),
+            Part::Told("unmarked", Kind::Number, Mark::Nothing),
+        ],
+    },
+];
+
+/// Of `ask`.
+pub(crate) static ASK: [Form; 3] = [
+    Form {
+        place: Place::Object,
+        parts: &[Part::Word("held"), Part::Says("held", Fixed::True)],
+    },
+    Form {
+        place: Place::Object,
+        parts: &[
+            Part::Word("not"),
+            Part::Word("held"),
+            Part::Says("held", Fixed::False),
+        ],
+    },
+    Form {
+        place: Place::Object,
+        parts: &[Part::Reply],
+    },
+];
+
+/// Of `journal --summary`.
+pub(crate) static SUMMARY: [Form; 6] = [
+    Form {
+        place: Place::Object,
+        parts: &[
+            Part::Word("entries"),
+            Part::Told("entries", Kind::Number, Mark::Nothing),
+        ],
+    },
+    Form {
+        place: Place::List("replies"),
+        parts: &[
+            SUBJECT,
+            Part::Word("yes"),
+            Part::Says("reply", Fixed::Text("yes")),
+            Part::Told("entries", Kind::Number, Mark::Nothing),
+        ],
+    },
+    Form {
+        place: Place::List("replies"),
+        parts: &[
+            SUBJECT,
+            Part::Word("created"),
+            Part::Says("reply", Fixed::Text("created")),
+            Part::Told("entries", Kind::Number, Mark::Nothing),
+        ],
+    },
+    Form {
+        place: Place::List("replies"),
+        parts: &[
+            SUBJECT,
+            Part::Word("no"),
+            Part::Says("reply", Fixed::Text("no")),
+            Part::Told("entries", Kind::Number, Mark::Nothing),
+        ],
+    },
+    Form {
+        place: Place::List("replies"),
+        parts: &[
+            SUBJECT,
+            Part::Word("undefined"),
+            Part::Says("reply", Fixed::Text("undefined")),
+            Part::Told("entries", Kind::Number, Mark::Nothing),
+        ],
+    },
+    Form {
+        place: Place::List("reasons"),
+        parts: &[
+            Part::Word("no"),
+            REASON,
+            Part::Told("entries", Kind::Number, Mark::Nothing),
+        ],
+    },
+];

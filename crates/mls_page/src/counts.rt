@@ -1,0 +1,57 @@
+//! How many entries there are: granted and denied, by reason and by subject.
+use crate::colour::Colour;
+use crate::page::Page;
+use crate::section::COUNTS;
+use crate::share::Share;
+use crate::tally::Tally;
+use std::alloc::{AllocError, Global};
+
+impl Page {
+    /// The line that counts entries.
+    fn whole_line(&mut self, entries: u64, whole: &Share<'_>) -> Result<(), AllocError> {
+        self.counted("<p>", entries, " entries: ")?;
+        self.counted("", whole.granted, " granted, ")?;
+        self.counted("", whole.denied, " denied, ")?;
+        self.counted("", whole.undefined, " undefined.</p>\n")
+    }
+
+    /// The tables of a tally.
+    fn tally_tables(&mut self, tally: &Tally<'_>) -> Result<(), AllocError> {
+        if !tally.causes.is_empty() {
+            let columns = ["Reason", "Denied"];
+            self.share_table(
+                "Denied, by reason",
+                &columns,
+                &[Colour::Denied],
+                &tally.causes,
+            )?;
+        }
+        if !tally.shares.is_empty() {
+            let columns = ["Subject", "Granted", "Denied", "Undefined"];
+            let colours = [Colour::Granted, Colour::Denied, Colour::Undefined];
+            let caption = "By the subject that asked";
+            self.share_table(caption, &columns, &colours, &tally.shares)?;
+        }
+        Ok(())
+    }
+
+    /// Appends how many entries there are, and of the text of `mls journal --summary` which.
+    ///
+    /// # Errors
+    /// `AllocError` where an allocation failed.
+    pub fn add_counts(
+        &mut self,
+        alloc: Global,
+        entries: u64,
+        summary: &str,
+    ) -> Result<(), AllocError> {
+        self.section(&COUNTS)?;
+        let tally = Tally::of(alloc, summary)?;
+        let lined = self.whole_line(entries, &tally.whole());
+        let done = self.tally_tables(&tally);
+        drop(tally);
+        lined?;
+        done?;
+        self.end_section(&COUNTS, 0)
+    }
+}

@@ -1,0 +1,68 @@
+//! Texts as a page has them.
+ghost use Rattle.std.specs.Prelude.{◌≡◌, ◌++◌, ◌∷◌, [], OnOk, IfOk, IfSome, IfNone};
+ghost use Rattle.mls_page.specs.Escaping.{written, escaped};
+
+use std::alloc::{AllocError, Global};
+
+/// What is written of a byte in place of itself, where something is: a reference of those that HTML reads, and of
+/// control characters one of U+FFFD.
+fn reference(byte: u8) -> Option<&'static str>
+    ensures some { IfSome result (λ word. written byte ≡ word.now) }
+    ensures none { IfNone result (written byte ≡ byte ∷ []) }
+{
+    match byte {
+        b'&' => Some("&amp;"),
+        b'<' => Some("&lt;"),
+        b'>' => Some("&gt;"),
+        b'"' => Some("&quot;"),
+        b'\'' => Some("&#39;"),
+        byte if byte < b' ' || byte == 127 => Some("&#xFFFD;"),
+        _ => None,
+    }
+}
+
+/// Appends what is written of a byte.
+fn push_written(bytes: &mut Vec<u8>, byte: u8) -> Result<(), AllocError>
+    ensures { OnOk result (bytes.new.items ≡ bytes.old.items ++ written byte) }
+{
+    match reference(byte) {
+        Some(word) => bytes.extend_from_slice(word.as_bytes())?,
+        None => bytes.push(byte)?,
+    }
+    Ok(())
+}
+
+/// What is written of a text.
+///
+/// # Errors
+/// `AllocError` where an allocation failed.
+pub(crate) fn escape(alloc: Global, text: &str) -> Result<Vec<u8>, AllocError>
+    ensures { IfOk result (λ bytes. bytes.items ≡ escaped text.now) }
+{
+    let mut bytes = Vec::new(alloc);
+    for byte in text.as_bytes() {
+        push_written(&mut bytes, *byte)?;
+    }
+    Ok(bytes)
+}
+
+/// What is written of a text between two pieces of markup.
+///
+/// # Errors
+/// `AllocError` where an allocation failed.
+pub(crate) fn enclose(
+    alloc: Global,
+    before: &str,
+    text: &str,
+    after: &str,
+) -> Result<Vec<u8>, AllocError>
+    ensures { IfOk result (λ bytes. bytes.items ≡ before.now ++ escaped text.now ++ after.now) }
+{
+    let inner = escape(alloc, text)?;
+    let mut bytes = Vec::new(alloc);
+    bytes.extend_from_slice(before.as_bytes())?;
+    bytes.extend_from_slice(&inner)?;
+    drop(inner);
+    bytes.extend_from_slice(after.as_bytes())?;
+    Ok(bytes)
+}

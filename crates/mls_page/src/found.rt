@@ -1,0 +1,65 @@
+//! What was verified.
+use crate::page::Page;
+use crate::section::{MARKED, VERIFIED};
+use std::alloc::AllocError;
+
+/// What the marks of a journal say, which agree with it.
+#[derive(Clone, Copy)]
+pub struct Found<'a> {
+    /// The digest of the last mark.
+    pub digest: &'a str,
+    /// The times of the first mark and of the last, where there are marks.
+    pub times: Option<(&'a str, &'a str)>,
+    /// How many entries stand behind the last mark.
+    pub behind: u64,
+}
+
+impl Page {
+    /// A row of a number.
+    fn number_row(&mut self, what: &str, number: u64) -> Result<(), AllocError> {
+        self.within("<tr><th scope=\"row\">", what, "</th>")?;
+        self.counted("<td>", number, "</td></tr>\n")
+    }
+
+    /// The rows of what marks say.
+    fn found_rows(&mut self, found: &Found<'_>) -> Result<(), AllocError> {
+        self.within(
+            "<tr><th scope=\"row\">Digest of the last mark</th><td class=\"digest\">",
+            found.digest,
+            "</td></tr>\n",
+        )?;
+        if let Some((first, last)) = found.times {
+            let before = "<tr><th scope=\"row\">Times of the marks</th><td class=\"digest\">";
+            self.within(before, first, " to ")?;
+            self.within("", last, "</td></tr>\n")?;
+        }
+        self.number_row("Entries behind the last mark", found.behind)
+    }
+
+    /// Appends what was verified of a journal of so many entries, and of its marks where they were looked at.
+    ///
+    /// # Errors
+    /// `AllocError` where an allocation failed.
+    pub fn add_verified(
+        &mut self,
+        entries: u64,
+        found: Option<&Found<'_>>,
+    ) -> Result<(), AllocError> {
+        let section = if found.is_some() { &MARKED } else { &VERIFIED };
+        self.section(section)?;
+        self.markup(
+            "<p>Each reply in the journal is the one that the rules give after the entries before it. ",
+        )?;
+        match found {
+            Some(_) => self.markup("Each mark agrees with the journal.</p>\n")?,
+            None => self.markup("No marks were looked at.</p>\n")?,
+        }
+        self.markup("<table><caption>When this page was written</caption>\n<tbody>\n")?;
+        self.number_row("Entries that were replayed", entries)?;
+        if let Some(found) = found {
+            self.found_rows(found)?;
+        }
+        self.markup("</tbody></table>\n")?;
+        self.end_section(section, 0)
+    }
+}

@@ -1,0 +1,67 @@
+//! The head of the page, and its end.
+use crate::page::Page;
+use crate::section::SECTIONS;
+use crate::style::STYLE;
+use std::alloc::{AllocError, Global};
+
+/// What stands before the title: nothing is fetched, and no script runs.
+const TOP: &str = "<!DOCTYPE html>\n<html lang=\"en\">\n<head>\n<meta charset=\"utf-8\">\n\
+    <meta name=\"viewport\" content=\"width=device-width, initial-scale=1\">\n\
+    <meta name=\"color-scheme\" content=\"light dark\">\n\
+    <meta http-equiv=\"Content-Security-Policy\" content=\"default-src 'none'; style-src 'unsafe-inline'\">\n\
+    <title>mls report: ";
+
+impl Page {
+    /// The style, a line after another.
+    fn style(&mut self) -> Result<(), AllocError> {
+        self.markup("<style>\n")?;
+        for line in &STYLE {
+            self.within("", line, "\n")?;
+        }
+        self.markup("</style>\n")
+    }
+
+    /// The links to the sections.
+    fn links(&mut self) -> Result<(), AllocError> {
+        self.markup("<nav aria-label=\"Sections\"><ul>\n")?;
+        for section in &SECTIONS {
+            self.valued("<li><a href=\"#", section.id, "\">")?;
+            self.within("", section.title, "</a></li>\n")?;
+        }
+        self.markup("</ul></nav>\n")
+    }
+
+    /// The head of a page about the journal and the start file of these names.
+    fn head(&mut self, start: &str, journal: &str) -> Result<(), AllocError> {
+        self.within(TOP, journal, "</title>\n")?;
+        self.style()?;
+        self.markup("</head>\n<body>\n<header>\n")?;
+        self.within("<h1>Report of ", journal, "</h1>\n")?;
+        self.within(
+            "<p>A journal over the start file <code>",
+            start,
+            "</code>. ",
+        )?;
+        self.markup("START and J below are these two files.</p>\n</header>\n")?;
+        self.links()?;
+        self.markup("<main>\n")
+    }
+
+    /// A page with its head, about the journal and the start file of these names.
+    ///
+    /// # Errors
+    /// `AllocError` where an allocation failed.
+    pub fn new(alloc: Global, start: &str, journal: &str) -> Result<Page, AllocError> {
+        let mut page = Page::empty(alloc);
+        page.head(start, journal)?;
+        Ok(page)
+    }
+
+    /// Ends the page.
+    ///
+    /// # Errors
+    /// `AllocError` where an allocation failed.
+    pub fn end(&mut self) -> Result<(), AllocError> {
+        self.markup("</main>\n</body>\n</html>\n")
+    }
+}

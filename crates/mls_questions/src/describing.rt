@@ -1,0 +1,64 @@
+//! The command that tells all of a subject or of an object.
+use crate::answering::{Named, ended, thing_refused};
+use crate::sources::{Bytes, read_source};
+use mls_about::about as told;
+use mls_replay::QuestionFault;
+use mls_terminal::{Progress, Source};
+use mls_wording::Answer;
+use std::process::ExitCode;
+
+/// Ends the command over the bytes of a start file: prints the answer, or tells why there is none.
+fn ended_about(
+    progress: &mut Progress<'_>,
+    source: &Source<'_>,
+    name: &str,
+    start: &[u8],
+    done: Result<Answer, QuestionFault>,
+) -> ExitCode {
+    if let Err(QuestionFault::Subject) = &done {
+        progress.end();
+        drop(done);
+        return thing_refused(progress.rt(), start, name);
+    }
+    let named = Named {
+        start: source.start,
+        journal: source.journal.unwrap_or(""),
+        subject: "",
+        object: name,
+        line: "",
+    };
+    ended(progress, named, start, done)
+}
+
+/// Prints all that there is to tell of a subject or of an object.
+pub(crate) fn about(
+    progress: &mut Progress<'_>,
+    source: &Source<'_>,
+    name: &str,
+    is_object: bool,
+) -> ExitCode {
+    let bytes = match read_source(progress, source) {
+        Ok(bytes) => bytes,
+        Err(status) => return status,
+    };
+    let Bytes {
+        start,
+        journal,
+        marks,
+        at,
+        verified: _,
+    } = &bytes;
+    progress.begin("looking");
+    let done = told(
+        progress.rt().alloc(),
+        start,
+        journal.as_deref(),
+        *at,
+        marks.as_ref(),
+        name,
+        is_object,
+    );
+    let status = ended_about(progress, source, name, start, done);
+    drop(bytes);
+    status
+}

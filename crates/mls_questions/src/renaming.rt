@@ -1,0 +1,307 @@
+//! Questions about a journal whose start was made of a state, with its objects by the names that they had before.
+use crate::answering::{Named, answered, bare_refused, ended, question_refused};
+use crate::sources::Bytes;
+use mls_compare::{MapFault, names_after};
+use mls_explain_text::explain_chosen;
+use mls_files::{judge_start, start_file};
+use mls_lines::Names;
+use mls_marks::Marks;
+use mls_replay::{QuestionFault, Replay, replay_at};
+use mls_reports::{Choice, Filter, ListFault, Words, choose, list_chosen};
+use mls_spans::{
+    Filter as SpanFilter, Words as SpanWords, choose as choose_spans, entries_between, list_spans,
+    list_usages,
+};
+use mls_terminal::{
+    HeldWords, JournalWords, NO_MEMORY, Progress, UsageWords, file_refused, refused,
+};
+use mls_wording::{Answer, push_number};
+use std::alloc::{AllocError, Global};
+use std::process::ExitCode;
+
+/// A start's file, by the word that names it, and its bytes.
+#[derive(Clone, Copy)]
+struct StartFile<'a> {
+    name: &'a str,
+    bytes: &'a [u8],
+}
+
+/// The names of a start by the bytes of a map.
+fn names_by(
+    progress: &mut Progress<'_>,
+    start: StartFile<'_>,
+    path: &str,
+    map: &[u8],
+) -> Result<Names, ExitCode> {
+    let (names, opened) = judge_start(progress, start.name, start.bytes)?.into_parts();
+    drop(opened);
+    let renamed = names_after(progress.rt().alloc(), &names, map);
+    drop(names);
+    match renamed {
+        Ok(names) => Ok(names),
+        Err(MapFault::Map) => {
+            let _ = eprintln!(progress.rt(); "mls: {path}: map");
+            Err(ExitCode::from(1))
+        }
+        Err(MapFault::Memory) => Err(refused(progress.rt(), NO_MEMORY, 1)),
+    }
+}
+
+/// The names of a start by the map of this file.
+fn read_names(
+    progress: &mut Progress<'_>,
+    start: StartFile<'_>,
+    path: &str,
+) -> Result<Names, ExitCode> {
+    let map = match start_file(path).read(progress) {
+        Ok(map) => map,
+        Err(fault) => return Err(file_refused(progress, path, fault)),
+    };
+    let names = names_by(progress, start, path, &map);
+    drop(map);
+    names
+}
+
+/// A word that names, by number, the object that another word names by these names; where that names none, one that
+/// names none either.
+fn number_word(alloc: Global, names: &Names, word: &str) -> Result<String, AllocError> {
+    let mut numbered = String::new(alloc);
+    if let Some(o) = names.object(word) {
+        numbered.push_str("#")?;
+        push_number(&mut numbered, u64::from(o.number()))?;
+    }
+    Ok(numbered)
+}
+
+/// The same where there is a word.
+fn any_number_word(
+    alloc: Global,
+    names: &Names,
+    word: Option<&str>,
+) -> Result<Option<String>, AllocError> {
+    match word {
+        Some(word) => Ok(Some(number_word(alloc, names, word)?)),
+        None => Ok(None),
+    }
+}
+
+/// What a journal has of the entries that are chosen.
+fn list_entries(
+    alloc: Global,
+    names: &Names,
+    replay: &Replay,
+    marks: Option<&Marks>,
+    words: &JournalWords<'_>,
+    choice: &Choice,
+) -> Result<Answer, ListFault> {
+    let start = replay.start();
+    let entries = replay.entries();
+    if words.is_explained {
+        explain_chosen(alloc, names, start, entries, marks, choice)
+    } else {
+        list_chosen(alloc, names, entries, marks, choice, words.form)
+    }
+}
+
+/// What a journal that was replayed has of the entries that a filter asks for, by these names of objects.
+fn list_replayed(
+    alloc: Global,
+    names: &Names,
+    replay: &Replay,
+    marks: Option<&Marks>,
+    words: &JournalWords<'_>,
+    filter: &Words<'_>,
+) -> Result<Answer, ListFault> {
+    let object = any_number_word(alloc, names, filter.object)?;
+    let by_number = Filter {
+        subject: filter.subject,
+        by: filter.by,
+        object: object.as_deref(),
+        session: filter.session,
+        reply: filter.reply,
+        from: filter.from,
+        to: filter.to,
+    };
+    let choice = choose(names, &by_number)?;
+    list_entries(alloc, names, replay, marks, words, &choice)
+}
+
+/// What a journal has of the entries that a filter asks for, by these names of objects.
+fn journal_by(
+    alloc: Global,
+    names: &Names,
+    bytes: &Bytes,
+    words: &JournalWords<'_>,
+    filter: &Words<'_>,
+) -> Result<Answer, ListFault> {
+    let journal = bytes.journal.as_deref().unwrap_or(b"".as_slice());
+    match replay_at(alloc, &bytes.start, journal, None) {
+        Ok(replay) => {
+            let listed = list_replayed(alloc, names, &replay, bytes.marks.as_ref(), words, filter);
+            drop(replay);
+            listed
+        }
+        Err(fault) => Err(ListFault::Question(fault)),
+    }
+}
+
+/// Ends a command: prints the answer, or tells why there is none.
+fn ended_by(
+    progress: &mut Progress<'_>,
+    named: Named<'_>,
+    start: &[u8],
+    done: Result<Answer, QuestionFault>,
+) -> ExitCode {
+    match done {
+        Err(QuestionFault::Object) => {
+            progress.end();
+            bare_refused(progress.rt(), named.object)
+        }
+        done => ended(progress, named, start, done),
+    }
+}
+
+/// The words that fault lines name.
+fn named<'a>(
+    start: &'a str,
+    journal: &'a str,
+    subject: Option<&'a str>,
+    object: Option<&'a str>,
+) -> Named<'a> {
+    Named {
+        start,
+        journal,
+        subject: subject.unwrap_or(""),
+        object: object.unwrap_or(""),
+        line: "",
+    }
+}
+
+/// Prints the entries of a journal that are asked for, with objects by the names of a map.
+pub(crate) fn journal_after(
+    progress: &mut Progress<'_>,
+    words: &JournalWords<'_>,
+    map: &str,
+    bytes: &Bytes,
+    filter: &Words<'_>,
+) -> ExitCode {
+    let file = StartFile {
+        name: words.start,
+        bytes: &bytes.start,
+    };
+    let names = match read_names(progress, file, map) {
+        Ok(names) => names,
+        Err(status) => return status,
+    };
+    progress.begin("listing");
+    let done = journal_by(progress.rt().alloc(), &names, bytes, words, filter);
+    drop(names);
+    let about = named(words.start, words.journal, filter.subject, filter.object);
+    match done {
+        Ok(answer) => {
+            progress.end();
+            answered(progress, answer)
+        }
+        Err(ListFault::Question(fault)) => ended_by(progress, about, &bytes.start, Err(fault)),
+        Err(ListFault::By) => {
+            let about = named(words.start, words.journal, filter.by, filter.object);
+            ended_by(progress, about, &bytes.start, Err(QuestionFault::Subject))
+        }
+    }
+}
+
+/// Who held what over a journal that was replayed, by these names of objects.
+fn held_over(
+    alloc: Global,
+    names: &Names,
+    replay: &Replay,
+    words: &SpanWords<'_>,
+) -> Result<Answer, QuestionFault> {
+    let object = any_number_word(alloc, names, words.object)?;
+    let by_number = SpanFilter {
+        subject: words.subject,
+        object: object.as_deref(),
+        mode: words.mode,
+        states: words.states,
+    };
+    let choice = choose_spans(names, &by_number)?;
+    list_spans(alloc, names, replay.start(), replay.entries(), &choice)
+}
+
+/// Who held what over a journal, by these names of objects.
+fn held_by(
+    alloc: Global,
+    names: &Names,
+    bytes: &Bytes,
+    words: &SpanWords<'_>,
+) -> Result<Answer, QuestionFault> {
+    let journal = bytes.journal.as_deref().unwrap_or(b"".as_slice());
+    let replay = replay_at(alloc, &bytes.start, journal, Some(words.states.first))?;
+    let listed = held_over(alloc, names, &replay, words);
+    drop(replay);
+    listed
+}
+
+/// Prints who held what over a journal, with objects by the names of a map.
+pub(crate) fn held_after(
+    progress: &mut Progress<'_>,
+    words: &HeldWords<'_>,
+    map: &str,
+    bytes: &Bytes,
+) -> ExitCode {
+    let file = StartFile {
+        name: words.start,
+        bytes: &bytes.start,
+    };
+    let names = match read_names(progress, file, map) {
+        Ok(names) => names,
+        Err(status) => return status,
+    };
+    progress.begin("listing");
+    let done = held_by(progress.rt().alloc(), &names, bytes, &words.filter);
+    drop(names);
+    let about = named(
+        words.start,
+        words.journal,
+        words.filter.subject,
+        words.filter.object,
+    );
+    ended_by(progress, about, &bytes.start, done)
+}
+
+/// How the permissions over a journal were used, by these names of objects.
+fn usage_by(
+    alloc: Global,
+    names: &Names,
+    bytes: &Bytes,
+    words: &UsageWords<'_>,
+) -> Result<Answer, QuestionFault> {
+    let journal = bytes.journal.as_deref().unwrap_or(b"".as_slice());
+    let replay = replay_at(alloc, &bytes.start, journal, Some(words.states.first))?;
+    let entries = entries_between(replay.entries(), words.states);
+    let listed = list_usages(alloc, names, replay.state(), entries);
+    drop(replay);
+    Ok(listed?)
+}
+
+/// Prints how the permissions over a journal were used, with objects by the names of a map.
+pub(crate) fn usage_after(
+    progress: &mut Progress<'_>,
+    words: &UsageWords<'_>,
+    map: &str,
+    bytes: &Bytes,
+) -> ExitCode {
+    let file = StartFile {
+        name: words.start,
+        bytes: &bytes.start,
+    };
+    let names = match read_names(progress, file, map) {
+        Ok(names) => names,
+        Err(status) => return status,
+    };
+    progress.begin("listing");
+    let done = usage_by(progress.rt().alloc(), &names, bytes, words);
+    drop(names);
+    let about = named(words.start, words.journal, None, None);
+    ended_by(progress, about, &bytes.start, done)
+}

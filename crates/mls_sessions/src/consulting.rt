@@ -1,0 +1,54 @@
+//! One session's turn at the gate in which it asks what would be replied, and makes no entry.
+ghost use Rattle.std.specs.Prelude.{◌≡◌, ◌+◌, length};
+ghost use mathlib.Core.List.{IsPrefix};
+ghost use Rattle.mls_rules.specs.Rules.{reply};
+ghost use Rattle.mls_monitor.specs.Journal.{fold};
+ghost use Rattle.mls_monitor.specs.Entries.{of_session};
+ghost use Rattle.mls_sessions.specs.Rule.{begun};
+ghost use Rattle.mls_sessions.specs.Steps.{kept_view};
+ghost use Rattle.mls_sessions.specs.Sessions.{member_of, taken_of, seated, Holds, Sees, history, number_of};
+
+use crate::boxed_monitor::BoxedMonitor;
+use crate::counts::Counts;
+use crate::gate::put_home;
+use crate::gate_table::{Gate, GateSeat};
+use crate::limits::FIRST;
+use crate::steps::Update;
+use mls_requests::{Reply, Request};
+
+/// What would be replied to a request, and the number that its entry would have.
+#[derive(Clone, Copy, Debug, PartialEq, Eq)]
+pub struct Decision {
+    pub number: u64,
+    pub reply: Reply,
+}
+
+/// Decides a request, puts the monitor home as it was, and has seen its journal. It wakes nobody, and returns also
+/// whether someone may sleep.
+pub(crate) fn consult(
+    gate: &Gate,
+    seat: &mut GateSeat,
+    counts: &mut Counts,
+    monitor: BoxedMonitor,
+    request: &Request,
+) -> (Decision, bool)
+    requires office { (seat.old.table_id ≡ gate.now.table_id) × (gate.now.table_id.words ≡ gate.now.key.cells + FIRST) }
+    requires session { Holds gate.now.key monitor seat.old.me }
+    requires own { of_session (number_of seat.old.me.0) (taken_of seat.old.me.0)
+        ≡ of_session (number_of seat.old.me.0) (member_of seat.old.me.0).later }
+    requires front { IsPrefix (member_of seat.old.me.0).later (taken_of seat.old.me.0) }
+    ensures seat { (seat.new.table_id ≡ seat.old.table_id) × (seat.new.id ≡ seat.old.id) }
+    ensures session { (seat.new.me ≡ seated gate.now.key (member_of seat.new.me.0))
+        × (number_of seat.new.me.0 ≡ number_of seat.old.me.0) }
+    ensures seen { Sees gate.now.key (kept_view seat.old.me.0) seat.new.me.0 }
+    ensures number { result.0.number ≡ length (history seat.new.me.0) }
+    ensures reply { result.0.reply ≡ reply (fold (begun gate.now.key) (history seat.new.me.0)) request.now }
+    ensures made { counts.new.made ≡ counts.old.made }
+    ensures counts { counts.new.seen ≡ length (history seat.new.me.0) }
+{
+    let reply = monitor.decide(request);
+    let number = monitor.next_number();
+    let may_sleep = put_home::<Update>(gate, seat, monitor);
+    counts.saw(number);
+    (Decision { number, reply }, may_sleep)
+}

@@ -1,0 +1,120 @@
+"""An office: a monitor that threads share, each by a session of its own."""
+from __future__ import annotations
+
+import threading
+import time
+from ctypes import byref, c_int
+from typing import Any, Callable, Optional, Union
+
+from . import actions
+from . import library as lib
+from .asking import Asking
+from .faults import BadRequest, Busy, UnknownName
+from .handle import is_ok
+from .monitor import Monitor
+from .numbering import answer_of, number
+from .requests import Name, Request
+from .values import Answer, Kind, Label, Mode
+
+
+class Office:
+    """A monitor that is open to so many sessions, 1 to 64, whose calls run side by side. The monitor is closed while the
+    office has it; close gives one back, with the journal of all sessions."""
+
+    def __init__(self, monitor: Monitor, count: int) -> None:
+        if not 1 <= number(count) <= lib.SESSIONS:
+            raise BadRequest(f"not 1 to {lib.SESSIONS} sessions: {count}")
+        self._subjects = {monitor.subject_name(it): it for it in range(monitor.counts().subjects)}
+        self._objects = {monitor.object_name(it): it for it in range(monitor.counts().next)}
+        self._library, self._office, self._sessions = monitor._library, lib.Office(), (lib.Session * count)()
+        handle = monitor._yield_up()
+        status = self._library.mls_office_open(byref(self._office), byref(handle), self._sessions, count)
+        if status:
+            monitor._handle = handle
+            monitor._keep()
+        is_ok(status, "an allocation failed")
+        self.sessions = tuple(Session(self, it) for it in range(count))
+
+    def close(self) -> Monitor:
+        """The monitor, with the one journal of all sessions, no call of which is at work. Their calls then raise
+        Closed."""
+        handle = lib.Handle()
+        taken = [session for session in self.sessions if session._lock.acquire(blocking=False)]
+        try:
+            if len(taken) < len(self.sessions):
+                raise Busy("a session is at work")
+            is_ok(self._library.mls_office_close(byref(self._office), self._sessions, byref(handle)))
+        finally:
+            for session in taken:
+                session._lock.release()
+        return Monitor._of(self._library, handle)
+
+    def __del__(self) -> None:
+        for session in getattr(self, "_sessions", ()):
+            self._library.mls_session_drop(byref(session))
+        if hasattr(self, "_office"):
+            self._library.mls_office_drop(byref(self._office))
+
+    def __reduce_ex__(self, protocol: Any) -> Any:
+        raise TypeError("an office is neither copied nor pickled")
+
+
+class Session(Asking):
+    """A session of an office, by its number, which its entries have. Its calls take turns; those of different sessions
+    run side by side. Names are those that the monitor had when the office was opened, and a label is no text."""
+
+    def __init__(self, office: Office, number: int) -> None:
+        self.office, self.number = office, number
+        self._lock = threading.Lock()
+
+    def _call(self, call: Callable[..., int], *arguments: Any) -> None:
+        """Makes a call until no other session is at the monitor."""
+        with self._lock:
+            for wait in range(1 << 62):
+                status = call(byref(self.office._sessions[self.number]), *arguments)
+                if status != lib.BUSY:
+                    return is_ok(status)
+                time.sleep(0 if wait < 8 else 0.0001)
+
+    def subject(self, name: Name) -> int:
+        """The number of a subject by its name; a number is its own."""
+        return _number(self.office._subjects, name)
+
+    def object(self, name: Name) -> int:
+        """The number of an object by its name when the office was opened; a number is its own."""
+        return _number(self.office._objects, name)
+
+    def label(self, label: Union[Label, str], kind: Kind = Kind.SECURITY) -> Label:
+        """A label is its own; its text is read by a monitor."""
+        if isinstance(label, Label):
+            return label
+        raise BadRequest(f"a session reads no label's text: {label!r}")
+
+    def submit(self, request: Request, session: actions.Session = None) -> Answer:
+        """Answers a request by the rules, changes the state as they say, and adds its entry to the one journal, with the
+        session's number."""
+        if session not in (None, self.number):
+            raise BadRequest(f"session {self.number} asks for itself alone")
+        struct, answer = self._struct(request), lib.Answer()
+        self._call(self.office._library.mls_session_submit, byref(struct), byref(answer))
+        return answer_of(answer.number, answer.reply, answer.object)
+
+    def decide(self, request: Request) -> Answer:
+        """What submit would answer now, if no other session made an entry before. Nothing changes."""
+        struct, answer = self._struct(request), lib.Answer()
+        self._call(self.office._library.mls_session_decide, byref(struct), byref(answer))
+        return answer_of(answer.number, answer.reply, answer.object)
+
+    def check(self, subject: Name, mode: Union[Mode, str], object: Name) -> bool:
+        """Whether a subject holds an access, at some moment between this session's last entry and its next."""
+        numbers, held = (self.subject(subject), self.object(object), Mode.of(mode)), c_int()
+        self._call(self.office._library.mls_session_check, *numbers, byref(held))
+        return held.value == 1
+
+
+def _number(names: dict[Optional[str], int], name: Name) -> int:
+    if isinstance(name, int):
+        return number(name)
+    if name not in names:
+        raise UnknownName(name)
+    return names[name]

@@ -1,0 +1,95 @@
+//! An office and its sessions: the calls of the library on them.
+use super::{told, Handle};
+use mls_sys::*;
+use std::os::raw::c_int;
+
+/// An office that is open. Who has it alone closes or drops it.
+pub(crate) struct OfficeHandle(Box<mls_office>);
+
+/// The handle of a session that is open. A session is no `Sync`, since each call writes to it; calls on different
+/// sessions run side by side.
+pub(crate) struct SessionHandle(mls_session);
+
+// SAFETY: handles may go from thread to thread where the start or end of a thread, or a lock, orders their calls. Who
+// moves a value to another thread, or lends it there alone, has them ordered.
+unsafe impl Send for OfficeHandle {}
+unsafe impl Send for SessionHandle {}
+
+// SAFETY: nothing is asked of an office behind a `&`.
+unsafe impl Sync for OfficeHandle {}
+
+impl OfficeHandle {
+    /// The office that `mls_office_open` leaves, with its sessions, ascending; or its status, with the monitor.
+    pub fn open(monitor: Handle, count: u16) -> Result<(OfficeHandle, Vec<SessionHandle>), (c_int, Handle)> {
+        let mut office = Box::new(MLS_OFFICE_INIT);
+        let mut sessions: Vec<_> = (0..count).map(|_| MLS_SESSION_INIT).collect();
+        // SAFETY: the handles are this function's alone, and there are as many sessions as it says.
+        match unsafe { mls_office_open(&mut *office, monitor.0.get(), sessions.as_mut_ptr(), count) } {
+            MLS_OK => Ok((OfficeHandle(office), sessions.into_iter().map(SessionHandle).collect())),
+            status => Err((status, monitor)),
+        }
+    }
+
+    /// The monitor that `mls_office_close` gives back, or its status, with the office and the sessions.
+    pub fn close(mut self, sessions: Vec<SessionHandle>) -> Result<Handle, (c_int, OfficeHandle, Vec<SessionHandle>)> {
+        if sessions.len() != usize::from(self.0.count) {
+            return Err((MLS_EBUSY, self, sessions));
+        }
+        let monitor = Handle::closed();
+        let mut taken: Vec<_> = sessions.into_iter().map(SessionHandle::into_raw).collect();
+        // SAFETY: the handles are this function's alone, and there are as many sessions as the office has.
+        let status = unsafe { mls_office_close(&mut *self.0, taken.as_mut_ptr(), monitor.0.get()) };
+        let sessions: Vec<_> = taken.into_iter().map(SessionHandle).collect();
+        match status {
+            MLS_OK => Ok(monitor),
+            status => Err((status, self, sessions)),
+        }
+    }
+}
+
+impl Drop for OfficeHandle {
+    fn drop(&mut self) {
+        // SAFETY: nobody else has the handle, and nobody has it after this.
+        unsafe { mls_office_drop(&mut *self.0) }
+    }
+}
+
+impl SessionHandle {
+    /// The handle itself, which isn't dropped.
+    fn into_raw(mut self) -> mls_session {
+        std::mem::replace(&mut self.0, MLS_SESSION_INIT)
+    }
+
+    pub fn number(&self) -> u16 {
+        self.0.number
+    }
+
+    /// The answer of `mls_session_submit`, or its status.
+    pub fn submit(&mut self, request: &mls_request) -> Result<mls_answer, c_int> {
+        let mut answer = mls_answer::default();
+        // SAFETY: `self` is borrowed by nobody else, the request is valid, and the answer is new.
+        told(unsafe { mls_session_submit(&mut self.0, request, &mut answer) }, answer)
+    }
+
+    /// The answer of `mls_session_decide`, or its status.
+    pub fn decide(&mut self, request: &mls_request) -> Result<mls_answer, c_int> {
+        let mut answer = mls_answer::default();
+        // SAFETY: as for `submit`.
+        told(unsafe { mls_session_decide(&mut self.0, request, &mut answer) }, answer)
+    }
+
+    /// What `mls_session_check` writes, or its status.
+    pub fn check(&mut self, subject: u16, object: u16, mode: u8) -> Result<bool, c_int> {
+        let mut held = 0;
+        // SAFETY: `self` is borrowed by nobody else, and the number is new.
+        let status = unsafe { mls_session_check(&mut self.0, subject, object, mode, &mut held) };
+        told(status, held == 1)
+    }
+}
+
+impl Drop for SessionHandle {
+    fn drop(&mut self) {
+        // SAFETY: nobody else has the handle, and nobody has it after this.
+        unsafe { mls_session_drop(&mut self.0) }
+    }
+}

@@ -1,0 +1,175 @@
+//! An office: a monitor that threads share, each by a session of its own.
+use crate::handle::{OfficeHandle, SessionHandle};
+use crate::monitor::unknown;
+use crate::{Answer, Mode, Monitor, Object, Request, Subject, SubmitError};
+use mls_sys::*;
+use std::hint::spin_loop;
+use std::{error, fmt, thread};
+
+/// A monitor that is open to sessions, each in whatever thread. Their calls run side by side, and leave one journal.
+///
+/// ```
+/// # let start = include_bytes!(concat!(env!("CARGO_MANIFEST_DIR"), "/../../examples/standard.json"));
+/// use mls::{Mode, Monitor, Object, Office, Subject};
+/// use std::thread;
+///
+/// let (ann, plans) = (Subject(0), Object(1));
+/// let (office, sessions) = Office::open(Monitor::open(start)?, 4).expect("memory");
+/// let running = sessions.into_iter().map(|mut session| {
+///     thread::spawn(move || {
+///         assert!(session.get(ann, plans, Mode::Read).expect("memory").is_granted());
+///         assert!(session.check(ann, plans, Mode::Read));
+///         session
+///     })
+/// });
+/// let running: Vec<_> = running.collect();
+/// let sessions = running.into_iter().map(|it| it.join().unwrap()).collect();
+/// let monitor = office.close(sessions).expect("all are back");
+/// assert_eq!(monitor.entry_count(), 4);
+/// # Ok::<(), mls::OpenError>(())
+/// ```
+pub struct Office {
+    handle: OfficeHandle,
+}
+
+/// A session of an office. It is `Send` and not `Sync`: one thread at a time makes its calls.
+///
+/// ```compile_fail,E0596
+/// fn shared(session: &mls::Session) -> bool {
+///     session.check(mls::Subject(0), mls::Object(1), mls::Mode::Read)
+/// }
+/// ```
+pub struct Session {
+    handle: SessionHandle,
+}
+
+impl Office {
+    /// The most sessions of an office.
+    pub const MAX_SESSIONS: u16 = MLS_SESSIONS;
+
+    /// Opens a monitor to so many sessions, numbered from 0. A number is written into the entries of its session.
+    pub fn open(monitor: Monitor, count: u16) -> Result<(Office, Vec<Session>), OfficeError> {
+        if count == 0 || count > Office::MAX_SESSIONS {
+            return Err(OfficeError::BadCount(monitor));
+        }
+        match OfficeHandle::open(monitor.handle, count) {
+            Ok((handle, sessions)) => {
+                Ok((Office { handle }, sessions.into_iter().map(|handle| Session { handle }).collect()))
+            }
+            Err((MLS_ENOMEM, handle)) => Err(OfficeError::OutOfMemory(Monitor { handle })),
+            Err((status, _)) => unknown("mls_office_open", status),
+        }
+    }
+
+    /// Gives the monitor back, with the one journal of all sessions, which are given in any order.
+    pub fn close(self, mut sessions: Vec<Session>) -> Result<Monitor, CloseError> {
+        sessions.sort_by_key(Session::number);
+        match self.handle.close(sessions.into_iter().map(|it| it.handle).collect()) {
+            Ok(handle) => Ok(Monitor { handle }),
+            Err((MLS_EBUSY | MLS_EINVAL, handle, sessions)) => Err(CloseError {
+                office: Office { handle },
+                sessions: sessions.into_iter().map(|handle| Session { handle }).collect(),
+            }),
+            Err((status, ..)) => unknown("mls_office_close", status),
+        }
+    }
+}
+
+impl Session {
+    /// The session's number.
+    pub fn number(&self) -> u16 {
+        self.handle.number()
+    }
+
+    /// Answers a request by the rules, changes the state as they say, and adds just its entry to the one journal. It
+    /// asks again while another session is at the monitor.
+    pub fn submit(&mut self, request: &Request) -> Result<Answer, SubmitError> {
+        let request = request.as_told();
+        match until_free(|| self.handle.submit(&request)) {
+            Ok(it) => Ok(Answer::told(it.number, it.reply, it.object)),
+            Err(MLS_ENOMEM) => Err(SubmitError::OutOfMemory),
+            Err(status) => unknown("mls_session_submit", status),
+        }
+    }
+
+    /// What [`submit`](Session::submit) would answer now, if no other session made an entry before. Nothing changes.
+    pub fn decide(&mut self, request: &Request) -> Answer {
+        let request = request.as_told();
+        match until_free(|| self.handle.decide(&request)) {
+            Ok(it) => Answer::told(it.number, it.reply, it.object),
+            Err(status) => unknown("mls_session_decide", status),
+        }
+    }
+
+    /// Whether the subject holds an access to the object in the mode, at some moment between this session's last entry
+    /// and its next. It mostly reads one word, and takes no lock.
+    pub fn check(&mut self, subject: Subject, object: Object, mode: Mode) -> bool {
+        match until_free(|| self.handle.check(subject.0, object.0, mode as u8)) {
+            Ok(is_held) => is_held,
+            Err(status) => unknown("mls_session_check", status),
+        }
+    }
+}
+
+/// Makes a call until no other session is at the monitor. It pauses twice as long each time, and then gives its time
+/// slice to other threads.
+fn until_free<T>(mut call: impl FnMut() -> Result<T, i32>) -> Result<T, i32> {
+    for round in 0u32.. {
+        match call() {
+            Err(MLS_EBUSY) if round < 7 => (0..1 << round).for_each(|_| spin_loop()),
+            Err(MLS_EBUSY) => thread::yield_now(),
+            told => return told,
+        }
+    }
+    unreachable!("a session is busy for ever")
+}
+
+impl fmt::Debug for Office {
+    fn fmt(&self, f: &mut fmt::Formatter<'_>) -> fmt::Result {
+        f.debug_struct("Office").finish_non_exhaustive()
+    }
+}
+
+impl fmt::Debug for Session {
+    fn fmt(&self, f: &mut fmt::Formatter<'_>) -> fmt::Result {
+        f.debug_struct("Session").field("number", &self.number()).finish_non_exhaustive()
+    }
+}
+
+/// Why an office isn't opened, with the monitor as it was.
+#[derive(Debug)]
+#[non_exhaustive]
+pub enum OfficeError {
+    /// The number of sessions isn't 1 to [`Office::MAX_SESSIONS`].
+    BadCount(Monitor),
+    /// An allocation failed.
+    OutOfMemory(Monitor),
+}
+
+impl fmt::Display for OfficeError {
+    fn fmt(&self, f: &mut fmt::Formatter<'_>) -> fmt::Result {
+        f.write_str(match self {
+            OfficeError::BadCount(_) => "not 1 to 64 sessions",
+            OfficeError::OutOfMemory(_) => "an allocation failed",
+        })
+    }
+}
+
+impl error::Error for OfficeError {}
+
+/// Not all sessions of the office, and no others, were given: it is as it was, and so are they.
+#[derive(Debug)]
+pub struct CloseError {
+    /// The office.
+    pub office: Office,
+    /// The sessions that were given, ascending by number.
+    pub sessions: Vec<Session>,
+}
+
+impl fmt::Display for CloseError {
+    fn fmt(&self, f: &mut fmt::Formatter<'_>) -> fmt::Result {
+        f.write_str("sessions of the office are missing")
+    }
+}
+
+impl error::Error for CloseError {}
