@@ -46,38 +46,38 @@ def cut_line(journal, count):
     return b"mls: %s: cut %s\n" % (journal.encode(), place)
 
 
+def killed_while_it_serves(rnd, run, due, said, latest=LATEST_KILL):
+    """Kills a service while its client writes and reads: at some moment behind its start, behind the line that says it is ready, or, half of
+    the times, behind its first answer. Returns what it wrote."""
+    behind = rnd.choice((0, len(said), len(said) + 1, len(said) + 1))
+    output = run.read(min(behind, len(said)))
+    run.feed(due.asked, rnd.choice((20, 200, 5_000, 70_000)), closes=False)
+    output += run.read(behind - len(output))
+    killer = threading.Timer(rnd.uniform(0, latest), run.run.kill)
+    killer.start()
+    output += run.run.stdout.read()
+    killer.join()
+    same(run.run.wait(), -signal.SIGKILL)
+    assert said.startswith(output[: len(said)]), shown(output[:100])
+    return output
+
+
 def is_killed_once(rnd, journal, before):
     """A service is killed at some moment while its client writes and reads; then it is recovered. Returns the journal, and how many bytes of
     answers the client had got."""
     due, said = Due(rnd.choices(LINES, k=1_500), count_of(before)), ready(count_of(before))
     with Serving(journal, "--recover") as run:
-        output = run.read(len(said)) if rnd.random() < 0.7 else b""
-        killer = threading.Timer(rnd.uniform(0, LATEST_KILL), run.run.kill)
-        killer.start()
-        run.feed(due.asked, rnd.choice((20, 200, 5_000, 70_000)), closes=False)
-        output += run.run.stdout.read()
-        killer.join()
-        same(run.run.wait(), -signal.SIGKILL)
-    assert said.startswith(output[: len(said)]), shown(output[:100])
+        output = killed_while_it_serves(rnd, run, due, said)
     written = output[len(said):]
     is_kept(content(journal), before, due, written)
     return recovered(journal, before, due, written), len(written)
-
-
-def turns(kills, a_journal, answered):
-    """The numbers of turns: so many kills, and on a busy machine, where at most a fourth of them came after an answer, as many again at
-    most, by whole journals."""
-    for turn in range(2 * kills):
-        if turn >= kills and turn % a_journal == 0 and sum(count > 0 for count in answered) > kills // 4:
-            return
-        yield turn
 
 
 @needs_proof
 def kills_under_a_client_that_writes():
     """300 times: every answer that the client had got is in the journal, and after --recover too."""
     rnd, before, answered = random.Random(39), b"", []
-    for turn in turns(KILLS, KILLS_OF_A_JOURNAL, answered):
+    for turn in range(KILLS):
         if turn % KILLS_OF_A_JOURNAL == 0:
             put("k", b"")
             before = b""

@@ -4,19 +4,17 @@ import random
 import shutil
 import signal
 import subprocess
-import threading
 from errno import EIO, ENOSPC
 
-from durable_crashes import turns
-from outside import IS_PROVED, SECONDS, in_its_folder, needs_proof, put, ran_program, same, shown, some
+from durable_crashes import killed_while_it_serves
+from outside import IS_PROVED, SECONDS, in_its_folder, needs_proof, put, ran_program, same, some
 from segments import joined, numbered, remove, segment, state
-from serving import LINES, STANDARD, Due, Serving, content, failed, is_kept, is_refused, mode_of, ready, served, shim, status_of, words_of
+from serving import LINES, STANDARD, Due, Serving, content, is_kept, is_refused, mode_of, ready, served, shim, status_of, words_of
 
 SEGMENT = 4_096
 CUT = ("--segment", str(SEGMENT))
 KILLS = 300
 KILLS_OF_A_JOURNAL = 25
-LATEST_KILL = 0.03
 
 
 def drawn(count, first=0, seed=52):
@@ -428,14 +426,7 @@ def is_killed_once(rnd, journal, before):
     due = Due(rnd.choices(LINES, k=1_500), before.count(b"\n"))
     said = ready(before.count(b"\n"))
     with Serving(journal, *CUT, "--recover") as run:
-        output = run.read(len(said)) if rnd.random() < 0.7 else b""
-        killer = threading.Timer(rnd.uniform(0, LATEST_KILL), run.run.kill)
-        killer.start()
-        run.feed(due.asked, rnd.choice((20, 200, 5_000, 70_000)), closes=False)
-        output += run.run.stdout.read()
-        killer.join()
-        same(run.run.wait(), -signal.SIGKILL)
-    assert said.startswith(output[: len(said)]), shown(output[:100])
+        output = killed_while_it_serves(rnd, run, due, said)
     written = output[len(said):]
     # (the first may be killed before it has made the file)
     left = joined(journal) if before or os.path.exists(journal) else b""
@@ -448,7 +439,7 @@ def kills_between_segments():
     """300 times: every answer that the client had got is in the files, which together are one legal journal, and each state is that of its
     entry."""
     rnd, before, answered = random.Random(52), b"", []
-    for turn in turns(KILLS, KILLS_OF_A_JOURNAL, answered):
+    for turn in range(KILLS):
         if turn % KILLS_OF_A_JOURNAL == 0:
             remove("k")
             before = b""

@@ -4,15 +4,14 @@ import os
 import random
 import signal
 import subprocess
-import threading
 from errno import EIO, ENOSPC
 
 import durable_segments
 import marks
-from durable_crashes import turns
+from durable_crashes import killed_while_it_serves
 from durable_marks import flip, verified, verify
-from durable_segments import CUT, KILLS_OF_A_JOURNAL, LATEST_KILL, SEGMENT, drawn, is_cut_well
-from outside import SECONDS, in_its_folder, needs_proof, put, ran_program, same, shown
+from durable_segments import CUT, KILLS_OF_A_JOURNAL, SEGMENT, drawn, is_cut_well
+from outside import SECONDS, in_its_folder, needs_proof, put, ran_program, same
 from segments import joined, numbered, remove, segment
 from serving import LINES, STANDARD, Due, Serving, content, failed, is_kept, ready, served, shim, words_of
 
@@ -256,14 +255,7 @@ def is_killed_once(rnd, journal, before):
     due = Due(rnd.choices(LINES, k=1_500), before.count(b"\n"))
     said = ready(before.count(b"\n"))
     with Serving(journal, *BOTH, "--recover") as run:
-        output = run.read(len(said)) if rnd.random() < 0.7 else b""
-        killer = threading.Timer(rnd.uniform(0, LATEST_KILL), run.run.kill)
-        killer.start()
-        run.feed(due.asked, rnd.choice((20, 200, 5_000, 70_000)), closes=False)
-        output += run.run.stdout.read()
-        killer.join()
-        same(run.run.wait(), -signal.SIGKILL)
-    assert said.startswith(output[: len(said)]), shown(output[:100])
+        output = killed_while_it_serves(rnd, run, due, said)
     written, now = output[len(said):], joined(journal)
     is_kept(now, before, due, written)
     noted = content("m") if os.path.exists("m") else b""
@@ -277,7 +269,7 @@ def is_killed_once(rnd, journal, before):
 def kills_between_segments_that_are_marked():
     """Every answer that the client had got is in the files, with its mark, and the next service goes on."""
     rnd, before, answered = random.Random(5250), b"", []
-    for turn in turns(durable_segments.KILLS, KILLS_OF_A_JOURNAL, answered):
+    for turn in range(durable_segments.KILLS):
         if turn % KILLS_OF_A_JOURNAL == 0:
             emptied("k")
             before = b""

@@ -1,6 +1,7 @@
 """A start that was made of the state of a journal: `mls state --start --map`, and `mls journal`, `held` and `usage` with `--after`, with
 answers that were worked out by hand, and over random journals as the others are answered with other names of objects."""
 import copy
+import json
 import os
 
 import json_rows
@@ -10,7 +11,7 @@ import snapshot_rows as snapshots
 import spans
 import usages
 from outside import EXAMPLES, TOP, in_its_folder, put, ran_program, same
-from policy import State
+from policy import MODES, State
 
 STANDARD, REUSED = (f"{EXAMPLES}/{it}.json" for it in ("standard", "reused"))
 # The journal of the example of `state --start` in FORMATS.md: sec makes object 4, and gives bob read on it.
@@ -182,10 +183,47 @@ def rotation_by_chance(world):
     o = rnd.choice(sorted({it for state in states for it in state.label}))
     same(said("journal", "--object", opening.objects[o]), wanted(texts.journal(opening, texts.listed(opening, entries, object=o))))
     same(said("held", "--object", opening.objects[o]), wanted(spans.listed(states, entries, object=o)))
+    chosen_by_chance(rnd, states, entries, said, wanted)
+
+
+def chosen_by_chance(rnd, states, entries, said, wanted):
+    """What chooses among entries and spans is heeded beside a map, as without one."""
+    opening, first, last = states[0], *sorted(rnd.randrange(len(entries)) for _ in range(2))
+    s, mode, reply = rnd.randrange(len(opening.subjects)), rnd.choice(MODES), rnd.choice(("yes", "no", "no discretionary", "created"))
+    session, between = rnd.choice(entries).session, (f"--from={first}", f"--to={last}")
+    listed = lambda **chosen: texts.journal(opening, texts.listed(opening, entries, **chosen))
+    same(said("journal", *between), wanted(listed(first=first, last=last)))
+    same(said("journal", f"--session={session}"), wanted(listed(session=session)))
+    same(said("journal", f"--reply={reply}", f"--subject={opening.subjects[s]}"), wanted(listed(reply=reply, subject=s)))
+    same(said("held", *between, f"--mode={mode}"), wanted(spans.listed(states, entries, mode=MODES.index(mode), first=first, last=last + 1)))
+    same(said("held", f"--at={first}", f"--subject={opening.subjects[s]}"), wanted(spans.listed(states, entries, subject=s, first=first, last=first)))
+    same(said("usage", *between), wanted(usages.listed(states, entries, first, last + 1)))
+
+
+def names_of_all_numbers():
+    """An object without a name gets that of an `o` and a number, which may be no object's: behind 4,095 where the start has all names before."""
+    start = {**json.loads(content(STANDARD)), "accesses": []}
+    row = {"parent": "root", "security": "U", "integrity": "lo"}
+    names = [f"o{4092 + it}" for it in range(1, 5)]
+    start["objects"] += [{"name": it, **row} for it in names] + [{"name": f"n{it}", **row} for it in range(4095 - len(start["objects"]) - len(names))]
+    put("full.json", json.dumps(start).encode())
+    put("full.journal", b"0 0 2 get-write 0 yes\n1 0 2 create 0 0 0 created 4095\n")
+    if os.path.exists("full.map"):
+        os.remove("full.map")
+    status, text, error = ran_program(["state", "--start", "--map", "full.map", "full.json", "full.journal"])
+    same((status, error, json.loads(text)["objects"][-1]["name"]), (0, b"", "o4097"))
+    put("next.json", text)
+    put("next.journal", b"0 0 2 give read 1 4095 yes\n")
+    known = content("full.map")
+    same(known.splitlines()[-1], b"4095 4095 #4095")
+    full = ["journal", "--after", "full.map", "next.json", "next.journal"]
+    same(ran_program(full), (0, b"0 session 0 sec give read bob #4095: yes\n", b""))
+    put("full.map", known.replace(b"4095 4095 #4095", b"4095 4096 #4096"))
+    refused(full, "mls: full.map: map\n")
 
 
 CHECKS = [*map(in_its_folder, [
-    a_map_of_a_state, maps_in_the_documents, files_that_are_there, what_is_told_after, objects_that_no_map_has, maps_that_do_not_fit,
+    a_map_of_a_state, names_of_all_numbers, maps_in_the_documents, files_that_are_there, what_is_told_after, objects_that_no_map_has, maps_that_do_not_fit,
     words_that_have_no_map,
 ])]
 # (it is asked of random starts and journals)

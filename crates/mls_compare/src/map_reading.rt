@@ -31,10 +31,15 @@ struct MapRow<'a> {
     name: &'a str,
 }
 
-/// The object of a number that no digit but those of a decimal number of its range writes.
-fn number(word: &str) -> Option<u16> {
-    let number = read_decimal(word.as_bytes(), u64::from(MAX_OBJECTS))?;
+/// The number that a word writes in decimal, up to a limit.
+fn number(word: &str, limit: u16) -> Option<u16> {
+    let number = read_decimal(word.as_bytes(), u64::from(limit))?;
     Some(number as u16)
+}
+
+/// The number of an object that a word writes in decimal.
+fn object_number(word: &str) -> Option<u16> {
+    number(word, MAX_OBJECTS - 1)
 }
 
 impl<'a> MapRow<'a> {
@@ -42,19 +47,20 @@ impl<'a> MapRow<'a> {
     fn read(line: &'a str, new: u16) -> Option<MapRow<'a>> {
         let (first, rest) = line.split_once(' ')?;
         let (second, name) = rest.split_once(' ')?;
-        if number(first)? != new {
+        if object_number(first)? != new {
             return None;
         }
-        let old = number(second)?;
+        let old = object_number(second)?;
         Some(MapRow { old, name })
     }
 
-    /// Whether the object was called by its number, and has now a name of an `o` and that number or a greater one.
+    /// Whether the object was called by its number, and has now a name of an `o` and that number or a greater one. (That
+    /// may be no object's: where objects of the start have the names of all numbers that are left.)
     fn is_numbered(&self, now: &str) -> bool {
         let (Some(was), Some(is)) = (self.name.strip_prefix('#'), now.strip_prefix('o')) else {
             return false;
         };
-        match (number(was), number(is)) {
+        match (object_number(was), number(is, u16::MAX)) {
             (Some(was), Some(is)) => was == self.old && is >= self.old,
             _ => false,
         }
