@@ -17,7 +17,7 @@ SECONDS_OF_NOTHING = 30
 FOUR = b"ann get-read plans\nbob get-read memo\nann release read plans\nann check read plans\n"
 ANSWERS = b"yes\nno star\nyes\nnot held\n"
 TOLD = b"mls: a checked trial of the program runs, not a proved one: bin/prove proves it\n"
-MAKING = b"mls: making a checked trial of the program, once: a minute or two\n"
+MAKING = b"mls: making a checked trial of the program, once: two or three minutes\n"
 # What plays rt: it notes each try, and compiles the program that is named into a folder below TMPDIR, where it runs it.
 PLAYED = """#!/bin/sh
 echo "$*" >>tries
