@@ -31,9 +31,12 @@ cc -O2 -I"$folder/include" examples/rows.c "$folder/lib/libmls.a" -o "$folder/ro
 cc -O2 -I"$folder/include" bench/office.c "$folder/lib/libmls.a" -pthread -o "$folder/office" || exit 1
 clock() { for _ in 1 2 3 4 5; do "$folder/office" examples/standard.json "$1" "$2" "$3"; done | sort -n | head -n 1; }
 echo "sessions of an office, a handle each: nanoseconds by the clock for each call of all threads, with 1 thread and with 4"
-for row in "check 50000000" "decide 2000000" "denied 1000000" "granted 1000000"; do
+for row in "decide 2000000" "denied 1000000" "granted 1000000"; do
   read -r what count <<<"$row"
   echo "$what, a session each: $(clock "$what" 1 "$count"), $(clock "$what" 4 "$count")"
 done
+cc -O2 -I"$folder/include" bench/scaling.c "$folder/lib/libmls.a" -pthread -o "$folder/scaling" || exit 1
+echo "checks by 4 threads at once and by each alone, in turn on the same processors; loop shares nothing"
+"$folder/scaling" examples/standard.json 4 300
 export GLIBC_TUNABLES=glibc.malloc.hugetlb=1
 for what in denied held granted; do echo "$what, large pages: $(nanoseconds "$what" 5000000)"; done

@@ -88,11 +88,19 @@ int mls_state_text(mls_monitor *m, char *buf, size_t cap, size_t *len) {
     return mls_state_text_bytes(m, room(buf, cap), cap, len);
 }
 
-/* Gives the sessions with the numbers from n on back, ascending. All are of the office, with their numbers. */
-static int take_back(mls_office *office, mls_session *sessions, uint16_t n) {
+/* The serial of the office that was opened last. Each has its own, from 1 on, and none is used again. A session notes that
+ * of its office, and no address: a session that outlives its office has it still, when another office has the address. */
+static uint64_t last_serial;
+
+static uint64_t new_serial(void) { return __atomic_add_fetch(&last_serial, 1, __ATOMIC_RELAXED); }
+
+/* Gives the sessions with the numbers from n on back, ascending, and closes the office. All are of the office, with their
+ * numbers, and those below n are at home: so each has a number above those at home, and none of them is refused, and then
+ * none is out. It needs no memory. */
+static int shut(mls_office *office, mls_session *sessions, uint16_t n, mls_monitor *m) {
     int status = MLS_OK;
     for (; n < office->count && status == MLS_OK; n++) status = mls_office_take_back(office, &sessions[n]);
-    return status;
+    return status ? status : mls_office_close_monitor(office, m);
 }
 
 int mls_office_open(mls_office *office, mls_monitor *m, mls_session *sessions, uint16_t count) {
@@ -105,16 +113,16 @@ int mls_office_open(mls_office *office, mls_monitor *m, mls_session *sessions, u
     }
     status = mls_office_open_monitor(office, m, count);
     if (status) return status;
+    office->serial = new_serial();
     office->count = count;
     /* (the last of those that aren't handed out is handed out first) */
     for (n = count; n > 0; n--) {
         status = mls_office_hand_out(office, &sessions[n - 1]);
         if (status) {
-            take_back(office, sessions, n);
-            mls_office_close_monitor(office, m);
-            return status;
+            int undone = shut(office, sessions, n, m);
+            return undone ? undone : status;
         }
-        sessions[n - 1].office = office->hall;
+        sessions[n - 1].office = office->serial;
         sessions[n - 1].number = n - 1;
     }
     return MLS_OK;
@@ -122,17 +130,15 @@ int mls_office_open(mls_office *office, mls_monitor *m, mls_session *sessions, u
 
 int mls_office_close(mls_office *office, mls_session *sessions, mls_monitor *m) {
     uint16_t n;
-    int status;
     if (m->held) return MLS_EOPEN;
     if (!office->held) return MLS_ECLOSED;
     for (n = 0; n < office->count; n++) {
-        if (sessions[n].office != office->hall || sessions[n].number != n) return MLS_EINVAL;
+        if (sessions[n].office != office->serial || sessions[n].number != n) return MLS_EINVAL;
     }
     for (n = 0; n < office->count; n++) {
         if (!sessions[n].held) return MLS_EBUSY;
     }
-    status = take_back(office, sessions, 0);
-    return status ? status : mls_office_close_monitor(office, m);
+    return shut(office, sessions, 0, m);
 }
 
 static const char *word(const char *const *words, size_t count, int number) {

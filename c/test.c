@@ -417,6 +417,126 @@ static void deciding_by_labels(void) {
     mls_close(&m);
 }
 
+/* A start whose schemes have 256 categories each, of which labels have some of four: one in each word. Four subjects may
+ * do all with the root and fifteen objects below it. */
+enum { LONG_SUBJECTS = 4, LONG_OBJECTS = 16 };
+
+static char long_start[1 << 16];
+static size_t long_len;
+
+static void put(const char *text) {
+    strcpy(long_start + long_len, text);
+    long_len += strlen(text);
+}
+
+static void put_name(const char *member, const char *kind, int number) {
+    char text[64];
+    snprintf(text, sizeof text, "\"%s\": \"%s%d\", ", member, kind, number);
+    put(text);
+}
+
+static void put_scheme(const char *levels) {
+    char text[16];
+    int n;
+    put(levels);
+    for (n = 0; n < 256; n++) {
+        snprintf(text, sizeof text, "%s\"k%d\"", n ? ", " : "", n);
+        put(text);
+    }
+    put("]}, ");
+}
+
+/* A label with those of the four categories whose bits are 1. */
+static void put_label(const char *member, const char *level, int mask) {
+    static const char *const four[4] = {"k0", "k64", "k130", "k255"};
+    const char *before = ":";
+    int n;
+    put(member);
+    put(level);
+    for (n = 0; n < 4; n++) {
+        if (!(mask >> n & 1)) continue;
+        put(before);
+        put(four[n]);
+        before = ",";
+    }
+    put("\"");
+}
+
+static void put_subject(int n) {
+    static const int maxima[LONG_SUBJECTS] = {15, 3, 12, 5}, currents[LONG_SUBJECTS] = {15, 1, 8, 0};
+    put(n ? ", {" : "{");
+    put_name("name", "s", n);
+    put_label("\"maximum\": \"", "S", maxima[n]);
+    put_label(", \"current\": \"", n == 3 ? "U" : "S", currents[n]);
+    put_label(", \"integrity\": \"", n & 1 ? "hi" : "lo", maxima[3 - n]);
+    put(n == 3 ? ", \"trusted\": true}" : ", \"trusted\": false}");
+}
+
+static void put_object(int n) {
+    put(n ? ", {" : "{");
+    put_name("name", "o", n);
+    put(n ? "\"parent\": \"o0\"" : "\"parent\": null");
+    put_label(", \"security\": \"", n % 3 ? "S" : "U", n);
+    put_label(", \"integrity\": \"", n % 5 ? "lo" : "hi", n ? n * 7 % 16 : 15);
+    put("}");
+}
+
+static size_t write_long_start(void) {
+    int n, k;
+    long_len = 0;
+    put("{\"security\": ");
+    put_scheme("{\"levels\": [\"U\", \"S\"], \"categories\": [");
+    put("\"integrity\": ");
+    put_scheme("{\"levels\": [\"lo\", \"hi\"], \"categories\": [");
+    put("\"subjects\": [");
+    for (n = 0; n < LONG_SUBJECTS; n++) put_subject(n);
+    put("], \"objects\": [");
+    for (n = 0; n < LONG_OBJECTS; n++) put_object(n);
+    put("], \"matrix\": [");
+    for (n = 0; n < LONG_SUBJECTS; n++)
+        for (k = 0; k < LONG_OBJECTS; k++) {
+            put(n || k ? ", {" : "{");
+            put_name("subject", "s", n);
+            put_name("object", "o", k);
+            put("\"modes\": [\"execute\", \"read\", \"append\", \"write\"]}");
+        }
+    put("]}");
+    return long_len;
+}
+
+/* Where the matrix permits all, an access that is decided by an object's labels is decided as the get of it, whichever words
+ * of categories the labels use. */
+static void deciding_by_long_labels(void) {
+    mls_t m = MLS_INIT;
+    mls_fault_t f;
+    mls_answer_t a;
+    mls_object_info info;
+    mls_label l, bad = bits(16, 0, 1);
+    uint16_t subject, object, reply;
+    uint8_t mode;
+    long replies[32] = {0}, different = 0;
+    CHECK(mls_open(&m, (const uint8_t *)long_start, write_long_start(), &f) == MLS_OK);
+    for (subject = 0; subject < LONG_SUBJECTS; subject++)
+        for (object = 0; object < LONG_OBJECTS; object++)
+            for (mode = MLS_EXECUTE; mode <= MLS_WRITE; mode++) {
+                mls_request_t q = request(MLS_GET, subject, mode, object);
+                CHECK(mls_read_object(&m, object, &info) == MLS_OK && mls_decide(&m, &q, &a) == MLS_OK);
+                CHECK(mls_decide_label(&m, subject, mode, &info.security, &info.integrity, &reply) == MLS_OK);
+                different += reply != a.reply;
+                replies[reply & 31]++;
+            }
+    CHECK(different == 0);
+    CHECK(replies[MLS_YES] && replies[MLS_DENIED + MLS_SIMPLE] && replies[MLS_DENIED + MLS_STAR] && replies[MLS_DENIED + MLS_INTEGRITY]);
+    CHECK(replies[MLS_UNDEFINED] == 0 && replies[MLS_DENIED + MLS_DISCRETIONARY] == 0);
+    l = info.security;
+    l.level = 2;
+    CHECK(mls_decide_label(&m, 0, MLS_READ, &l, &info.integrity, &reply) == MLS_OK && reply == MLS_UNDEFINED);
+    reply = 999;
+    CHECK(mls_decide_label(&m, 0, MLS_READ, &bad, &info.integrity, &reply) == MLS_EINVAL && mls_decide_label(&m, 0, 4, &l, &l, &reply) == MLS_EINVAL);
+    CHECK(reply == 999);
+    mls_close(&m);
+}
+
 static void readers(void) {
     mls_t m = MLS_INIT;
     mls_subject_info s;
@@ -1454,6 +1574,72 @@ static int told(mls_session *s, uint16_t subject, uint16_t object) {
     return held;
 }
 
+/* An office that was dropped leaves sessions: no other office takes them for its own, though it may have the address of the
+ * first. What they are refused for is as it was. */
+static void dropped_offices(void) {
+    mls_t m = MLS_INIT, other = MLS_INIT;
+    mls_office first = MLS_OFFICE_INIT, second = MLS_OFFICE_INIT;
+    mls_session s[2] = {MLS_SESSION_INIT, MLS_SESSION_INIT}, t[2] = {MLS_SESSION_INIT, MLS_SESSION_INIT}, mixed[2];
+    long n, before = live;
+    for (n = 0; n < 20; n++) {
+        open_standard(&m);
+        open_standard(&other);
+        CHECK(mls_office_open(&first, &m, s, 2) == MLS_OK);
+        mls_office_drop(&first);
+        CHECK(mls_office_open(&second, &other, t, 2) == MLS_OK);
+        CHECK(mls_office_close(&second, s, &m) == MLS_EINVAL && !m.held && second.held && s[0].held && s[1].held);
+        mixed[0] = t[0], mixed[1] = s[1];
+        CHECK(mls_office_close(&second, mixed, &m) == MLS_EINVAL && !m.held && second.held && t[0].held && s[1].held);
+        CHECK(entered(&s[1], request(MLS_GET, ANN, MLS_READ, PLANS), 0) == MLS_YES && told(&s[0], ANN, PLANS) == 1);
+        CHECK(told(&t[1], ANN, PLANS) == 0);
+        CHECK(mls_office_close(&second, t, &m) == MLS_OK && m.held == 1 && mls_entries(&m) == 0);
+        /* nor does the same handle, once it is opened again */
+        CHECK(mls_office_open(&second, &m, t, 2) == MLS_OK && mls_office_close(&second, s, &m) == MLS_EINVAL);
+        CHECK(mls_office_close(&second, t, &m) == MLS_OK);
+        mls_session_drop(&s[0]);
+        mls_session_drop(&s[1]);
+        mls_close(&m);
+        CHECK(live == before);
+    }
+}
+
+/* Calls of the library that c/mls.c alone makes. */
+int mls_office_open_monitor(mls_office *office, mls_t *m, uint16_t count);
+int mls_office_close_monitor(mls_office *office, mls_t *m);
+int mls_office_hand_out(mls_office *office, mls_session *session);
+int mls_office_take_back(mls_office *office, mls_session *session);
+
+/* Sessions are handed out from the last on, and taken back if their number is above those at home, without memory. */
+static void seats_of_an_office(void) {
+    mls_t m = MLS_INIT;
+    mls_office office = MLS_OFFICE_INIT;
+    mls_session s[3] = {MLS_SESSION_INIT, MLS_SESSION_INIT, MLS_SESSION_INIT}, none = MLS_SESSION_INIT;
+    long before = live;
+    open_standard(&m);
+    CHECK(mls_office_open_monitor(&office, &m, 3) == MLS_OK && mls_office_hand_out(&office, &s[2]) == MLS_OK);
+    CHECK(mls_office_hand_out(&office, &s[2]) == MLS_EOPEN && mls_office_hand_out(&office, &s[1]) == MLS_OK);
+    left = 0;
+    CHECK(mls_office_take_back(&office, &none) == MLS_ECLOSED && mls_office_hand_out(&office, &none) == MLS_ENOMEM && !none.held);
+    CHECK(mls_office_take_back(&office, &s[2]) == MLS_OK && !s[2].held);
+    /* the first and the last are at home */
+    CHECK(mls_office_take_back(&office, &s[1]) == MLS_EINVAL && s[1].held == 1);
+    left = -1;
+    CHECK(mls_office_hand_out(&office, &s[2]) == MLS_OK);
+    left = 0;
+    CHECK(mls_office_take_back(&office, &s[1]) == MLS_OK && mls_office_close_monitor(&office, &m) == MLS_EBUSY);
+    left = -1;
+    CHECK(mls_office_hand_out(&office, &s[1]) == MLS_OK && mls_office_hand_out(&office, &s[0]) == MLS_OK);
+    CHECK(mls_office_hand_out(&office, &none) == MLS_EBUSY && !none.held);
+    left = 0;
+    CHECK(mls_office_take_back(&office, &s[1]) == MLS_OK && mls_office_take_back(&office, &s[0]) == MLS_EINVAL && s[0].held == 1);
+    CHECK(mls_office_take_back(&office, &s[2]) == MLS_OK && mls_office_close_monitor(&office, &m) == MLS_EBUSY && !m.held);
+    left = -1;
+    mls_office_drop(&office);
+    CHECK(entered(&s[0], request(MLS_GET, ANN, MLS_READ, PLANS), 0) == MLS_YES);
+    mls_session_drop(&s[0]);
+    CHECK(live == before);
+}
+
 static void offices(void) {
     mls_t m = MLS_INIT, other = MLS_INIT;
     mls_office office = MLS_OFFICE_INIT, second = MLS_OFFICE_INIT;
@@ -1511,6 +1697,8 @@ static void offices(void) {
     mls_session_drop(&s[0]);
     mls_session_drop(&s[2]);
     mls_close(&other);
+    dropped_offices();
+    seats_of_an_office();
 }
 
 /* Each allocation of an opening is refused in turn: the monitor is as it was. So is each of a submit. */
@@ -1624,6 +1812,7 @@ int main(int argc, char **argv) {
     tell("names and labels", names_and_labels);
     tell("dominance", dominance);
     tell("deciding by labels", deciding_by_labels);
+    tell("deciding by long labels", deciding_by_long_labels);
     tell("readers", readers);
     tell("explaining", explaining);
     tell("the text of a journal", keeping);

@@ -93,20 +93,21 @@ typedef struct {
 typedef struct {
     uint32_t held;
     void *hall;
+    uint64_t serial;
     uint16_t count;
 } mls_office;
 
-#define MLS_OFFICE_INIT { 0, NULL, 0 }
+#define MLS_OFFICE_INIT { 0, NULL, 0, 0 }
 
 /* The handle of a session of an office. Its fields are the library's. */
 typedef struct {
     uint32_t held;
     void *place;
-    void *office;
+    uint64_t office;
     uint16_t number;
 } mls_session;
 
-#define MLS_SESSION_INIT { 0, NULL, NULL, 0 }
+#define MLS_SESSION_INIT { 0, NULL, 0, 0 }
 
 /* An office has no more sessions than this. */
 enum { MLS_SESSIONS = 64 };

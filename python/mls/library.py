@@ -24,11 +24,11 @@ class Handle(ctypes.Structure):
 
 
 class Office(ctypes.Structure):
-    _fields_ = [("held", c_uint32), ("hall", c_void_p), ("count", c_uint16)]
+    _fields_ = [("held", c_uint32), ("hall", c_void_p), ("serial", c_uint64), ("count", c_uint16)]
 
 
 class Session(ctypes.Structure):
-    _fields_ = [("held", c_uint32), ("place", c_void_p), ("office", c_void_p), ("number", c_uint16)]
+    _fields_ = [("held", c_uint32), ("place", c_void_p), ("office", c_uint64), ("number", c_uint16)]
 
 
 class Label(ctypes.Structure):

@@ -1,6 +1,7 @@
 """An office: a monitor that threads share, each by a session of its own."""
 from __future__ import annotations
 
+import itertools
 import threading
 import time
 from ctypes import byref, c_int
@@ -24,8 +25,7 @@ class Office:
     def __init__(self, monitor: Monitor, count: int) -> None:
         if not 1 <= number(count) <= lib.SESSIONS:
             raise BadRequest(f"not 1 to {lib.SESSIONS} sessions: {count}")
-        self._subjects = {monitor.subject_name(it): it for it in range(monitor.counts().subjects)}
-        self._objects = {monitor.object_name(it): it for it in range(monitor.counts().next)}
+        self._subjects, self._objects = _numbers(monitor.subject_name), _numbers(monitor.object_name)
         self._library, self._office, self._sessions = monitor._library, lib.Office(), (lib.Session * count)()
         handle = monitor._yield_up()
         status = self._library.mls_office_open(byref(self._office), byref(handle), self._sessions, count)
@@ -112,7 +112,13 @@ class Session(Asking):
         return held.value == 1
 
 
-def _number(names: dict[Optional[str], int], name: Name) -> int:
+def _numbers(name_of: Callable[[int], Optional[str]]) -> dict[str, int]:
+    """The names that a start has, each with its number: those have no gaps."""
+    names = itertools.takewhile(lambda name: name is not None, map(name_of, range(lib.OBJECTS)))
+    return {name: it for it, name in enumerate(names) if name is not None}
+
+
+def _number(names: dict[str, int], name: Name) -> int:
     if isinstance(name, int):
         return number(name)
     if name not in names:

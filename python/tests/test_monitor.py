@@ -322,6 +322,17 @@ class Monitors(unittest.TestCase):
             with self.assertRaises(mls.Closed):
                 late()
 
+    def test_an_office_over_a_start_that_has_all_objects(self):
+        start = json.loads(STANDARD)
+        row = {"parent": "root", "security": "U", "integrity": "lo"}
+        start["objects"] += [{"name": f"o{it}", **row} for it in range(len(start["objects"]), library.OBJECTS)]
+        full = mls.Monitor.open(json.dumps(start).encode())
+        self.assertIsNone(full.counts().next)
+        office = mls.Office(full, 1)
+        self.assertFalse(office.sessions[0].check("ann", "read", "o4095"))
+        self.assertEqual(str(office.sessions[0].get("ann", "read", "o4095")), "no discretionary")
+        office.close().close()
+
     def test_words_are_those_of_the_library(self):
         words = library.load()
         rows = [

@@ -6,7 +6,7 @@ use Rattle.mls_labels.specs.Label.{Label, dominates}
 use Rattle.mls_labels.proofs.Laws.{transitive}
 use Rattle.mls_tables.specs.declared.mode.Mode.{Mode}
 use Rattle.mls_tables.specs.declared.mode.Mode.TheVariants.{Execute, Read, Append, Write}
-use Rattle.mls_state.specs.State.{State, is_subject, is_above}
+use Rattle.mls_state.specs.State.{State, is_subject}
 use Rattle.mls_state.specs.Properties.{IsSecure, simple_between, star_between}
 
 -- what star grants below a maximum that dominates the current label meets simple security

@@ -11,7 +11,7 @@ use Rattle.mls_state.specs.State.{State, is_subject, is_active}
 use Rattle.mls_state.specs.Properties.{discretionary_holds}
 use Rattle.mls_rules.specs.Rules.{conditions, first_failing, reply, reply_unless}
 use Rattle.mls_c.specs.LabelAsking.{get_of, HasLabels, has_bounds, label_conditions, label_reply}
-use Rattle.mls_c.specs.declared.label_asking.LabelAccess.{LabelAccess}
+use Rattle.mls_c.specs.declared.label_access.LabelAccess.{LabelAccess}
 
 -- the conditions of a get behind the first
 pub conditions_behind : (v : State) (o : ℕ) (a : LabelAccess) → HasLabels v o a

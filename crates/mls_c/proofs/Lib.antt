@@ -13,5 +13,6 @@ pub mod ReadBack
 pub mod ReadConditions
 pub mod Resumings
 pub mod Rows
+pub mod ShortLabels
 pub mod StateOpenings
 pub mod Utf8

@@ -15,7 +15,7 @@ use Rattle.mls_c.specs.Labels.{label_of}
 use Rattle.mls_c.specs.Opened.{Opened, state_of}
 use Rattle.mls_c.specs.Requests.{mode_at}
 use Rattle.mls_c.specs.declared.label.LabelNumbers.{LabelNumbers}
-use Rattle.mls_c.specs.declared.label_asking.LabelAccess.{LabelAccess}
+use Rattle.mls_c.specs.declared.label_access.LabelAccess.{LabelAccess}
 use Rattle.mls_c.specs.declared.status.TheConstants.{OK, ECLOSED, EINVAL}
 
 -- Whether a label dominates another, as 1 or 0: 0 too where one of them is none. (own)

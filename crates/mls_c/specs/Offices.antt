@@ -1,7 +1,7 @@
 -- What handles of an office hold, and what its calls tell.
 use Rattle.std.specs.Prelude.{◌≡◌, ◌⊎◌, ℕ, ◌<◌, ℤ, pos, true, false, List, [], ◌∷◌, ◌++◌, length, refl}
 use Rattle.std.specs.Prelude.{Option, Some, None, IsSomeAnd, if◌then◌else◌}
-use Rattle.std.specs.Coded.{Coded, code_by, coded×, coded_ℕ, coded_list, coded_option}
+use Rattle.std.specs.Coded.{Coded, code_by, coded×, coded_list, coded_option}
 use Rattle.std.specs.FinSet as set
 use Rattle.mls_tables.specs.declared.mode.Mode.{Mode}
 use Rattle.mls_state.specs.State.{State}
@@ -61,9 +61,13 @@ NumbersBelow n (s ∷ sessions) = (number_of s.view < n) × NumbersBelow n sessi
 abbrev pub state_seen : Place → State
 state_seen p = fold (begun p.office.charter) (history p.session.view)
 
--- A session of the same office looked: its history begins with the old one, its own part stays. (own)
+-- It is the same session: its office and its number stay. (own)
+abbrev pub IsSameSession : Place → Place → Type 0
+IsSameSession p q = (q.office ≡ p.office) × (number_of q.session.view ≡ number_of p.session.view)
+
+-- A session looked: its history begins with the old one, its own part stays. (own)
 abbrev pub Looks : Place → Place → Type 0
-Looks p q = (q.office ≡ p.office) × Sees p.office.charter p.session.view q.session.view
+Looks p q = IsSameSession p q × Sees p.office.charter p.session.view q.session.view
 
 -- What a check of a session returns: whether the handle is closed, or the mode is none, or there is an answer, or
 -- another session is at the monitor. (own)
@@ -107,7 +111,7 @@ Decides old request new answer = IsSomeAnd old (λ p. IsSomeAnd request (λ r. I
 -- entry's. (own)
 abbrev pub MakesEntry : Option Place → Option Request → Option Place → Answer → Type 0
 MakesEntry old request new answer = IsSomeAnd old (λ p. IsSomeAnd request (λ r. IsSomeAnd new (λ q.
-    (q.office ≡ p.office) × ((e : Entry) × Submits p.office.charter p.session.view r e q.session.view
+    IsSameSession p q × ((e : Entry) × Submits p.office.charter p.session.view r e q.session.view
     × (answer ≡ answer_of e.number e.reply)))))
 
 -- What opening an office returns: that its handle is open already, or the monitor's is closed, or there can't be so many
@@ -133,12 +137,17 @@ abbrev pub seats_of : Option Hall → Option Seats
 seats_of None = None
 seats_of (Some h) = h.seats
 
+-- The open monitor that is in an office's handle. (own)
+abbrev pub opened_of : Option Hall → Option Opened
+opened_of None = None
+opened_of (Some h) = Some h.opened
+
 -- What handing out a session returns: that the office's handle is closed, or that of the session open; else one is
 -- handed out, or none is at home, or there is no memory. (own)
 abbrev pub HandStatus : Option Seats → Option Place → ℤ → Type 0
 HandStatus None p status = status ≡ ECLOSED
 HandStatus (Some t) (Some p) status = status ≡ EOPEN
-HandStatus (Some t) None status = (status ≡ OK) ⊎ (status ≡ EBUSY) ⊎ (status ≡ ENOMEM)
+HandStatus (Some t) None status = (status ≡ OK) ⊎ ((status ≡ EBUSY) × (t.home ≡ [])) ⊎ (status ≡ ENOMEM)
 
 -- The last of the sessions at home was handed out. (own)
 abbrev pub HandsOut : Option Seats → Option Seats → Option Place → Type 0
@@ -149,12 +158,13 @@ HandsOut old new handed = IsSomeAnd old (λ t. IsSomeAnd new (λ u. IsSomeAnd ha
 abbrev pub IsOfOffice : Option Hall → Option Place → Type 0
 IsOfOffice hall place = (t : Seats) (p : Place) → seats_of hall ≡ Some t → place ≡ Some p → p.office ≡ t.office
 
--- What giving a session back returns: that a handle is closed; else it is at home, or its number isn't above those of
--- the sessions at home, or there is no memory. (own)
+-- What giving a session back returns: that a handle is closed; else it is at home if its number is above those of the
+-- sessions at home, and is refused if not. (own)
 abbrev pub ReturnStatus : Option Seats → Option Place → ℤ → Type 0
 ReturnStatus None p status = status ≡ ECLOSED
 ReturnStatus (Some t) None status = status ≡ ECLOSED
-ReturnStatus (Some t) (Some p) status = (status ≡ OK) ⊎ (status ≡ EINVAL) ⊎ (status ≡ ENOMEM)
+ReturnStatus (Some t) (Some p) status = ((status ≡ OK) × NumbersBelow (number_of p.session.view) t.home)
+    ⊎ ((status ≡ EINVAL) × (NumbersBelow (number_of p.session.view) t.home → ⊥))
 
 -- A session was given back, and is the last of those at home. (own)
 abbrev pub TakesBack : Option Seats → Option Place → Option Seats → Type 0

@@ -10,15 +10,32 @@ use mls_requests::{Reason, Reply};
 use mls_state::{State, Subject, discretionary_holds, simple_between};
 use mls_tables::{Mode, ObjectId, SubjectId};
 
+/// Whether a label dominates another, with no call.
+#[inline(always)]
+fn is_above(a: &SecLabel, b: &SecLabel) -> bool
+    ensures { result ≡ dominates a.now b.now }
+{
+    let (a, b) = (a.label(), b.label());
+    a.dominates(&b)
+}
+
+/// Whether simple security holds between two labels, as `simple_between` of the state says, with no call.
+#[inline(always)]
+pub(crate) fn maximum_meets(maximum: &SecLabel, label: &SecLabel, x: Mode) -> bool
+    ensures { result ≡ simple_between (Some maximum.now) (Some label.now) x }
+{
+    !x.observes() || is_above(maximum, label)
+}
+
 /// Whether star holds between two labels, as `star_between` of the state says, with no call.
 #[inline(always)]
-fn star_meets(own: &SecLabel, label: &SecLabel, x: Mode) -> bool
+pub(crate) fn star_meets(own: &SecLabel, label: &SecLabel, x: Mode) -> bool
     ensures { result ≡ star_between (Some own.now) (Some label.now) x }
 {
     match x {
-        Mode::Append => label.dominates(own),
-        Mode::Write => label.dominates(own) && own.dominates(label),
-        Mode::Read => own.dominates(label),
+        Mode::Append => is_above(label, own),
+        Mode::Write => is_above(label, own) && is_above(own, label),
+        Mode::Read => is_above(own, label),
         Mode::Execute => true,
     }
 }
@@ -37,7 +54,7 @@ fn simple_meets(subject: &Subject, label: &SecLabel, x: Mode, star: bool) -> boo
 
 /// Whether strict integrity holds between two labels, as `integrity_between` of the state says, with no call.
 #[inline(always)]
-fn integrity_meets(own: &IntLabel, label: &IntLabel, x: Mode) -> bool
+pub(crate) fn integrity_meets(own: &IntLabel, label: &IntLabel, x: Mode) -> bool
     ensures { result ≡ integrity_between (Some own.now) (Some label.now) x }
 {
     let (own, label) = (own.label(), label.label());

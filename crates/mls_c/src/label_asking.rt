@@ -1,21 +1,20 @@
 //! Asking by labels alone: dominance, and accesses to what has labels and isn't an object.
-ghost use Rattle.std.specs.Prelude.{◌≡◌, ◌≢◌, IsTrue, Some};
-ghost use Rattle.mls_requests.specs.declared.reply.Reply.TheVariants.{Yes};
-ghost use Rattle.mls_rules.specs.Rules.{first_failing, reply_unless};
+ghost use Rattle.std.specs.Prelude.{◌≡◌, ◌≢◌, Some};
+ghost use Rattle.mls_c.specs.Answers.{number_of_reply};
+ghost use Rattle.mls_c.specs.LabelAsking.{dominance_number, access_of, label_reply, label_status, HasLabelReply};
 ghost use Rattle.mls_c.specs.Labels.{label_of};
-ghost use Rattle.mls_c.specs.LabelAsking.{dominance_number, access_of, label_conditions, has_bounds, label_reply};
-ghost use Rattle.mls_c.specs.LabelAsking.{label_status, HasLabelReply};
+ghost use Rattle.mls_c.specs.Opened.{state_of};
+ghost use Rattle.mls_c.specs.Requests.{mode_at};
 ghost use Rattle.mls_c.specs.declared.status.TheConstants.{OK};
 
 use crate::answer::number_of_reply;
 use crate::handle::Mls;
 use crate::label::LabelNumbers;
+use crate::label_access::LabelAccess;
 use crate::opened::Opened;
 use crate::request::mode_at;
 use crate::status::{ECLOSED, EINVAL, OK};
-use mls_labels::{IntLabel, SecLabel};
-use mls_requests::{Reason, Reply};
-use mls_state::{State, integrity_between, simple_between, star_between};
+use mls_labels::{CatSet, IntLabel, MAX_LEVELS, SecLabel};
 use mls_tables::{Mode, SubjectId};
 
 /// Whether the first label dominates the second: 1 or 0. It is 0 too where one of them has a level that no label has.
@@ -24,82 +23,99 @@ use mls_tables::{Mode, SubjectId};
 pub extern "C" fn mls_dominates(a: &LabelNumbers, b: &LabelNumbers) -> i32
     ensures { result ≡ dominance_number (label_of a.now) (label_of b.now) }
 {
-    let Some(a) = a.label() else {
+    if (a.level as usize) >= MAX_LEVELS || b.level > a.level {
         return 0;
-    };
-    let Some(b) = b.label() else {
-        return 0;
-    };
-    if a.dominates(&b) { 1 } else { 0 }
+    }
+    let mine = CatSet::from_words(a.categories);
+    let theirs = CatSet::from_words(b.categories);
+    if theirs.is_subset(&mine) { 1 } else { 0 }
 }
 
-/// An access that a subject asks for in a mode, to what has these labels.
-#[derive(Clone, Copy)]
-pub struct LabelAccess {
-    pub subject: SubjectId,
-    pub mode: Mode,
-    pub security: SecLabel,
-    pub integrity: IntLabel,
+/// Decides an access. What is known of its mode and its labels when this is compiled isn't asked when it runs.
+#[inline(always)]
+fn decide_access(opened: &Opened, access: &LabelAccess, reply: &mut u16) -> i32
+    ensures status { result ≡ OK }
+    ensures answered { reply.new ≡ number_of_reply (label_reply (state_of opened.now) access.now) }
+{
+    let said = access.reply(opened.state());
+    *reply = number_of_reply(&said);
+    OK
 }
 
-impl LabelAccess {
-    /// The access that numbers ask for, where they are a mode's and labels'.
-    fn of(
-        subject: u16,
-        mode: u8,
-        security: &LabelNumbers,
-        integrity: &LabelNumbers,
-    ) -> Option<LabelAccess>
-        ensures { result ≡ access_of subject mode security.now integrity.now }
-    {
-        let mode = mode_at(mode)?;
-        let security = SecLabel::of(security.label()?);
-        let integrity = IntLabel::of(integrity.label()?);
-        Some(LabelAccess {
-            subject: SubjectId::new(subject),
-            mode,
-            security,
-            integrity,
-        })
-    }
+/// Decides by the numbers of labels of whatever categories. It isn't put where it is called, so that labels of the first
+/// 64 pay nothing for the others.
+#[inline(never)]
+fn decide_long(
+    opened: &Opened,
+    subject: u16,
+    mode: u8,
+    security: &LabelNumbers,
+    integrity: &LabelNumbers,
+    reply: &mut u16,
+) -> i32
+    ensures status { result ≡ label_status (Some opened.now) (access_of subject mode security.now integrity.now) }
+    ensures answered { result ≡ OK
+        → HasLabelReply (Some opened.now) (access_of subject mode security.now integrity.now) reply.new }
+    ensures silent { result ≢ OK → reply.new ≡ reply.old }
+{
+    let Some(access) = LabelAccess::of(subject, mode, security, integrity) else {
+        return EINVAL;
+    };
+    decide_access(opened, &access, reply)
+}
 
-    /// Whether the subject is known and both labels are within the bounds.
-    fn has_bounds(&self, state: &State) -> bool
-        ensures { result ≡ has_bounds state.now self.now }
-    {
-        state.is_subject(self.subject)
-            && state.security().has(self.security.label())
-            && state.integrity().has(self.integrity.label())
-    }
+/// Decides by the numbers of labels in their mode, by one word of categories each where they have no other.
+#[inline(always)]
+fn decide_in(
+    opened: &Opened,
+    subject: u16,
+    mode: u8,
+    known: Mode,
+    security: &LabelNumbers,
+    integrity: &LabelNumbers,
+    reply: &mut u16,
+) -> i32
+    requires { mode_at mode ≡ Some known }
+    ensures status { result ≡ label_status (Some opened.now) (access_of subject mode security.now integrity.now) }
+    ensures answered { result ≡ OK
+        → HasLabelReply (Some opened.now) (access_of subject mode security.now integrity.now) reply.new }
+    ensures silent { result ≢ OK → reply.new ≡ reply.old }
+{
+    let Some(secrecy) = security.short_label() else {
+        return decide_long(opened, subject, mode, security, integrity, reply);
+    };
+    let Some(trust) = integrity.short_label() else {
+        return decide_long(opened, subject, mode, security, integrity, reply);
+    };
+    let access = LabelAccess {
+        subject: SubjectId::new(subject),
+        mode: known,
+        security: SecLabel::of(secrecy),
+        integrity: IntLabel::of(trust),
+    };
+    decide_access(opened, &access, reply)
+}
 
-    /// What the conditions say of the access of a known subject.
-    #[tactic(auto, using(mls_facts::proofs::Entries::at_new))]
-    fn verdict(&self, state: &State) -> Reply
-        requires { IsTrue (has_bounds state.now self.now) }
-        ensures { result ≡ reply_unless (first_failing (label_conditions state.now self.now)) Yes }
-    {
-        let subject = state.subject(self.subject);
-        if !simple_between(&subject.maximum, &self.security, self.mode) {
-            return Reply::No(Reason::Simple);
-        }
-        if !subject.trusted && !star_between(&subject.current, &self.security, self.mode) {
-            return Reply::No(Reason::Star);
-        }
-        if !integrity_between(&subject.integrity, &self.integrity, self.mode) {
-            return Reply::No(Reason::Integrity);
-        }
-        Reply::Yes
-    }
-
-    /// What is said of the access.
-    fn reply(&self, state: &State) -> Reply
-        ensures { result ≡ label_reply state.now self.now }
-    {
-        if !self.has_bounds(state) {
-            return Reply::Undefined;
-        }
-        self.verdict(state)
-    }
+/// Decides by the numbers of labels in a mode that is known when it runs. It isn't put where it is called, so that reads
+/// pay nothing for other modes.
+#[inline(never)]
+fn decide_mode(
+    opened: &Opened,
+    subject: u16,
+    mode: u8,
+    security: &LabelNumbers,
+    integrity: &LabelNumbers,
+    reply: &mut u16,
+) -> i32
+    ensures status { result ≡ label_status (Some opened.now) (access_of subject mode security.now integrity.now) }
+    ensures answered { result ≡ OK
+        → HasLabelReply (Some opened.now) (access_of subject mode security.now integrity.now) reply.new }
+    ensures silent { result ≢ OK → reply.new ≡ reply.old }
+{
+    let Some(known) = mode_at(mode) else {
+        return EINVAL;
+    };
+    decide_in(opened, subject, mode, known, security, integrity, reply)
 }
 
 /// Decides by the numbers of labels.
@@ -116,12 +132,18 @@ fn decide_labels(
         → HasLabelReply (Some opened.now) (access_of subject mode security.now integrity.now) reply.new }
     ensures silent { result ≢ OK → reply.new ≡ reply.old }
 {
-    let Some(access) = LabelAccess::of(subject, mode, security, integrity) else {
-        return EINVAL;
-    };
-    let said = access.reply(opened.state());
-    *reply = number_of_reply(&said);
-    OK
+    if mode == 1 {
+        return decide_in(
+            opened,
+            subject,
+            mode,
+            Mode::Read,
+            security,
+            integrity,
+            reply,
+        );
+    }
+    decide_mode(opened, subject, mode, security, integrity, reply)
 }
 
 /// What simple security, star and integrity say of an access in a mode to what has these labels and isn't an object:

@@ -1,13 +1,13 @@
 //! Opening an office with an open monitor, handing its sessions out and taking them back, and closing it.
 ghost use Rattle.std.specs.Prelude.{◌≡◌, ◌≢◌, Some, None};
 ghost use Rattle.mls_c.specs.Offices.{OfficeStatus, OpensOffice, HandStatus, HandsOut, ReturnStatus, TakesBack};
-ghost use Rattle.mls_c.specs.Offices.{IsOfOffice, CloseStatus, ClosesOffice, AreOut, seats_of};
+ghost use Rattle.mls_c.specs.Offices.{IsOfOffice, CloseStatus, ClosesOffice, AreOut, seats_of, opened_of};
 ghost use Rattle.mls_c.specs.declared.status.TheConstants.{OK};
 
 use crate::hall::Hall;
 use crate::handle::Mls;
 use crate::office_handle::MlsOffice;
-use crate::seats::{BackFaultKind, HandFault};
+use crate::seats::HandFault;
 use crate::session_handle::MlsSession;
 use crate::status::{EBUSY, ECLOSED, EINVAL, ENOMEM, EOPEN, OK};
 use mls_sessions::MAX_SESSIONS;
@@ -76,6 +76,7 @@ fn hand(hall: &mut Hall, alloc: Global, s: &mut MlsSession) -> i32
 }
 
 /// Hands the last of the sessions at home out, into a closed handle.
+#[tactic(auto, using(crate::proofs::Offices::same_opened))]
 #[unsafe(no_mangle)]
 pub extern "C" fn mls_office_hand_out(
     office: &mut MlsOffice,
@@ -85,6 +86,7 @@ pub extern "C" fn mls_office_hand_out(
     ensures status { HandStatus (seats_of office.old.hall.value) s.old.place.value result }
     ensures handed { result ≡ OK
         → HandsOut (seats_of office.old.hall.value) (seats_of office.new.hall.value) s.new.place.value }
+    ensures opened { opened_of office.new.hall.value ≡ opened_of office.old.hall.value }
     ensures same { result ≢ OK → office.new.hall.value ≡ office.old.hall.value }
     ensures silent { result ≢ OK → s.new.place.value ≡ s.old.place.value }
 {
@@ -120,18 +122,16 @@ fn take_back(hall: &mut Hall, alloc: Global, s: &mut MlsSession) -> i32
     };
     match seats.take_back(place) {
         Ok(()) => OK,
-        Err(fault) => {
-            s.put(fault.place);
-            match fault.kind {
-                BackFaultKind::OutOfOrder => EINVAL,
-                BackFaultKind::Memory => ENOMEM,
-            }
+        Err(place) => {
+            s.put(place);
+            EINVAL
         }
     }
 }
 
-/// Takes a session of the office back, whose number is above those at home. The caller has to know that it is of this
-/// office: c/mls.c compares what it noted when it handed the session out.
+/// Takes a session of the office back, whose number is above those at home. It needs no memory. The caller has to know
+/// that it is of this office: c/mls.c compares what it noted when it handed the session out.
+#[tactic(auto, using(crate::proofs::Offices::same_opened))]
 #[unsafe(no_mangle)]
 pub extern "C" fn mls_office_take_back(
     office: &mut MlsOffice,
@@ -142,6 +142,7 @@ pub extern "C" fn mls_office_take_back(
     ensures status { ReturnStatus (seats_of office.old.hall.value) s.old.place.value result }
     ensures back { result ≡ OK
         → TakesBack (seats_of office.old.hall.value) s.old.place.value (seats_of office.new.hall.value) }
+    ensures opened { opened_of office.new.hall.value ≡ opened_of office.old.hall.value }
     ensures closed { result ≡ OK → s.new.place.value ≡ None }
     ensures same { result ≢ OK → office.new.hall.value ≡ office.old.hall.value }
     ensures silent { result ≢ OK → s.new.place.value ≡ s.old.place.value }

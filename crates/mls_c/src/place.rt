@@ -100,6 +100,7 @@ impl Place {
         ensures office { self.new.office ≡ self.old.office }
         ensures ok { IfOk result
             (λ e. Submits self.old.office.charter self.old.session.view request e self.new.session.view) }
+        ensures number { number_of self.new.session.view ≡ number_of self.old.session.view }
         ensures err { OnErr result (self.new ≡ self.old) }
         ensures alone { self.old.office.charter.count ≡ 1 → IfErr result (λ fault. fault ≢ TryFault.Busy) }
     {

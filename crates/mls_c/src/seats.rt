@@ -1,8 +1,10 @@
 //! An office with those of its sessions that are at home.
 ghost use Rattle.std.specs.Prelude.{◌≡◌, ◌<◌, ◌∷◌, [], ◌++◌, length, IfOk, IfErr, OnOk, OnErr, IsErr, IsTrue};
+ghost use Rattle.std.specs.Bool.{Decides};
 ghost use Rattle.mls_sessions.specs.Journals.{journal_of};
 ghost use Rattle.mls_sessions.specs.Rule.{begun, base};
-ghost use Rattle.mls_sessions.specs.Sessions.{Leaves, is_count, newcomers};
+ghost use Rattle.mls_sessions.specs.Sessions.{Leaves, is_count, newcomers, number_of};
+ghost use Rattle.mls_c.specs.Offices.{NumbersBelow};
 
 use crate::place::Place;
 use mls_monitor::Monitor;
@@ -15,17 +17,16 @@ use std::sync::Arc;
 #[derive(Drop)]
 pub struct Seats {
     office: Arc<Office, Global>,
+    /// It has room for all sessions, so that none needs memory to come back.
     home: Vec<Session>,
-    /// All numbers at home are below this.
-    above: u64,
     count: u16,
 }
 
 impl Model for Seats {
-    ghost use Rattle.std.specs.Prelude.{◌≡◌};
+    ghost use Rattle.std.specs.Prelude.{◌≡◌, ◌≤◌, vec_capacity};
     ghost use Rattle.std.specs.Arc.{arc_value};
     ghost use Rattle.mls_sessions.specs.Sessions.{Ascending};
-    ghost use Rattle.mls_c.specs.Offices.{Seats, seats_code, NumbersBelow};
+    ghost use Rattle.mls_c.specs.Offices.{Seats, seats_code};
 
     ghost Value = { Seats };
 
@@ -33,8 +34,8 @@ impl Model for Seats {
 
     ghost view = { λ t. record { office = arc_value t.office; home = t.home.items } };
 
-    ghost invariant = { λ t. Ascending (arc_value t.office) 0 t.home.items × NumbersBelow t.above t.home.items
-        × ((arc_value t.office).charter.count ≡ t.count) };
+    ghost invariant = { λ t. Ascending (arc_value t.office) 0 t.home.items
+        × ((arc_value t.office).charter.count ≡ t.count) × (t.count ≤ vec_capacity t.home) };
 }
 
 /// Why a session isn't handed out.
@@ -46,28 +47,12 @@ pub enum HandFault {
     Memory,
 }
 
-/// Why a session isn't taken back.
-#[derive(Clone, Copy)]
-pub enum BackFaultKind {
-    /// Its number isn't above those at home.
-    OutOfOrder,
-    /// An allocation failed.
-    Memory,
-}
-
-/// A session that isn't taken back: why, and the session as it was handed in.
-#[derive(Drop)]
-pub struct BackFault {
-    pub kind: BackFaultKind,
-    pub place: Box<Place, Global>,
-}
-
 impl Seats {
     /// Opens a monitor to so many sessions, which are all at home.
     ///
     /// # Errors
     /// `Memory` where an allocation failed, with the monitor: its start and journal are as they were.
-    #[tactic(auto, using(crate::proofs::Offices::all_below, crate::proofs::Offices::leaves_as_opened))]
+    #[tactic(auto, using(crate::proofs::Offices::leaves_as_opened))]
     pub(crate) fn open(alloc: Global, monitor: Monitor, count: u16) -> Result<Seats, OfficeFault>
         requires { IsTrue (is_count count) }
         ensures start { IfOk result (λ t. begun t.office.charter ≡ monitor.start) }
@@ -82,7 +67,6 @@ impl Seats {
             Ok(office) => Ok(Seats {
                 office,
                 home,
-                above: u64::from(count),
                 count,
             }),
             Err(refused) => match refused.value.close(home) {
@@ -99,11 +83,12 @@ impl Seats {
     ///
     /// # Errors
     /// `NoneLeft` where none is at home, `Memory` where an allocation failed; all is then as before.
-    #[tactic(auto, using(crate::proofs::Offices::ascending_last, crate::proofs::Offices::below_last))]
+    #[tactic(auto, using(crate::proofs::Offices::ascending_last))]
     pub(crate) fn hand_out(&mut self, alloc: Global) -> Result<Box<Place, Global>, HandFault>
         ensures office { self.new.office ≡ self.old.office }
         ensures ok { IfOk result (λ p. (p.value.office ≡ self.old.office)
             × (self.old.home ≡ self.new.home ++ p.value.session ∷ [])) }
+        ensures none { IfErr result (λ fault. fault ≡ HandFault.NoneLeft → self.old.home ≡ []) }
         ensures err { OnErr result (self.new ≡ self.old) }
     {
         let Ok(office) = Arc::try_clone(&self.office) else {
@@ -112,12 +97,8 @@ impl Seats {
         let Some(session) = self.home.pop() else {
             return Err(HandFault::NoneLeft);
         };
-        let number = session.number();
         match Box::new(alloc, Place::of(office, session)) {
-            Ok(place) => {
-                self.above = u64::from(number);
-                Ok(place)
-            }
+            Ok(place) => Ok(place),
             Err(refused) => {
                 self.home.push_reserved(refused.value.into_session());
                 Err(HandFault::Memory)
@@ -125,35 +106,36 @@ impl Seats {
         }
     }
 
-    /// Takes a session of the office back.
+    /// Whether a number is above those of the sessions at home.
+    #[tactic(auto, using(crate::proofs::Offices::below_by_last, crate::proofs::Offices::last_below))]
+    fn is_above(&self, number: u32) -> bool
+        ensures { Decides result (NumbersBelow number self.now.home) }
+    {
+        match self.home.last() {
+            Some(last) => last.number() < number,
+            None => true,
+        }
+    }
+
+    /// Takes a session of the office back. It needs no memory.
     ///
     /// # Errors
-    /// `OutOfOrder` where its number isn't above those at home, `Memory` where an allocation failed; with the session as
-    /// it was handed in, and all is as before.
-    #[tactic(auto, using(crate::proofs::Offices::one_more, crate::proofs::Offices::below_more))]
-    pub(crate) fn take_back(&mut self, place: Box<Place, Global>) -> Result<(), BackFault>
+    /// The session as it was handed in, where its number isn't above those at home; all is then as before.
+    #[tactic(auto, using(crate::proofs::Offices::one_more))]
+    pub(crate) fn take_back(&mut self, place: Box<Place, Global>) -> Result<(), Box<Place, Global>>
         requires { place.value.office ≡ self.old.office }
         ensures office { self.new.office ≡ self.old.office }
+        ensures above { OnOk result (NumbersBelow (number_of place.value.session.view) self.old.home) }
+        ensures order { OnErr result (NumbersBelow (number_of place.value.session.view) self.old.home → ⊥) }
         ensures ok { OnOk result (self.new.home ≡ self.old.home ++ place.value.session ∷ []) }
         ensures err { OnErr result (self.new ≡ self.old) }
-        ensures given { IfErr result (λ fault. fault.place.value ≡ place.value) }
+        ensures given { IfErr result (λ same. same.value ≡ place.value) }
     {
-        let number = u64::from(place.number());
-        if number < self.above {
-            return Err(BackFault {
-                kind: BackFaultKind::OutOfOrder,
-                place,
-            });
-        }
-        if self.home.reserve(1).is_err() {
-            return Err(BackFault {
-                kind: BackFaultKind::Memory,
-                place,
-            });
+        if !self.is_above(place.number()) {
+            return Err(place);
         }
         self.home
             .push_reserved(Box::into_inner(place).into_session());
-        self.above = number + 1;
         Ok(())
     }
 
@@ -172,7 +154,6 @@ impl Seats {
         let Seats {
             office,
             home,
-            above,
             count,
         } = self;
         match Arc::try_unwrap(office) {
@@ -183,7 +164,6 @@ impl Seats {
             Err(office) => Err(Seats {
                 office,
                 home,
-                above,
                 count,
             }),
         }

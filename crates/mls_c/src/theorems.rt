@@ -13,7 +13,7 @@ ghost use Rattle.mls_journal.specs.EntryText.{LabelHasRanges, ActionHasRanges, H
 ghost use Rattle.mls_explain.specs.declared.condition.Condition.{Condition as ConditionView};
 ghost use Rattle.mls_c.specs.Conditions.{BasisHasRanges, numbers_of_condition, condition_count};
 ghost use Rattle.mls_c.specs.LabelAsking.{get_of, HasLabels, has_bounds, label_conditions, label_reply};
-ghost use Rattle.mls_c.specs.declared.label_asking.LabelAccess.{LabelAccess as AccessView};
+ghost use Rattle.mls_c.specs.declared.label_access.LabelAccess.{LabelAccess as AccessView};
 ghost use Rattle.mls_c.specs.Labels.{label_of, numbers_of_label};
 ghost use Rattle.mls_c.specs.Requests.{request_of, numbers_of_request};
 ghost use Rattle.mls_c.specs.Answers.{number_of_reply, object_of_reply, numbers_of_entry};

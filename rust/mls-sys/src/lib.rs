@@ -117,11 +117,12 @@ pub const MLS_INIT: mls_monitor = mls_monitor { held: 0, monitor: ptr::null_mut(
 pub struct mls_office {
     pub held: u32,
     pub hall: *mut c_void,
+    pub serial: u64,
     pub count: u16,
 }
 
 /// A closed office.
-pub const MLS_OFFICE_INIT: mls_office = mls_office { held: 0, hall: ptr::null_mut(), count: 0 };
+pub const MLS_OFFICE_INIT: mls_office = mls_office { held: 0, hall: ptr::null_mut(), serial: 0, count: 0 };
 
 /// The handle of a session of an office. Its fields are the library's.
 #[repr(C)]
@@ -129,13 +130,12 @@ pub const MLS_OFFICE_INIT: mls_office = mls_office { held: 0, hall: ptr::null_mu
 pub struct mls_session {
     pub held: u32,
     pub place: *mut c_void,
-    pub office: *mut c_void,
+    pub office: u64,
     pub number: u16,
 }
 
 /// A closed handle of a session.
-pub const MLS_SESSION_INIT: mls_session =
-    mls_session { held: 0, place: ptr::null_mut(), office: ptr::null_mut(), number: 0 };
+pub const MLS_SESSION_INIT: mls_session = mls_session { held: 0, place: ptr::null_mut(), office: 0, number: 0 };
 
 /// An office has no more sessions than this.
 pub const MLS_SESSIONS: u16 = 64;

@@ -39,7 +39,7 @@ macro_rules! layout {
 fn layouts() -> Vec<Layout> {
     vec![
         layout!(mls_monitor: held monitor),
-        layout!(mls_office: held hall count),
+        layout!(mls_office: held hall serial count),
         layout!(mls_session: held place office number),
         layout!(mls_label: level categories),
         layout!(mls_request: action mode subject other object security integrity),

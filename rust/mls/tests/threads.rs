@@ -99,3 +99,15 @@ fn an_office_is_closed_with_its_sessions_alone() {
     drop(sessions.remove(1));
     assert!(office.close(sessions).is_err());
 }
+
+#[test]
+fn no_office_takes_the_sessions_of_one_that_was_dropped() {
+    for _ in 0..20 {
+        let (office, stale) = Office::open(Monitor::open(START).unwrap(), 2).unwrap();
+        drop(office);
+        let (office, sessions) = Office::open(Monitor::open(START).unwrap(), 2).unwrap();
+        let CloseError { office, sessions: mut stale } = office.close(stale).unwrap_err();
+        assert!(stale[1].get(Subject(0), Object(1), Mode::Read).unwrap().is_granted());
+        assert_eq!(office.close(sessions).unwrap().entry_count(), 0);
+    }
+}
