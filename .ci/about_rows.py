@@ -173,7 +173,7 @@ def words_that_ask_about_nothing():
     for words in rows:
         status, output, error = ran_program(["about", *words])
         same((words, status, output, bool(error)), (words, 2, b"", True))
-    refused(["--journal", "j", "--marks", "m", "--when", "now", STANDARD, "bob"], "mls: --when now: no time\n", 2)
+    refused(["--journal", "j", "--marks", "m", "--when", "now", STANDARD, "bob"], f"mls: --when now: {time_rows.NO_TIME}\n", 2)
 
 
 def about_by_chance(world):

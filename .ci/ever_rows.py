@@ -160,7 +160,7 @@ def faults_of_ever_in_their_order():
     refused(asks("opened.journal", HELD, "memmo"), "mls: memmo: bad name (memo?)\n")
     refused(asks("no.journal", "--from", "3", "--to", "2", "no.json", "file"), "mls: --from 3: above --to 2\n", 2)
     for option in ("--since", "--until"):
-        refused(asks("no.journal", "--marks", "no.marks", option, "now", "no.json", "file"), f"mls: {option} now: no time\n", 2)
+        refused(asks("no.journal", "--marks", "no.marks", option, "now", "no.json", "file"), f"mls: {option} now: {time_rows.NO_TIME}\n", 2)
 
 
 def words_that_ask_for_nothing_ever():

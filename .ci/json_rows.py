@@ -6,6 +6,8 @@ import shlex
 
 import marks
 import question_worlds as worlds
+import time_rows
+from about_rows import JOURNAL
 from compare_rows import newer, variant
 from outside import EXAMPLES, TOP, example, in_its_folder, put, ran_program, same, some
 from policy import MODES, words_of
@@ -72,11 +74,15 @@ def explain_lines(row, subject):
     return "".join(lines)
 
 
-def who_line(row):
-    front = f"{named(row, 'subject')} {row['mode']}"
+def get_words(row):
+    """What is told of a permission: whether its get would be granted."""
     if row["granted"]:
-        return f"{front} yes\n"
-    return f"{front} no {row['reason']}, " + ("never\n" if row["remedy"] is None else f"level {row['remedy']}\n")
+        return "yes"
+    return f"no {row['reason']}, " + ("never" if row["remedy"] is None else f"level {row['remedy']}")
+
+
+def who_line(row):
+    return f"{named(row, 'subject')} {row['mode']} {get_words(row)}\n"
 
 
 def ever_line(row):
@@ -119,6 +125,31 @@ def state_line(row):
     trusted = " trusted" if row.get("trusted") else ""
     parent = f" parent {named(row, 'parent')}" if kind == "object" and row.get("parent", 0) is not None else ""
     return f"{kind} {named(row, kind)}{labels}{trusted}{parent}\n"
+
+
+def counted(row):
+    """How many entries a subject asked, how many were denied, and which was the last."""
+    last = "" if row["last"] is None else f", last {row['last']}" + ("" if "last_time" not in row else f" [{row['last_time'] or '-'}]")
+    return f"{row['entries']} {'entry' if row['entries'] == 1 else 'entries'}, {row['denied']} denied{last}\n"
+
+
+def entry_line(row):
+    """A line of the journal, with its time where there is one."""
+    time = f"[{row['time'] or '-'}] " if "time" in row else ""
+    return f"{time}{row['number']} session {row['session']} {asked(row)}: {reply(row)}\n"
+
+
+def about_line(row):
+    """What is told of a subject or of an object, by its kind: a thing is told as by `mls state`."""
+    words = {
+        "permit": lambda: f"permit {access(row)}: {get_words(row)}\n",
+        "who": lambda: f"{named(row, 'subject')} {row['mode']} {get_words(row)}\n",
+        "child": lambda: f"child {named(row, 'object')}\n",
+        "power": lambda: powers_line(row),
+        "asked": lambda: counted(row),
+        "entry": lambda: entry_line(row),
+    }
+    return words.get(row["kind"], lambda: state_line(row))()
 
 
 def held_line(row):
@@ -169,7 +200,8 @@ def summary_lines(row):
 
 
 LINES = {
-    "check": check_lines, "verify": verify_lines, "ask": ask_lines, "explain": explain_lines, "who": who_line, "ever": ever_line, "powers": powers_line, "lint": lint_line,
+    "check": check_lines, "verify": verify_lines, "ask": ask_lines, "explain": explain_lines, "who": who_line, "ever": ever_line, "powers": powers_line,
+    "about": about_line, "lint": lint_line,
     "state": state_line, "held": held_line, "usage": usage_line, "compare": compare_line, "summary": summary_lines,
 }
 # The objects that were met, by their schema, each once; all of them are held to it at the end.
@@ -194,6 +226,51 @@ def told(schema, words, *more):
     if schema in WHOLE and status in (0, 4):
         same((words, len(rows)), (words, 1))
     same((words, "".join(LINES[schema](it, *more) for it in rows)), (words, text.decode()))
+    return rows
+
+
+def is_child(row, name):
+    """Whether a thing of a state is an object whose parent has this name."""
+    return row["kind"] == "object" and row.get("parent", 0) is not None and named(row, "parent") == name
+
+
+def of_kind(rows, kind):
+    """The objects of a kind, without it."""
+    return [{key: it for key, it in row.items() if key != "kind"} for row in rows if row["kind"] == kind]
+
+
+def told_of_subject(files, name, things, entries):
+    """What there is to tell of a subject, as `state` and `powers` tell it, and counted by hand."""
+    rows = told("about", ["about", *files, name])
+    same([it for it in rows if it["kind"] == "subject"], [it for it in things if it["kind"] == "subject" and named(it, "subject") == name])
+    same([it for it in rows if it["kind"] == "access"], [it for it in things if it["kind"] == "access" and named(it, "subject") == name])
+    same([access(it) for it in of_kind(rows, "permit")], [access(it) for it in things if it["kind"] == "permit" and named(it, "subject") == name])
+    same(of_kind(rows, "power"), rows_of("powers", ran_program(["powers", "--json", *files, name])[1]))
+    mine = [it for it in entries if named(it, "subject") == name]
+    last = mine[-1]["number"] if mine else None
+    same(of_kind(rows, "asked"), [{"entries": len(mine), "denied": sum(it["reply"] == "no" for it in mine), "last": last}])
+    given = [it for it in entries if it["action"] in ("give", "rescind") and named(it, "whose") == name]
+    same([entry_line(it) for it in of_kind(rows, "entry")], [entry_line(it) for it in given])
+
+
+def told_of_object(files, name, things):
+    """What there is to tell of an object, as `state` and `who` tell it."""
+    rows = told("about", ["about", "--as-object", *files, name])
+    same([it for it in rows if it["kind"] == "object"], [it for it in things if it["kind"] == "object" and named(it, "object") == name])
+    same([it for it in rows if it["kind"] == "access"], [it for it in things if it["kind"] == "access" and named(it, "object") == name])
+    children = [it for it in things if it["kind"] == "object" and it.get("parent", 0) is not None and named(it, "parent") == name]
+    same([named(it, "object") for it in of_kind(rows, "child")], [named(it, "object") for it in children])
+    same(of_kind(rows, "who"), rows_of("who", ran_program(["who", "--json", *files, name])[1]))
+
+
+def told_of_names(start, journal, subjects, objects):
+    """What there is to tell of subjects and objects over a journal."""
+    things = rows_of("state", ran_program(["state", "--json", start, journal])[1])
+    entries = rows_of("journal", ran_program(["journal", "--json", start, journal])[1])
+    for name in subjects:
+        told_of_subject(["--journal", journal, start], name, things, entries)
+    for name in objects:
+        told_of_object(["--journal", journal, start], name, things)
 
 
 def told_of_state(words, state, lines):
@@ -203,9 +280,12 @@ def told_of_state(words, state, lines):
         told("explain", ["explain", *words, line], line.split()[0])
     for o in sorted(state.label)[:4]:
         told("who", ["who", *words, f"#{o}"])
+        told("about", ["about", *words, f"#{o}"])
         if "--journal" in words and "--at" not in words:
             told("ever", ["who", "--ever", *words, f"#{o}"])
     told("powers", ["powers", *words])
+    for name in state.subjects[:3]:
+        told("about", ["about", *words, name])
 
 
 def told_of_journal(world):
@@ -238,6 +318,10 @@ def worlds_told(world):
     other = put("other.json", worlds.other(world.rnd, world.text).encode())
     told("compare", ["compare", world.start, other], world.start, other)
     told("compare", ["compare", world.start, other, world.journal], world.start, other)
+    told_of_names(world.start, world.journal, [world.rnd.choice(world.opening.subjects)], [world.rnd.choice(world.opening.objects)])
+    words = ["--journal", world.journal, "--marks", time_rows.noted(time_rows.marks_by_chance(world.rnd, world)), world.start]
+    told("about", ["about", *words, world.rnd.choice(world.opening.subjects)])
+    told("about", ["about", *words, f"#{world.rnd.choice(sorted(world.last.label))}"])
 
 
 def example_told(world):
@@ -263,6 +347,7 @@ def files_of_the_documents():
     put("held.journal", OPENED)
     put("ever.journal", OPENED + b"5 0 1 level 1 yes\n")
     put("level.journal", b"0 0 0 get-read 1 yes\n")
+    put("given.journal", b"0 0 2 get-write 0 yes\n1 0 2 give read 2 1 yes\n")
     put("j", b"0 0 0 get-read 1 yes\n1 0 1 get-read 2 no star\n")
     put("m", b"1 2026-11-27T11:12:26.736512Z 765eb9d97a9b040bee356c47e7004317d02df95214218903b329cc21a3edec2d\n")
     same(ran_program(["run", "--journal", "standard.journal", STANDARD, f"{EXAMPLES}/standard.script"])[0], 0)
@@ -313,6 +398,13 @@ def objects_of_each_form():
         put("e", LEVELS)
         put("em", marks.text_of(marks.made(LEVELS, ends, TIMES[: len(ends)])))
         told("ever", ["who", "--ever", "--journal", "e", "--marks", "em", STANDARD, "memo"])
+        for name in ("bob", "memo"):
+            told("about", ["about", "--journal", "e", "--marks", "em", STANDARD, name])
+    put("about.journal", JOURNAL)
+    put("about.marks", marks.text_of(marks.made(JOURNAL, [3, 9], TIMES)))
+    for name in ("bob", "aud", "sec", "plans", "#4", "#5", "#6"):
+        for more in ([], ["--marks", "about.marks"]):
+            told("about", ["about", "--journal", "about.journal", *more, STANDARD, name])
 
 
 # Names that are words of lines.
@@ -338,9 +430,32 @@ def names_that_are_words_of_lines():
         told(schema, [*words, first, "j"])
     told("ever", ["who", "--ever", "--journal", "j", first, "meets"])
     told("powers", ["powers", first])
+    for name in (*WORDS.values(), "#4"):
+        if name in text and name not in ("undefined", "none", "start"):
+            told("about", ["about", "--journal", "j", first, name])
     told("lint", ["lint", first])
     for line in ("subject level yes", "entry relabel meets T", "no get-read meets"):
         told("explain", ["explain", "--journal", "j", first, line], line.split()[0])
+
+
+# Names with which a line about one tells another as well, if it is looked at alone: of subjects, of objects and of levels.
+CONFUSED = [
+    ("level permit access subject", "yes write level read", "read execute write append"),
+    ("level subject permit access", "read maximum U never", "U maximum current integrity"),
+    ("gives creates object relabels", "and under down to", "yes no level never"),
+    ("0 object child 1", "session security parent 0", "entries denied last security"),
+]
+GIVEN = b"5 0 2 create 0 0 0 created 4\n6 0 2 give read 1 4 yes\n7 0 0 give write 0 1 no authority\n"
+
+
+@in_its_folder
+def names_that_confuse_lines():
+    """What there is to tell of one is told as the other commands tell it, whatever names subjects, objects and levels have."""
+    put("names.journal", OPENED + GIVEN)
+    for subjects, objects, levels in CONFUSED:
+        names = dict(zip("ann bob sec aud root plans memo tool U C S T".split(), f"{subjects} {objects} {levels}".split()))
+        put("names.json", json.dumps(worlds.renamed(json.loads(example("held.json")), names)).encode())
+        told_of_names("names.json", "names.journal", subjects.split(), objects.split())
 
 
 def words_that_do_not_fit():
@@ -375,7 +490,7 @@ def objects_fit_their_schemas():
             assert not schema.is_valid({key: it for key, it in row.items() if key != first}), f"{name} takes less than: {line}"
 
 
-CHECKS = [objects_of_the_documents, objects_of_each_form, names_that_are_words_of_lines, words_that_do_not_fit]
+CHECKS = [objects_of_the_documents, objects_of_each_form, names_that_are_words_of_lines, names_that_confuse_lines, words_that_do_not_fit]
 OF_WORLDS = [worlds_told]
 LAST = objects_fit_their_schemas
 UNFIT = {} if jsonschema else {LAST: "python3-jsonschema isn't installed"}

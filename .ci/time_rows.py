@@ -13,6 +13,8 @@ STANDARD = f"{EXAMPLES}/standard.json"
 MICROSECOND, SECOND = 1_000, marks.SECOND
 DAY = 86_400 * SECOND
 LINE = "ann get-read plans"
+# What is told of a word that is no time.
+NO_TIME = "no time such as 2026-11-27T12:12:26Z or 2026-11-27"
 
 
 def said(*words):
@@ -264,12 +266,12 @@ def words_that_are_no_times():
     for word in some(WORDS, 2):
         for command, option in (("journal", "since"), ("journal", "until"), ("state", "when")):
             words = [command, "--marks", "no.marks", f"--{option}={word}", "no.json", "no.journal"]
-            refused(words, f"mls: --{option} {word}: no time\n", 2)
+            refused(words, f"mls: --{option} {word}: {NO_TIME}\n", 2)
     for command in ("ask", "explain", "who"):
-        refused([command, "--journal", "no.journal", "--marks", "no.marks", "--when", "x", "no.json", LINE], "mls: --when x: no time\n", 2)
+        refused([command, "--journal", "no.journal", "--marks", "no.marks", "--when", "x", "no.json", LINE], f"mls: --when x: {NO_TIME}\n", 2)
     # (of two the first in this order)
     both = ["--since=x", "--until=y"]
-    refused(["journal", "--marks", "m", *both, "no.json", "no.journal"], "mls: --since x: no time\n", 2)
+    refused(["journal", "--marks", "m", *both, "no.json", "no.journal"], f"mls: --since x: {NO_TIME}\n", 2)
     refused(["journal", "--marks", "m", *both, "--reply=z", "no.json", "no.journal"], "mls: --reply z: begins no reply\n", 2)
     refused(["journal", "--marks", "m", *both, "--from=2", "--to=1", "no.json", "no.journal"], "mls: --from 2: above --to 1\n", 2)
 

@@ -1,4 +1,5 @@
 //! The forms of the lines of each command. The first that a line has tells it.
+mod about;
 mod common;
 mod compared;
 mod explained;
@@ -7,6 +8,7 @@ mod starts;
 mod subjects;
 mod whole;
 
+pub(crate) use about::{ABOUT_OBJECT, ABOUT_SUBJECT, ABOUT_WORD};
 pub(crate) use compared::COMPARE;
 pub(crate) use explained::{EXPLAIN, EXPLAIN_LEVEL};
 pub(crate) use spans::{EVER_HEAD, EVER_SPANS, HELD, USAGE};

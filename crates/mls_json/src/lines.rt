@@ -1,8 +1,8 @@
 //! Which lines a text has.
 use crate::ever::SpanForms;
 use crate::forms::{
-    ASK, CHECK, COMPARE, EVER_HEAD, EVER_SPANS, EXPLAIN, EXPLAIN_LEVEL, HELD, LINT, POWERS, STATE,
-    SUMMARY, USAGE, VERIFY, WHO,
+    ABOUT_OBJECT, ABOUT_SUBJECT, ABOUT_WORD, ASK, CHECK, COMPARE, EVER_HEAD, EVER_SPANS, EXPLAIN,
+    EXPLAIN_LEVEL, HELD, LINT, POWERS, STATE, SUMMARY, USAGE, VERIFY, WHO,
 };
 use crate::table::Table;
 
@@ -17,6 +17,7 @@ pub enum Lines {
     /// Of `who --ever`.
     Ever,
     Powers,
+    About,
     Lint,
     State,
     Held,
@@ -36,6 +37,25 @@ fn explained(text: &str) -> Table {
     }
 }
 
+/// Whether a text tells of a subject whose name is also the first word of a line that tells of one. A line of its powers
+/// begins with its name, and so might be taken for another.
+fn is_of_word(text: &str) -> bool {
+    text.starts_with("subject subject ")
+        || text.starts_with("subject permit ")
+        || text.starts_with("subject access ")
+}
+
+/// The forms of all that there is to tell of a subject or of an object. Of a subject its own line comes first.
+fn told(text: &str) -> Table {
+    if !text.starts_with("subject ") {
+        Table::Each(&ABOUT_OBJECT)
+    } else if is_of_word(text) {
+        Table::Each(&ABOUT_WORD)
+    } else {
+        Table::Each(&ABOUT_SUBJECT)
+    }
+}
+
 impl Lines {
     /// By which forms a text with these lines is told.
     pub fn table(self, text: &str) -> Table {
@@ -50,6 +70,7 @@ impl Lines {
                 spans: &EVER_SPANS,
             }),
             Lines::Powers => Table::Each(&POWERS),
+            Lines::About => told(text),
             Lines::Lint => Table::Each(&LINT),
             Lines::State => Table::Each(&STATE),
             Lines::Held => Table::Each(&HELD),

@@ -78,20 +78,31 @@ impl Page {
         Ok(())
     }
 
-    /// The beginning of a drawing: what is as wide as it, and can be scrolled.
-    fn extent(&mut self, width: u64, height: u64) -> Result<(), AllocError> {
+    /// The beginning of what can be scrolled.
+    fn wide(&mut self) -> Result<(), AllocError> {
         self.markup(
             "<div class=\"wide\" tabindex=\"0\" role=\"group\" aria-label=\"Drawing of the labels\">\n",
-        )?;
+        )
+    }
+
+    /// The beginning of what is as wide as a drawing.
+    fn sheet(&mut self, width: u64) -> Result<(), AllocError> {
         let alloc = self.alloc();
         let broad = format!(in alloc; "width:{width}px")?;
-        self.shaped("<div class=\"sheet\" style=\"", broad, "\">\n")?;
+        self.shaped("<div class=\"sheet\" style=\"", broad, "\">\n")
+    }
+
+    /// The beginning of a drawing.
+    fn extent(&mut self, width: u64, height: u64) -> Result<(), AllocError> {
+        let alloc = self.alloc();
         let extent = format!(in alloc; "0 0 {width} {height}")?;
         self.shaped(DRAWING, extent, "\">\n")
     }
 
     /// A drawing of labels.
     pub(crate) fn draw(&mut self, drawing: &Drawing, nodes: &[Node<'_>]) -> Result<(), AllocError> {
+        self.wide()?;
+        self.sheet(drawing.width)?;
         self.extent(drawing.width, drawing.height)?;
         self.strokes(drawing)?;
         for (index, slot) in drawing.slots.iter().enumerate() {

@@ -36,6 +36,27 @@ impl Page {
         self.number_row("Entries behind the last mark", found.behind)
     }
 
+    /// What was looked at.
+    fn looked_at(&mut self, has_marks: bool) -> Result<(), AllocError> {
+        self.markup(
+            "<p>Each reply in the journal is the one that the rules give after the entries before it. ",
+        )?;
+        if has_marks {
+            self.markup("Each mark agrees with the journal.</p>\n")
+        } else {
+            self.markup("No marks were looked at.</p>\n")
+        }
+    }
+
+    /// The rows of what was verified.
+    fn verified_rows(&mut self, entries: u64, found: Option<&Found<'_>>) -> Result<(), AllocError> {
+        self.number_row("Entries that were replayed", entries)?;
+        match found {
+            Some(found) => self.found_rows(found),
+            None => Ok(()),
+        }
+    }
+
     /// Appends what was verified of a journal of so many entries, and of its marks where they were looked at.
     ///
     /// # Errors
@@ -47,18 +68,9 @@ impl Page {
     ) -> Result<(), AllocError> {
         let section = if found.is_some() { &MARKED } else { &VERIFIED };
         self.section(section)?;
-        self.markup(
-            "<p>Each reply in the journal is the one that the rules give after the entries before it. ",
-        )?;
-        match found {
-            Some(_) => self.markup("Each mark agrees with the journal.</p>\n")?,
-            None => self.markup("No marks were looked at.</p>\n")?,
-        }
+        self.looked_at(found.is_some())?;
         self.markup("<table><caption>When this page was written</caption>\n<tbody>\n")?;
-        self.number_row("Entries that were replayed", entries)?;
-        if let Some(found) = found {
-            self.found_rows(found)?;
-        }
+        self.verified_rows(entries, found)?;
         self.markup("</tbody></table>\n")?;
         self.end_section(section, 0)
     }

@@ -1,6 +1,6 @@
 //! The head of the page, and its end.
 use crate::page::Page;
-use crate::section::SECTIONS;
+use crate::section::{SECTIONS, Section};
 use crate::style::STYLE;
 use std::alloc::{AllocError, Global};
 
@@ -21,28 +21,55 @@ impl Page {
         self.markup("</style>\n")
     }
 
+    /// The link to a section.
+    fn link(&mut self, section: &Section) -> Result<(), AllocError> {
+        self.valued("<li><a href=\"#", section.id, "\">")?;
+        self.within("", section.title, "</a></li>\n")
+    }
+
     /// The links to the sections.
     fn links(&mut self) -> Result<(), AllocError> {
         self.markup("<nav aria-label=\"Sections\"><ul>\n")?;
         for section in &SECTIONS {
-            self.valued("<li><a href=\"#", section.id, "\">")?;
-            self.within("", section.title, "</a></li>\n")?;
+            self.link(section)?;
         }
         self.markup("</ul></nav>\n")
     }
 
-    /// The head of a page about the journal and the start file of these names.
-    fn head(&mut self, start: &str, journal: &str) -> Result<(), AllocError> {
+    /// The title, of the journal of this name, and the style.
+    fn title(&mut self, journal: &str) -> Result<(), AllocError> {
         self.within(TOP, journal, "</title>\n")?;
         self.style()?;
-        self.markup("</head>\n<body>\n<header>\n")?;
+        self.markup("</head>\n<body>\n<header>\n")
+    }
+
+    /// Which two files the page is about.
+    fn files(&mut self, start: &str, journal: &str) -> Result<(), AllocError> {
         self.within("<h1>Report of ", journal, "</h1>\n")?;
         self.within(
             "<p>A journal over the start file <code>",
             start,
             "</code>. ",
         )?;
-        self.markup("START and J below are these two files.</p>\n</header>\n")?;
+        self.markup("START and J below are these two files.</p>\n")
+    }
+
+    /// Which state each section is of, and up to where lists go.
+    fn states(&mut self) -> Result<(), AllocError> {
+        self.markup(
+            "<p>Lattice is of the state that START opens with, Powers of the one after the last ",
+        )?;
+        self.markup(
+            "entry of J, and all else of all entries. The first 2000 lines of a list are shown.</p>\n",
+        )
+    }
+
+    /// The head of a page about the journal and the start file of these names.
+    fn head(&mut self, start: &str, journal: &str) -> Result<(), AllocError> {
+        self.title(journal)?;
+        self.files(start, journal)?;
+        self.states()?;
+        self.markup("</header>\n")?;
         self.links()?;
         self.markup("<main>\n")
     }

@@ -41,7 +41,7 @@ impl Page {
     /// The table of labels.
     fn label_table(&mut self, lattice: &Lattice<'_>) -> Result<(), AllocError> {
         let columns = ["Label", "Covers", "Who and what has it"];
-        self.table("The labels of START", &columns)?;
+        self.table("In the state that START opens with", &columns)?;
         self.markup("<tbody>\n")?;
         for node in lattice.nodes.iter().take(SHOWN) {
             self.label_row(lattice, node)?;

@@ -1,7 +1,7 @@
 //! How the page looks: on a narrow screen and on a wide one, light, dark and on paper.
 
 /// The style of the page, line by line.
-pub(crate) const STYLE: [&str; 64] = [
+pub(crate) const STYLE: [&str; 66] = [
     ":root { color-scheme: light dark; --ink: #1b1b1b; --paper: #ffffff; --soft: #5a5a5a; --rule: #c9c9c9;",
     "  --tint: #f2f2f2; --granted: #1f6f43; --denied: #b3261e; --undefined: #6b6b6b; --held: #1d5fa8;",
     "  --link: #0b57d0; }",
@@ -27,6 +27,7 @@ pub(crate) const STYLE: [&str; 64] = [
     "  border-bottom: 1px solid var(--rule); }",
     "thead th { font-size: .875rem; overflow-wrap: normal; }",
     "th[scope=row] { font-weight: 600; min-width: 7.5rem; }",
+    "th[scope=row]:nth-last-child(2) { min-width: 14ch; }",
     "th[scope=rowgroup] { background: var(--tint); padding: .35rem .5rem; }",
     ".number { font-variant-numeric: tabular-nums; }",
     "td ul { list-style: none; margin: 0; padding: 0; }",
@@ -53,6 +54,7 @@ pub(crate) const STYLE: [&str; 64] = [
     "  th, td { padding-right: .25rem; }",
     "  thead th { font-size: .75rem; }",
     "  th[scope=row] { font-size: .85rem; min-width: 6.75rem; }",
+    "  th[scope=row]:nth-last-child(2) { min-width: 14ch; }",
     "  .bar { min-width: 2rem; }",
     "  .line { width: 33%; }",
     "}",

@@ -1,68 +1,23 @@
 //! The command that prints a page about a journal.
 use crate::answering::{Named, question_refused};
-use crate::report_parts::{Counts, add_denials, add_replayed, add_spans, add_usage};
+use crate::report_parts::add_sections;
 use crate::sources::{Bytes, read_source};
 use mls_page::Page;
-use mls_replay::QuestionFault;
-use mls_reports::ListFault;
+use mls_replay::{QuestionFault, replay_at};
 use mls_terminal::{Progress, ReportWords, Source, print};
 use std::alloc::Global;
 use std::process::ExitCode;
 
-/// The fault of a listing that asks for no subject.
-fn as_asked(fault: ListFault) -> QuestionFault {
-    match fault {
-        ListFault::Question(fault) => fault,
-        ListFault::By => QuestionFault::Subject,
-    }
-}
-
-/// Appends how permissions were used, and the end of the page.
-fn add_rest(
-    alloc: Global,
-    page: &mut Page,
-    start: &[u8],
-    journal: &[u8],
-) -> Result<(), QuestionFault> {
-    match add_usage(alloc, page, start, journal) {
-        Ok(()) => Ok(page.end()?),
-        Err(fault) => Err(fault),
-    }
-}
-
-/// Appends who held what in a journal of so many entries, and all that stands behind.
-fn add_held(
-    alloc: Global,
-    page: &mut Page,
-    start: &[u8],
-    journal: &[u8],
-    entries: u64,
-) -> Result<(), QuestionFault> {
-    match add_spans(alloc, page, start, journal, entries) {
-        Ok(()) => add_rest(alloc, page, start, journal),
-        Err(fault) => Err(fault),
-    }
-}
-
-/// Appends the entries that were denied, and all that stands behind.
-fn add_listed(
-    alloc: Global,
-    page: &mut Page,
-    bytes: &Bytes,
-    journal: &[u8],
-    counts: Counts,
-) -> Result<(), QuestionFault> {
-    match add_denials(alloc, page, bytes, journal, counts.denials) {
-        Ok(()) => add_held(alloc, page, &bytes.start, journal, counts.entries),
-        Err(fault) => Err(as_asked(fault)),
-    }
-}
-
 /// Appends all sections.
 fn add_all(alloc: Global, page: &mut Page, bytes: &Bytes) -> Result<(), QuestionFault> {
     let journal = bytes.journal.as_deref().unwrap_or(b"".as_slice());
-    match add_replayed(alloc, page, bytes, journal) {
-        Ok(counts) => add_listed(alloc, page, bytes, journal, counts),
+    match replay_at(alloc, &bytes.start, journal, None) {
+        Ok(seen) => {
+            let (verified, marks) = (bytes.verified.as_ref(), bytes.marks.as_ref());
+            let done = add_sections(alloc, page, &seen, verified, marks);
+            drop(seen);
+            done
+        }
         Err(fault) => Err(fault),
     }
 }

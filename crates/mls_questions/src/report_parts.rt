@@ -1,22 +1,21 @@
-//! The sections of a page about a journal, each of what another question prints.
-use crate::sources::Bytes;
-use mls_explain_text::list_explained;
-use mls_marks::Verified;
+//! The sections of a page about a journal that was replayed, each of what another question prints.
+use mls_explain_text::{Answer, explain_chosen};
+use mls_marks::{Marks, Verified};
 use mls_monitor::Entry;
 use mls_page::{Found, Page, SHOWN};
-use mls_replay::{QuestionFault, Replay, replay_at};
-use mls_reports::{Choice, Filter, ListFault, ReplyFront, Words, summarize};
+use mls_replay::{QuestionFault, Replay};
+use mls_reports::{Choice, Filter, ListFault, ReplyFront, summarize};
 use mls_requests::{Reply, ReplyWord};
 use mls_review::{Asked, lattice, powers};
-use mls_spans::{Filter as HeldFilter, States, list_held, list_usage};
+use mls_spans::{Choice as HeldChoice, Filter as HeldFilter, States, list_spans, list_usages};
 use std::alloc::{AllocError, Global};
 use std::str;
 
 /// The entries that were denied: how many there are, and the number of the last one that is shown.
 #[derive(Clone, Copy)]
-pub(crate) struct Denials {
-    pub count: usize,
-    pub last: Option<u64>,
+struct Denials {
+    count: usize,
+    last: Option<u64>,
 }
 
 impl Denials {
@@ -36,13 +35,6 @@ impl Denials {
         }
         denials
     }
-}
-
-/// What is found of a journal in one replay: how many entries it has, and the denied ones.
-#[derive(Clone, Copy)]
-pub(crate) struct Counts {
-    pub entries: u64,
-    pub denials: Denials,
 }
 
 /// A text that is ASCII.
@@ -120,33 +112,17 @@ fn add_seen(
     add_powers(alloc, page, seen)
 }
 
-/// Appends what is seen where the journal is replayed once, and counts its entries.
-pub(crate) fn add_replayed(
-    alloc: Global,
-    page: &mut Page,
-    bytes: &Bytes,
-    journal: &[u8],
-) -> Result<Counts, QuestionFault> {
-    let seen = replay_at(alloc, &bytes.start, journal, None)?;
-    let done = add_seen(alloc, page, &seen, bytes.verified.as_ref());
-    let counts = Counts {
-        entries: seen.entries().len() as u64,
-        denials: Denials::of(seen.entries()),
-    };
-    drop(seen);
-    done?;
-    Ok(counts)
-}
-
 /// Appends the entries that were denied, and why.
-pub(crate) fn add_denials(
+fn add_denials(
     alloc: Global,
     page: &mut Page,
-    bytes: &Bytes,
-    journal: &[u8],
-    denials: Denials,
+    seen: &Replay,
+    marks: Option<&Marks>,
 ) -> Result<(), ListFault> {
-    let shown: Words<'_> = Filter {
+    let start = seen.start();
+    let entries = seen.entries();
+    let denials = Denials::of(entries);
+    let shown: Choice = Filter {
         subject: None,
         by: None,
         object: None,
@@ -155,42 +131,78 @@ pub(crate) fn add_denials(
         from: None,
         to: denials.last,
     };
-    let marks = bytes.marks.as_ref();
-    let explained = list_explained(alloc, &bytes.start, journal, marks, &shown)?;
-    let done = page.add_denials(&explained.text, denials.count);
-    drop(explained);
+    let listed = explain_chosen(alloc, seen.names(), start, entries, marks, &shown)?;
+    let done = page.add_denials(&listed.text, denials.count);
+    drop(listed);
     Ok(done?)
 }
 
-/// Appends who held what, over a journal of so many entries.
-pub(crate) fn add_spans(
-    alloc: Global,
-    page: &mut Page,
-    start: &[u8],
-    journal: &[u8],
-    entries: u64,
-) -> Result<(), QuestionFault> {
-    let all = HeldFilter {
+/// Appends who held what.
+fn add_spans(alloc: Global, page: &mut Page, seen: &Replay) -> Result<(), QuestionFault> {
+    let all: HeldChoice = HeldFilter {
         subject: None,
         object: None,
         mode: None,
         states: States::between(None, None),
     };
-    let listed = list_held(alloc, start, journal, &all)?;
-    let done = page.add_spans(alloc, &listed.text, entries);
+    let entries = seen.entries();
+    let listed = list_spans(alloc, seen.names(), seen.start(), entries, &all)?;
+    let done = page.add_spans(alloc, &listed.text, entries.len() as u64);
     drop(listed);
     Ok(done?)
 }
 
+/// How permissions were used, from the opening of the start on.
+fn usage_of(alloc: Global, seen: &Replay) -> Result<Answer, AllocError> {
+    let opening = seen.start().opening(alloc)?;
+    let listed = list_usages(alloc, seen.names(), &opening, seen.entries());
+    drop(opening);
+    listed
+}
+
 /// Appends how permissions were used.
-pub(crate) fn add_usage(
-    alloc: Global,
-    page: &mut Page,
-    start: &[u8],
-    journal: &[u8],
-) -> Result<(), QuestionFault> {
-    let listed = list_usage(alloc, start, journal, States::between(None, None))?;
+fn add_usage(alloc: Global, page: &mut Page, seen: &Replay) -> Result<(), QuestionFault> {
+    let listed = usage_of(alloc, seen)?;
     let done = page.add_usage(&listed.text);
     drop(listed);
     Ok(done?)
+}
+
+/// The fault of a listing that asks for no subject.
+fn as_asked(fault: ListFault) -> QuestionFault {
+    match fault {
+        ListFault::Question(fault) => fault,
+        ListFault::By => QuestionFault::Subject,
+    }
+}
+
+/// Appends how permissions were used, and the end of the page.
+fn add_rest(alloc: Global, page: &mut Page, seen: &Replay) -> Result<(), QuestionFault> {
+    match add_usage(alloc, page, seen) {
+        Ok(()) => Ok(page.end()?),
+        Err(fault) => Err(fault),
+    }
+}
+
+/// Appends who held what, and all that stands behind.
+fn add_held(alloc: Global, page: &mut Page, seen: &Replay) -> Result<(), QuestionFault> {
+    match add_spans(alloc, page, seen) {
+        Ok(()) => add_rest(alloc, page, seen),
+        Err(fault) => Err(fault),
+    }
+}
+
+/// Appends all sections about a journal that was replayed.
+pub(crate) fn add_sections(
+    alloc: Global,
+    page: &mut Page,
+    seen: &Replay,
+    verified: Option<&Verified>,
+    marks: Option<&Marks>,
+) -> Result<(), QuestionFault> {
+    add_seen(alloc, page, seen, verified)?;
+    match add_denials(alloc, page, seen, marks) {
+        Ok(()) => add_held(alloc, page, seen),
+        Err(fault) => Err(as_asked(fault)),
+    }
 }

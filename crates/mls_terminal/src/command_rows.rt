@@ -81,7 +81,8 @@ const MARKS_OF_OPERAND: Argument = Argument {
 const WHEN: Argument = Argument {
     name: "when",
     kind: Kind::TimeForAt,
-    help: "The state after the last batch in MARKS whose time is TIME or earlier",
+    help: "The state after the last batch in MARKS whose time is TIME or earlier; TIME as 2026-11-27T12:12:26+01:00, \
+        or a date as 2026-11-27, in UTC",
 };
 
 /// The arguments of `check`.
@@ -227,7 +228,9 @@ const WHO_ARGUMENTS: [Argument; 12] = [
     Argument {
         name: "ever",
         kind: Kind::FlagOfStates,
-        help: "Prints who could get it in any state of the journal, and from which entry to which",
+        help: "Prints, for each permission that a state of the journal has, from which entry to which its get would \
+            have been granted, at the level that its subject had then: start is before entry 0, on is to the end, and \
+            never is in no state",
     },
     Argument {
         name: "from",
@@ -242,12 +245,14 @@ const WHO_ARGUMENTS: [Argument; 12] = [
     Argument {
         name: "since",
         kind: Kind::TimeOfEver,
-        help: "Who could in the state at TIME, or later",
+        help: "Who could in the state at TIME, or later; TIME as 2026-11-27T12:12:26+01:00, or a date as 2026-11-27, \
+            in UTC",
     },
     Argument {
         name: "until",
         kind: Kind::TimeOfEver,
-        help: "Who could in the state after the last batch in MARKS whose time is TIME, or earlier",
+        help: "Who could in the state after the last batch in MARKS whose time is TIME, or earlier; TIME as \
+            2026-11-27T12:12:26+01:00, or a date as 2026-11-27, in UTC",
     },
     START,
     Argument {
@@ -258,7 +263,7 @@ const WHO_ARGUMENTS: [Argument; 12] = [
     Argument {
         name: "MODE",
         kind: Kind::Mode,
-        help: "This mode alone",
+        help: "This mode alone: read and write observe, append and write alter, execute does neither",
     },
 ];
 
@@ -354,12 +359,14 @@ const JOURNAL_ARGUMENTS: [Argument; 16] = [
     Argument {
         name: "since",
         kind: Kind::Time,
-        help: "Entries from the first batch in MARKS on whose time is TIME or later",
+        help: "Entries from the first batch in MARKS on whose time is TIME or later; TIME as \
+            2026-11-27T12:12:26+01:00, or a date as 2026-11-27, in UTC",
     },
     Argument {
         name: "until",
         kind: Kind::Time,
-        help: "Entries to the end of the last batch in MARKS whose time is TIME or earlier",
+        help: "Entries to the end of the last batch in MARKS whose time is TIME or earlier; TIME as \
+            2026-11-27T12:12:26+01:00, or a date as 2026-11-27, in UTC",
     },
     Argument {
         name: "summary",
@@ -398,7 +405,8 @@ const STATE_ARGUMENTS: [Argument; 7] = [
     Argument {
         name: "map",
         kind: Kind::TextBeside("FILE", "start"),
-        help: "Makes FILE, a line for each object: its new number, its number in JOURNAL, and its name there",
+        help: "Makes FILE, which isn't to be there yet, a line for each object: its new number, its number in JOURNAL, \
+            and its name there",
     },
     START,
     JOURNAL,
@@ -419,7 +427,7 @@ const HELD_ARGUMENTS: [Argument; 9] = [
     Argument {
         name: "mode",
         kind: Kind::ModeText,
-        help: "In this mode alone",
+        help: "In this mode alone: read and write observe, append and write alter, execute does neither",
     },
     Argument {
         name: "at",
@@ -446,7 +454,8 @@ const USAGE_ARGUMENTS: [Argument; 5] = [
     Argument {
         name: "from",
         kind: Kind::Entry,
-        help: "The permissions of the state before entry N, counted from 0, or of a later one, and the entries from N on",
+        help: "The permissions of the state before entry N, counted from 0, or of a later one, and the entries from \
+            N on; without it, of the state that START opens with, or of a later one, and all entries",
     },
     Argument {
         name: "to",
@@ -530,7 +539,8 @@ pub(crate) const COMMANDS: [CommandRow; 18] = [
         example: "Example: mls ask examples/standard.json 'bob get-read memo'. LINE is quoted, and asks as a line \
             of a script: SUBJECT get-execute, get-read, get-append or get-write OBJECT; release, check MODE \
             OBJECT; give, rescind MODE SUBJECT OBJECT; create PARENT SECURITY-LABEL INTEGRITY-LABEL; delete \
-            OBJECT; level LABEL; relabel OBJECT LABEL. To try several lines: mls serve over a copy of the journal",
+            OBJECT; level LABEL; relabel OBJECT LABEL. MODE is execute, read, append or write: read and write observe, \
+            append and write alter, execute does neither. To try several lines: mls serve over a copy of the journal",
         arguments: &ASK_ARGUMENTS,
     },
     CommandRow {
@@ -538,8 +548,9 @@ pub(crate) const COMMANDS: [CommandRow; 18] = [
         name: "explain",
         about: "Prints the answer to LINE, or without LINE to entry N of a journal; each condition of its rule, \
             with the labels that it compares; and for a get that is denied the lowest current label that the \
-            subject can take, with all that it holds, with which it is granted. The status is 0 for yes, \
-            created and held, else 4",
+            subject can take, with all that it holds, with which it is granted, or none by level: none helps as \
+            long as the subject holds what it holds, which mls who calls never. The status is 0 for yes, created \
+            and held, else 4",
         example: "Examples: mls explain examples/standard.json 'bob get-read memo'; mls explain --journal \
             office.journal --at 1 examples/office.json, of the entry that mls journal --from 1 --to 1 \
             examples/office.json office.journal prints",
@@ -549,9 +560,10 @@ pub(crate) const COMMANDS: [CommandRow; 18] = [
         command: CommandName::Who,
         name: "who",
         about: "Prints which subjects are permitted OBJ and in which modes, and for each whether a get would be \
-            granted now, or else why not and with which current label it would be; nothing for #N where there \
-            is no object N. With --ever, for each permission that there was, from which entry of the journal to which \
-            its get would have been granted. The status is 0 where one would be granted, else 4",
+            granted now, or else why not and with which current label it would be, or never: none helps as long as \
+            the subject holds what it holds. It prints nothing for #N where there is no object N. With --ever, for \
+            each permission that there was, from which entry of the journal to which its get would have been \
+            granted. The status is 0 where one would be granted, else 4",
         example: "Examples: mls who examples/standard.json memo read; mls who --ever --journal office.journal \
             examples/office.json salaries. mls state prints who holds what. Who holds write on the parent may give \
             permissions, and on the root whoever is trusted",
@@ -570,9 +582,10 @@ pub(crate) const COMMANDS: [CommandRow; 18] = [
     CommandRow {
         command: CommandName::About,
         name: "about",
-        about: "Prints all that there is to tell of a subject: its labels, its permissions and whether each get would be \
-            granted now, what it holds and what it may change; and with a journal how many entries it asked, and which \
-            gave it permissions. Of an object: its labels, its children, who may get it, who holds it; and with a \
+        about: "Prints all that there is to tell of a subject: its labels, its permissions and whether each get \
+            would be granted now, or with which label, or never, as mls who prints it, what it holds and what it may \
+            change; and with a journal how many entries it asked, and which gave it permissions or rescinded them, \
+            refused ones too. Of an object: its labels, its children, who may get it, who holds it; and with a \
             journal which entries changed it. The status is 0 where there is a line, else 4",
         example: "Examples: mls about examples/standard.json bob; mls about --journal office.journal \
             examples/office.json salaries",
@@ -627,9 +640,10 @@ pub(crate) const COMMANDS: [CommandRow; 18] = [
     CommandRow {
         command: CommandName::Usage,
         name: "usage",
-        about: "Prints each permission and how it was used over a journal: how often its get was granted and denied while \
-            it was there, and which entry was the last. A review wants the whole life of a start, or --from: a permission \
-            that is never asked may be young. The status is 0 where each was granted, else 4",
+        about: "Prints each permission and how it was used over a journal: how often its get was granted and denied \
+            while it was there, and which entry was the last. All entries count, or with --from those from N on; what \
+            the first state holds counts as granted once. A review wants the whole life of a start, or --from: a \
+            permission that is never asked may be young. The status is 0 where each was granted, else 4",
         example: "Examples: mls usage examples/office.json office.journal; mls usage --from 4000 examples/office.json \
             office.journal | grep 'never asked'",
         arguments: &USAGE_ARGUMENTS,
@@ -648,8 +662,9 @@ pub(crate) const COMMANDS: [CommandRow; 18] = [
         command: CommandName::Report,
         name: "report",
         about: "Prints a page about a journal, in HTML, to be looked at: how many entries were granted and denied, why \
-            those were denied that were, the labels of START, what subjects may change, who held what, and how \
-            permissions were used. It needs no network. At most 2000 lines of a kind are shown",
+            those were denied that were, the labels that START opens with, what subjects may change after the last \
+            entry, who held what, and how permissions were used. It needs no network. The first 2000 lines of a kind \
+            are shown",
         example: "Example: mls report examples/office.json office.journal > office.html",
         arguments: &REPORT_ARGUMENTS,
     },

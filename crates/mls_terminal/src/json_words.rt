@@ -34,6 +34,7 @@ fn lines_of(command: CommandName) -> Option<Lines> {
         CommandName::Explain => Some(Lines::Explain),
         CommandName::Who => Some(Lines::Who),
         CommandName::Powers => Some(Lines::Powers),
+        CommandName::About => Some(Lines::About),
         CommandName::Lint => Some(Lines::Lint),
         CommandName::State => Some(Lines::State),
         CommandName::Held => Some(Lines::Held),

@@ -51,7 +51,9 @@ pub(crate) fn words_refused(rt: &HostRuntime, fault: WordsFault<'_>) -> ExitCode
         ),
         WordsFault::Time { option, word } => {
             let name = option.name();
-            eprintln!(rt; "mls: --{name} {word}: no time")
+            eprintln!(rt;
+                "mls: --{name} {word}: no time such as 2026-11-27T12:12:26Z or 2026-11-27"
+            )
         }
         WordsFault::Digest { option, word } => {
             let name = option.name();
