@@ -22,7 +22,7 @@ sys.dont_write_bytecode = True
 import policy
 from outside import EXAMPLES, PROGRAM, SECONDS, put, shown
 
-SCRIPTS, LINES = 64, 24
+SCRIPTS, LINES = 64, 120
 MODES = policy.MODES
 
 
