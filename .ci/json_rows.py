@@ -229,11 +229,6 @@ def told(schema, words, *more):
     return rows
 
 
-def is_child(row, name):
-    """Whether a thing of a state is an object whose parent has this name."""
-    return row["kind"] == "object" and row.get("parent", 0) is not None and named(row, "parent") == name
-
-
 def of_kind(rows, kind):
     """The objects of a kind, without it."""
     return [{key: it for key, it in row.items() if key != "kind"} for row in rows if row["kind"] == kind]
