@@ -24,10 +24,10 @@ impl Page {
         let alloc = self.alloc();
         let extent = format!(in alloc; "0 0 {units} 1")?;
         self.shaped(colour.beginning(), extent, "\">")?;
-        if length > 0 {
-            let shape = format!(in alloc; "M{from} 0h{length}v1h-{length}z")?;
-            self.shaped("<path d=\"", shape, "\"/>")?;
+        if length == 0 {
+            return self.markup("</svg>");
         }
-        self.markup("</svg>")
+        let shape = format!(in alloc; "M{from} 0h{length}v1h-{length}z")?;
+        self.shaped("<path d=\"", shape, "\"/></svg>")
     }
 }

@@ -16,6 +16,11 @@ const LABEL: &str = "<text class=\"label\" transform=\"translate(";
 
 const HOLDER: &str = "<text class=\"holder\" transform=\"translate(";
 
+/// What can be scrolled, up to how wide it is.
+const SHEET: &str =
+    "<div class=\"wide\" tabindex=\"0\" role=\"group\" aria-label=\"Drawing of the labels\">\n\
+    <div class=\"sheet\" style=\"";
+
 /// A drawing, up to its extent.
 const DRAWING: &str =
     "<svg class=\"lattice\" role=\"img\" aria-label=\"The labels by rank, with a line from each to those \
@@ -78,18 +83,11 @@ impl Page {
         Ok(())
     }
 
-    /// The beginning of what can be scrolled.
-    fn wide(&mut self) -> Result<(), AllocError> {
-        self.markup(
-            "<div class=\"wide\" tabindex=\"0\" role=\"group\" aria-label=\"Drawing of the labels\">\n",
-        )
-    }
-
-    /// The beginning of what is as wide as a drawing.
+    /// The beginning of what can be scrolled, and in it of what is as wide as a drawing.
     fn sheet(&mut self, width: u64) -> Result<(), AllocError> {
         let alloc = self.alloc();
         let broad = format!(in alloc; "width:{width}px")?;
-        self.shaped("<div class=\"sheet\" style=\"", broad, "\">\n")
+        self.shaped(SHEET, broad, "\">\n")
     }
 
     /// The beginning of a drawing.
@@ -101,7 +99,6 @@ impl Page {
 
     /// A drawing of labels.
     pub(crate) fn draw(&mut self, drawing: &Drawing, nodes: &[Node<'_>]) -> Result<(), AllocError> {
-        self.wide()?;
         self.sheet(drawing.width)?;
         self.extent(drawing.width, drawing.height)?;
         self.strokes(drawing)?;

@@ -15,8 +15,9 @@ impl Page {
         self.counted("", whole.undefined, " undefined.</p>\n")
     }
 
-    /// The tables of a tally.
-    fn tally_tables(&mut self, tally: &Tally<'_>) -> Result<(), AllocError> {
+    /// The line that counts entries, and the tables of a tally.
+    fn tally_tables(&mut self, entries: u64, tally: &Tally<'_>) -> Result<(), AllocError> {
+        self.whole_line(entries, &tally.whole())?;
         if !tally.causes.is_empty() {
             let columns = ["Reason", "Denied"];
             self.share_table(
@@ -47,10 +48,8 @@ impl Page {
     ) -> Result<(), AllocError> {
         self.section(&COUNTS)?;
         let tally = Tally::of(alloc, summary)?;
-        let lined = self.whole_line(entries, &tally.whole());
-        let done = self.tally_tables(&tally);
+        let done = self.tally_tables(entries, &tally);
         drop(tally);
-        lined?;
         done?;
         self.end_section(&COUNTS, 0)
     }

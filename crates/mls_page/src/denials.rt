@@ -17,12 +17,12 @@ impl Page {
     fn entry(&mut self, line: &str) -> Result<(), AllocError> {
         let (time, rest) = timed(line);
         let (request, reply) = parted(rest);
-        self.within("<li><details><summary>", request, ": ")?;
-        self.within("<b>", reply, "</b>")?;
-        if !time.is_empty() {
-            self.within(" <span class=\"time\">", time, "</span>")?;
+        self.within("<li><details><summary>", request, ": <b>")?;
+        if time.is_empty() {
+            return self.within("", reply, "</b></summary>\n<pre>");
         }
-        self.markup("</summary>\n<pre>")
+        self.within("", reply, "</b> <span class=\"time\">")?;
+        self.within("", time, "</span></summary>\n<pre>")
     }
 
     /// A line of the explained entries: an entry, or a part of why it was denied.

@@ -32,18 +32,14 @@ fn push_written(bytes: &mut Vec<u8>, byte: u8) -> Result<(), AllocError>
     Ok(())
 }
 
-/// What is written of a text.
-///
-/// # Errors
-/// `AllocError` where an allocation failed.
-pub(crate) fn escape(alloc: Global, text: &str) -> Result<Vec<u8>, AllocError>
-    ensures { IfOk result (λ bytes. bytes.items ≡ escaped text.now) }
+/// Appends what is written of a text.
+fn escape(bytes: &mut Vec<u8>, text: &str) -> Result<(), AllocError>
+    ensures { OnOk result (bytes.new.items ≡ bytes.old.items ++ escaped text.now) }
 {
-    let mut bytes = Vec::new(alloc);
     for byte in text.as_bytes() {
-        push_written(&mut bytes, *byte)?;
+        push_written(bytes, *byte)?;
     }
-    Ok(bytes)
+    Ok(())
 }
 
 /// What is written of a text between two pieces of markup.
@@ -58,11 +54,9 @@ pub(crate) fn enclose(
 ) -> Result<Vec<u8>, AllocError>
     ensures { IfOk result (λ bytes. bytes.items ≡ before.now ++ escaped text.now ++ after.now) }
 {
-    let inner = escape(alloc, text)?;
     let mut bytes = Vec::new(alloc);
     bytes.extend_from_slice(before.as_bytes())?;
-    bytes.extend_from_slice(&inner)?;
-    drop(inner);
+    escape(&mut bytes, text)?;
     bytes.extend_from_slice(after.as_bytes())?;
     Ok(bytes)
 }

@@ -1,4 +1,7 @@
 //! What was verified.
+ghost use Rattle.std.specs.Prelude.{IsTrue};
+ghost use Rattle.mls_page.specs.Reading.{is_whole};
+
 use crate::page::Page;
 use crate::section::{MARKED, VERIFIED};
 use std::alloc::AllocError;
@@ -14,47 +17,39 @@ pub struct Found<'a> {
     pub behind: u64,
 }
 
-impl Page {
-    /// A row of a number.
-    fn number_row(&mut self, what: &str, number: u64) -> Result<(), AllocError> {
-        self.within("<tr><th scope=\"row\">", what, "</th>")?;
-        self.counted("<td>", number, "</td></tr>\n")
+/// What is told of a journal whose marks were looked at, up to how many entries were replayed; or else of one without.
+fn looked_at(has_marks: bool) -> &'static str
+    ensures { IsTrue (is_whole result.now) }
+{
+    if has_marks {
+        "<p>Each reply in the journal is the one that the rules give after the entries before it. Each mark agrees with \
+        the journal.</p>\n<table><caption>When this page was written</caption>\n<tbody>\n\
+        <tr><th scope=\"row\">Entries that were replayed</th><td>"
+    } else {
+        "<p>Each reply in the journal is the one that the rules give after the entries before it. No marks were looked \
+        at.</p>\n<table><caption>When this page was written</caption>\n<tbody>\n\
+        <tr><th scope=\"row\">Entries that were replayed</th><td>"
     }
+}
 
+/// A row of what the last mark says.
+const DIGEST: &str = "<tr><th scope=\"row\">Digest of the last mark</th><td class=\"digest\">";
+
+/// A row of when marks were made.
+const TIMES: &str = "<tr><th scope=\"row\">Times of the marks</th><td class=\"digest\">";
+
+/// A row of what no mark speaks of.
+const BEHIND: &str = "<tr><th scope=\"row\">Entries behind the last mark</th><td>";
+
+impl Page {
     /// The rows of what marks say.
     fn found_rows(&mut self, found: &Found<'_>) -> Result<(), AllocError> {
-        self.within(
-            "<tr><th scope=\"row\">Digest of the last mark</th><td class=\"digest\">",
-            found.digest,
-            "</td></tr>\n",
-        )?;
+        self.within(DIGEST, found.digest, "</td></tr>\n")?;
         if let Some((first, last)) = found.times {
-            let before = "<tr><th scope=\"row\">Times of the marks</th><td class=\"digest\">";
-            self.within(before, first, " to ")?;
+            self.within(TIMES, first, " to ")?;
             self.within("", last, "</td></tr>\n")?;
         }
-        self.number_row("Entries behind the last mark", found.behind)
-    }
-
-    /// What was looked at.
-    fn looked_at(&mut self, has_marks: bool) -> Result<(), AllocError> {
-        self.markup(
-            "<p>Each reply in the journal is the one that the rules give after the entries before it. ",
-        )?;
-        if has_marks {
-            self.markup("Each mark agrees with the journal.</p>\n")
-        } else {
-            self.markup("No marks were looked at.</p>\n")
-        }
-    }
-
-    /// The rows of what was verified.
-    fn verified_rows(&mut self, entries: u64, found: Option<&Found<'_>>) -> Result<(), AllocError> {
-        self.number_row("Entries that were replayed", entries)?;
-        match found {
-            Some(found) => self.found_rows(found),
-            None => Ok(()),
-        }
+        self.counted(BEHIND, found.behind, "</td></tr>\n")
     }
 
     /// Appends what was verified of a journal of so many entries, and of its marks where they were looked at.
@@ -68,9 +63,10 @@ impl Page {
     ) -> Result<(), AllocError> {
         let section = if found.is_some() { &MARKED } else { &VERIFIED };
         self.section(section)?;
-        self.looked_at(found.is_some())?;
-        self.markup("<table><caption>When this page was written</caption>\n<tbody>\n")?;
-        self.verified_rows(entries, found)?;
+        self.counted(looked_at(found.is_some()), entries, "</td></tr>\n")?;
+        if let Some(found) = found {
+            self.found_rows(found)?;
+        }
         self.markup("</tbody></table>\n")?;
         self.end_section(section, 0)
     }

@@ -11,67 +11,36 @@ const TOP: &str = "<!DOCTYPE html>\n<html lang=\"en\">\n<head>\n<meta charset=\"
     <meta http-equiv=\"Content-Security-Policy\" content=\"default-src 'none'; style-src 'unsafe-inline'\">\n\
     <title>mls report: ";
 
-impl Page {
-    /// The style, a line after another.
-    fn style(&mut self) -> Result<(), AllocError> {
-        self.markup("<style>\n")?;
-        for line in &STYLE {
-            self.within("", line, "\n")?;
-        }
-        self.markup("</style>\n")
-    }
+/// What stands between the style and the journal's name.
+const HEADING: &str = "</head>\n<body>\n<header>\n<h1>Report of ";
 
+/// What stands between the name of the start file and the links: which state each section is of, and up to where lists
+/// go.
+const STATES: &str = "</code>. START and J below are these two files.</p>\n\
+    <p>Lattice is of the state that START opens with, Powers of the one after the last entry of J, and all else of all \
+    entries. The first 2000 lines of a list are shown.</p>\n</header>\n<nav aria-label=\"Sections\"><ul>\n";
+
+impl Page {
     /// The link to a section.
     fn link(&mut self, section: &Section) -> Result<(), AllocError> {
         self.valued("<li><a href=\"#", section.id, "\">")?;
         self.within("", section.title, "</a></li>\n")
     }
 
-    /// The links to the sections.
-    fn links(&mut self) -> Result<(), AllocError> {
-        self.markup("<nav aria-label=\"Sections\"><ul>\n")?;
+    /// The head of a page about the journal and the start file of these names.
+    fn head(&mut self, start: &str, journal: &str) -> Result<(), AllocError> {
+        self.within(TOP, journal, "</title>\n")?;
+        self.markup(STYLE)?;
+        self.within(
+            HEADING,
+            journal,
+            "</h1>\n<p>A journal over the start file <code>",
+        )?;
+        self.within("", start, STATES)?;
         for section in &SECTIONS {
             self.link(section)?;
         }
-        self.markup("</ul></nav>\n")
-    }
-
-    /// The title, of the journal of this name, and the style.
-    fn title(&mut self, journal: &str) -> Result<(), AllocError> {
-        self.within(TOP, journal, "</title>\n")?;
-        self.style()?;
-        self.markup("</head>\n<body>\n<header>\n")
-    }
-
-    /// Which two files the page is about.
-    fn files(&mut self, start: &str, journal: &str) -> Result<(), AllocError> {
-        self.within("<h1>Report of ", journal, "</h1>\n")?;
-        self.within(
-            "<p>A journal over the start file <code>",
-            start,
-            "</code>. ",
-        )?;
-        self.markup("START and J below are these two files.</p>\n")
-    }
-
-    /// Which state each section is of, and up to where lists go.
-    fn states(&mut self) -> Result<(), AllocError> {
-        self.markup(
-            "<p>Lattice is of the state that START opens with, Powers of the one after the last ",
-        )?;
-        self.markup(
-            "entry of J, and all else of all entries. The first 2000 lines of a list are shown.</p>\n",
-        )
-    }
-
-    /// The head of a page about the journal and the start file of these names.
-    fn head(&mut self, start: &str, journal: &str) -> Result<(), AllocError> {
-        self.title(journal)?;
-        self.files(start, journal)?;
-        self.states()?;
-        self.markup("</header>\n")?;
-        self.links()?;
-        self.markup("<main>\n")
+        self.markup("</ul></nav>\n<main>\n")
     }
 
     /// A page with its head, about the journal and the start file of these names.

@@ -3,6 +3,7 @@ use crate::drawing::Drawing;
 use crate::lattice::{BETWEEN, Lattice, Node};
 use crate::page::Page;
 use crate::section::{LATTICE, SHOWN};
+use crate::table::BODY;
 use std::alloc::{AllocError, Global};
 
 /// How many labels are drawn, at most.
@@ -38,11 +39,11 @@ impl Page {
         self.markup("</ul></td></tr>\n")
     }
 
-    /// The table of labels.
-    fn label_table(&mut self, lattice: &Lattice<'_>) -> Result<(), AllocError> {
+    /// The drawing of labels, and their table.
+    fn labels(&mut self, alloc: Global, lattice: &Lattice<'_>) -> Result<(), AllocError> {
+        self.drawing(alloc, lattice)?;
         let columns = ["Label", "Covers", "Who and what has it"];
-        self.table("In the state that START opens with", &columns)?;
-        self.markup("<tbody>\n")?;
+        self.table("In the state that START opens with", &columns, BODY)?;
         for node in lattice.nodes.iter().take(SHOWN) {
             self.label_row(lattice, node)?;
         }
@@ -57,11 +58,9 @@ impl Page {
         self.section(&LATTICE)?;
         let lattice = Lattice::of(alloc, text)?;
         let count = lattice.nodes.len();
-        let drawn = self.drawing(alloc, &lattice);
-        let listed = self.label_table(&lattice);
+        let done = self.labels(alloc, &lattice);
         drop(lattice);
-        drawn?;
-        listed?;
+        done?;
         self.end_section(&LATTICE, count)
     }
 }

@@ -1,6 +1,7 @@
 //! How permissions were used.
 use crate::page::Page;
 use crate::section::{SHOWN, USAGE};
+use crate::table::BODY;
 use crate::words::{count_lines, parted};
 use std::alloc::AllocError;
 
@@ -28,8 +29,7 @@ impl Page {
     /// The table of so many permissions.
     fn permission_table(&mut self, usage: &str, count: usize) -> Result<(), AllocError> {
         let columns = ["Permission", "Granted", "Denied", "Last entry"];
-        self.table("Each permission, and its gets", &columns)?;
-        self.markup("<tbody>\n")?;
+        self.table("Each permission, and its gets", &columns, BODY)?;
         for line in usage.lines().take(SHOWN.min(count)) {
             self.permission_row(line)?;
         }

@@ -1,6 +1,7 @@
 //! What subjects may change.
 use crate::page::Page;
 use crate::section::{POWERS, SHOWN};
+use crate::table::BODY;
 use crate::words::{count_lines, cut};
 use std::alloc::AllocError;
 
@@ -22,8 +23,7 @@ impl Page {
         if powers.is_empty() {
             return self.markup("<p>No subject may change anything.</p>\n");
         }
-        self.table("After the last entry", &["Subject", "May"])?;
-        self.markup("<tbody>\n")?;
+        self.table("After the last entry", &["Subject", "May"], BODY)?;
         let mut last = None;
         for line in powers.lines().take(SHOWN) {
             self.power(line, last)?;

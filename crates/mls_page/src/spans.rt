@@ -4,6 +4,7 @@ use crate::colour::Colour;
 use crate::held::Held;
 use crate::page::Page;
 use crate::section::{HELD, SHOWN};
+use crate::table::BODIES;
 use crate::words::count_lines;
 use std::alloc::{AllocError, Global};
 
@@ -62,7 +63,7 @@ impl Page {
         if spans.is_empty() {
             return self.markup("<p>Nothing was held.</p>\n");
         }
-        self.table(CAPTION, &["Held", "From and to", "Time line"])?;
+        self.table(CAPTION, &["Held", "From and to", "Time line"], BODIES)?;
         for (index, span) in spans.iter().enumerate() {
             if is_first(spans, index, span.object) {
                 self.object_rows(spans, span.object, units)?;

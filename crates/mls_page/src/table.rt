@@ -1,18 +1,34 @@
 //! Tables.
+ghost use Rattle.std.specs.Prelude.{IsTrue};
+ghost use Rattle.mls_page.specs.Reading.{is_whole};
+
 use crate::bar::Bar;
 use crate::colour::Colour;
 use crate::page::Page;
 use crate::share::Share;
 use std::alloc::AllocError;
 
+/// The end of the headings of a table that has several bodies.
+pub(crate) const BODIES: &str = "</tr></thead>\n";
+
+/// The end of the headings of a table, and the beginning of its only body.
+pub(crate) const BODY: &str = "</tr></thead>\n<tbody>\n";
+
 impl Page {
-    /// Begins a table with a caption and the headings of its columns.
-    pub(crate) fn table(&mut self, caption: &str, columns: &[&str]) -> Result<(), AllocError> {
+    /// Begins a table with a caption and the headings of its columns, up to its body or its bodies.
+    pub(crate) fn table(
+        &mut self,
+        caption: &str,
+        columns: &[&str],
+        end: &str,
+    ) -> Result<(), AllocError>
+        requires { IsTrue (is_whole end.now) }
+    {
         self.within("<table><caption>", caption, "</caption>\n<thead><tr>")?;
         for column in columns {
             self.within("<th scope=\"col\">", column, "</th>")?;
         }
-        self.markup("</tr></thead>\n")
+        self.markup(end)
     }
 
     /// A row of numbers with bars of so many units.
@@ -49,8 +65,7 @@ impl Page {
         for share in shares {
             units = share.greatest().max(units);
         }
-        self.table(caption, columns)?;
-        self.markup("<tbody>\n")?;
+        self.table(caption, columns, BODY)?;
         for share in shares {
             self.share_row(share, colours, units)?;
         }
