@@ -66,19 +66,24 @@ impl Page {
         }
     }
 
-    /// A label's box.
-    fn node_box(&mut self, node: &Node<'_>, place: Place) -> Result<(), AllocError> {
-        let Place { x, top, bottom } = place;
-        let left = x.saturating_sub(BOX / 2);
-        let height = bottom.saturating_sub(top);
+    /// The outline of a box.
+    fn outline(&mut self, place: Place) -> Result<(), AllocError> {
+        let left = place.x.saturating_sub(BOX / 2);
+        let top = place.top;
+        let height = place.bottom.saturating_sub(top);
         let alloc = self.alloc();
         let shape = format!(in alloc; "M{left} {top}h{BOX}v{height}h-{BOX}z")?;
-        self.shaped("<path class=\"box\" d=\"", shape, "\"/>\n")?;
-        let mut y = top.saturating_add(LINE);
-        self.box_line(LABEL, (x, y), node.label)?;
+        self.shaped("<path class=\"box\" d=\"", shape, "\"/>\n")
+    }
+
+    /// A label's box.
+    fn node_box(&mut self, node: &Node<'_>, place: Place) -> Result<(), AllocError> {
+        self.outline(place)?;
+        let mut y = place.top.saturating_add(LINE);
+        self.box_line(LABEL, (place.x, y), node.label)?;
         for holder in node.holders.split(BETWEEN) {
             y = y.saturating_add(LINE);
-            self.box_line(HOLDER, (x, y), holder)?;
+            self.box_line(HOLDER, (place.x, y), holder)?;
         }
         Ok(())
     }

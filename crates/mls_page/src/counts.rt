@@ -6,6 +6,15 @@ use crate::share::Share;
 use crate::tally::Tally;
 use std::alloc::{AllocError, Global};
 
+/// The table of reasons, up to its rows.
+const CAUSES: &str = "<table><caption>Denied, by reason</caption>\n\
+    <thead><tr><th scope=\"col\">Reason</th><th scope=\"col\">Denied</th></tr></thead>\n<tbody>\n";
+
+/// The table of subjects, up to its rows.
+const SUBJECTS: &str = "<table><caption>By the subject that asked</caption>\n\
+    <thead><tr><th scope=\"col\">Subject</th><th scope=\"col\">Granted</th><th scope=\"col\">Denied</th>\
+    <th scope=\"col\">Undefined</th></tr></thead>\n<tbody>\n";
+
 impl Page {
     /// The line that counts entries.
     fn whole_line(&mut self, entries: u64, whole: &Share<'_>) -> Result<(), AllocError> {
@@ -19,19 +28,11 @@ impl Page {
     fn tally_tables(&mut self, entries: u64, tally: &Tally<'_>) -> Result<(), AllocError> {
         self.whole_line(entries, &tally.whole())?;
         if !tally.causes.is_empty() {
-            let columns = ["Reason", "Denied"];
-            self.share_table(
-                "Denied, by reason",
-                &columns,
-                &[Colour::Denied],
-                &tally.causes,
-            )?;
+            self.share_table(CAUSES, &[Colour::Denied], &tally.causes)?;
         }
         if !tally.shares.is_empty() {
-            let columns = ["Subject", "Granted", "Denied", "Undefined"];
             let colours = [Colour::Granted, Colour::Denied, Colour::Undefined];
-            let caption = "By the subject that asked";
-            self.share_table(caption, &columns, &colours, &tally.shares)?;
+            self.share_table(SUBJECTS, &colours, &tally.shares)?;
         }
         Ok(())
     }

@@ -1,7 +1,7 @@
 //! Labels, drawn by rank.
 use crate::lattice::{BETWEEN, Node};
 use crate::ranks::{Edge, rank_at, ranks};
-use crate::slot::{GAP, Link, Place, Row, Slot};
+use crate::slot::{GAP, Link, NOWHERE, Place, Row, Slot};
 use std::alloc::{AllocError, Global};
 
 /// The height of a line of text, what is free around the lines of a box, and what is free between two ranks.
@@ -185,16 +185,16 @@ impl Drawing {
 
     /// Where a slot is drawn.
     pub(crate) fn at(&self, slot: usize) -> Place {
-        let slot = self.slots.get(slot).copied();
-        let row = slot.and_then(|slot| self.rows.get(slot.rank).copied());
-        let (x, top, height) = match (slot, row) {
-            (Some(slot), Some(row)) => (slot.x, row.top, row.height),
-            _ => (0, 0, 0),
+        let Some(slot) = self.slots.get(slot) else {
+            return NOWHERE;
         };
-        Place {
-            x,
-            top,
-            bottom: top.saturating_add(height),
+        match self.rows.get(slot.rank) {
+            Some(row) => Place {
+                x: slot.x,
+                top: row.top,
+                bottom: row.top.saturating_add(row.height),
+            },
+            None => NOWHERE,
         }
     }
 }

@@ -1,7 +1,4 @@
 //! What was verified.
-ghost use Rattle.std.specs.Prelude.{IsTrue};
-ghost use Rattle.mls_page.specs.Reading.{is_whole};
-
 use crate::page::Page;
 use crate::section::{MARKED, VERIFIED};
 use std::alloc::AllocError;
@@ -17,20 +14,17 @@ pub struct Found<'a> {
     pub behind: u64,
 }
 
-/// What is told of a journal whose marks were looked at, up to how many entries were replayed; or else of one without.
-fn looked_at(has_marks: bool) -> &'static str
-    ensures { IsTrue (is_whole result.now) }
-{
-    if has_marks {
-        "<p>Each reply in the journal is the one that the rules give after the entries before it. Each mark agrees with \
-        the journal.</p>\n<table><caption>When this page was written</caption>\n<tbody>\n\
-        <tr><th scope=\"row\">Entries that were replayed</th><td>"
-    } else {
-        "<p>Each reply in the journal is the one that the rules give after the entries before it. No marks were looked \
-        at.</p>\n<table><caption>When this page was written</caption>\n<tbody>\n\
-        <tr><th scope=\"row\">Entries that were replayed</th><td>"
-    }
-}
+/// What is told of a journal whose marks were looked at, up to how many entries were replayed.
+const WITH_MARKS: &str =
+    "<p>Each reply in the journal is the one that the rules give after the entries before it. Each mark agrees with \
+    the journal.</p>\n<table><caption>When this page was written</caption>\n<tbody>\n\
+    <tr><th scope=\"row\">Entries that were replayed</th><td>";
+
+/// What is told of one whose marks weren't.
+const WITHOUT_MARKS: &str =
+    "<p>Each reply in the journal is the one that the rules give after the entries before it. No marks were looked \
+    at.</p>\n<table><caption>When this page was written</caption>\n<tbody>\n\
+    <tr><th scope=\"row\">Entries that were replayed</th><td>";
 
 /// A row of what the last mark says.
 const DIGEST: &str = "<tr><th scope=\"row\">Digest of the last mark</th><td class=\"digest\">";
@@ -61,13 +55,17 @@ impl Page {
         entries: u64,
         found: Option<&Found<'_>>,
     ) -> Result<(), AllocError> {
-        let section = if found.is_some() { &MARKED } else { &VERIFIED };
-        self.section(section)?;
-        self.counted(looked_at(found.is_some()), entries, "</td></tr>\n")?;
-        if let Some(found) = found {
-            self.found_rows(found)?;
+        match found {
+            Some(found) => {
+                self.section(&MARKED)?;
+                self.counted(WITH_MARKS, entries, "</td></tr>\n")?;
+                self.found_rows(found)?;
+            }
+            None => {
+                self.section(&VERIFIED)?;
+                self.counted(WITHOUT_MARKS, entries, "</td></tr>\n")?;
+            }
         }
-        self.markup("</tbody></table>\n")?;
-        self.end_section(section, 0)
+        self.markup("</tbody></table>\n</section>\n")
     }
 }

@@ -3,11 +3,15 @@ use crate::drawing::Drawing;
 use crate::lattice::{BETWEEN, Lattice, Node};
 use crate::page::Page;
 use crate::section::{LATTICE, SHOWN};
-use crate::table::BODY;
 use std::alloc::{AllocError, Global};
 
 /// How many labels are drawn, at most.
 const DRAWN: usize = 60;
+
+/// The table of labels, up to its rows.
+const TABLE: &str = "<table><caption>In the state that START opens with</caption>\n\
+    <thead><tr><th scope=\"col\">Label</th><th scope=\"col\">Covers</th>\
+    <th scope=\"col\">Who and what has it</th></tr></thead>\n<tbody>\n";
 
 impl Page {
     /// The drawing of a lattice.
@@ -42,8 +46,7 @@ impl Page {
     /// The drawing of labels, and their table.
     fn labels(&mut self, alloc: Global, lattice: &Lattice<'_>) -> Result<(), AllocError> {
         self.drawing(alloc, lattice)?;
-        let columns = ["Label", "Covers", "Who and what has it"];
-        self.table("In the state that START opens with", &columns, BODY)?;
+        self.markup(TABLE)?;
         for node in lattice.nodes.iter().take(SHOWN) {
             self.label_row(lattice, node)?;
         }

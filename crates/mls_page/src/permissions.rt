@@ -1,9 +1,13 @@
 //! How permissions were used.
 use crate::page::Page;
 use crate::section::{SHOWN, USAGE};
-use crate::table::BODY;
 use crate::words::{count_lines, parted};
 use std::alloc::AllocError;
+
+/// The table of permissions, up to its rows.
+const TABLE: &str = "<table><caption>Each permission, and its gets</caption>\n\
+    <thead><tr><th scope=\"col\">Permission</th><th scope=\"col\">Granted</th><th scope=\"col\">Denied</th>\
+    <th scope=\"col\">Last entry</th></tr></thead>\n<tbody>\n";
 
 /// How often the gets of a permission were granted and denied, and which was the last, in the words of a line behind
 /// its colon; none where there was no get.
@@ -28,8 +32,7 @@ impl Page {
 
     /// The table of so many permissions.
     fn permission_table(&mut self, usage: &str, count: usize) -> Result<(), AllocError> {
-        let columns = ["Permission", "Granted", "Denied", "Last entry"];
-        self.table("Each permission, and its gets", &columns, BODY)?;
+        self.markup(TABLE)?;
         for line in usage.lines().take(SHOWN.min(count)) {
             self.permission_row(line)?;
         }

@@ -1,9 +1,12 @@
 //! What subjects may change.
 use crate::page::Page;
 use crate::section::{POWERS, SHOWN};
-use crate::table::BODY;
 use crate::words::{count_lines, cut};
 use std::alloc::AllocError;
+
+/// The table of powers, up to its rows.
+const TABLE: &str = "<table><caption>After the last entry</caption>\n\
+    <thead><tr><th scope=\"col\">Subject</th><th scope=\"col\">May</th></tr></thead>\n<tbody>\n";
 
 impl Page {
     /// A line of powers: one more of the same subject, or the first of another.
@@ -23,7 +26,7 @@ impl Page {
         if powers.is_empty() {
             return self.markup("<p>No subject may change anything.</p>\n");
         }
-        self.table("After the last entry", &["Subject", "May"], BODY)?;
+        self.markup(TABLE)?;
         let mut last = None;
         for line in powers.lines().take(SHOWN) {
             self.power(line, last)?;

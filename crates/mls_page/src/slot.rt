@@ -40,6 +40,13 @@ pub(crate) struct Place {
     pub bottom: u64,
 }
 
+/// Where a slot is drawn that isn't there.
+pub(crate) const NOWHERE: Place = Place {
+    x: 0,
+    top: 0,
+    bottom: 0,
+};
+
 impl Slot {
     /// How wide it is.
     pub(crate) fn width(&self) -> u64 {

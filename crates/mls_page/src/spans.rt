@@ -4,14 +4,14 @@ use crate::colour::Colour;
 use crate::held::Held;
 use crate::page::Page;
 use crate::section::{HELD, SHOWN};
-use crate::table::BODIES;
 use crate::words::count_lines;
 use std::alloc::{AllocError, Global};
 
-/// What the bars of spans are.
-const CAPTION: &str =
-    "By object. A bar lies between the state before entry 0, at its left, and the one after the last \
-    entry";
+/// The table of spans, up to its bodies. Its caption says what the bars are.
+const TABLE: &str =
+    "<table><caption>By object. A bar lies between the state before entry 0, at its left, and the one after the last entry</caption>\n\
+    <thead><tr><th scope=\"col\">Held</th><th scope=\"col\">From and to</th><th scope=\"col\">Time line</th>\
+    </tr></thead>\n";
 
 /// The spans that are shown, of a journal of so many entries.
 fn spans_of(alloc: Global, held: &str, entries: u64) -> Result<Vec<Held<'_>>, AllocError> {
@@ -63,7 +63,7 @@ impl Page {
         if spans.is_empty() {
             return self.markup("<p>Nothing was held.</p>\n");
         }
-        self.table(CAPTION, &["Held", "From and to", "Time line"], BODIES)?;
+        self.markup(TABLE)?;
         for (index, span) in spans.iter().enumerate() {
             if is_first(spans, index, span.object) {
                 self.object_rows(spans, span.object, units)?;

@@ -8,29 +8,7 @@ use crate::page::Page;
 use crate::share::Share;
 use std::alloc::AllocError;
 
-/// The end of the headings of a table that has several bodies.
-pub(crate) const BODIES: &str = "</tr></thead>\n";
-
-/// The end of the headings of a table, and the beginning of its only body.
-pub(crate) const BODY: &str = "</tr></thead>\n<tbody>\n";
-
 impl Page {
-    /// Begins a table with a caption and the headings of its columns, up to its body or its bodies.
-    pub(crate) fn table(
-        &mut self,
-        caption: &str,
-        columns: &[&str],
-        end: &str,
-    ) -> Result<(), AllocError>
-        requires { IsTrue (is_whole end.now) }
-    {
-        self.within("<table><caption>", caption, "</caption>\n<thead><tr>")?;
-        for column in columns {
-            self.within("<th scope=\"col\">", column, "</th>")?;
-        }
-        self.markup(end)
-    }
-
     /// A row of numbers with bars of so many units.
     fn share_row(
         &mut self,
@@ -53,19 +31,20 @@ impl Page {
         self.markup("</tr>\n")
     }
 
-    /// A table of numbers with bars, each as long as its number is of the greatest.
+    /// A table of numbers with bars, each as long as its number is of the greatest; `head` is all before its rows.
     pub(crate) fn share_table(
         &mut self,
-        caption: &str,
-        columns: &[&str],
+        head: &str,
         colours: &[Colour],
         shares: &[Share<'_>],
-    ) -> Result<(), AllocError> {
+    ) -> Result<(), AllocError>
+        requires { IsTrue (is_whole head.now) }
+    {
         let mut units = 0;
         for share in shares {
             units = share.greatest().max(units);
         }
-        self.table(caption, columns, BODY)?;
+        self.markup(head)?;
         for share in shares {
             self.share_row(share, colours, units)?;
         }
