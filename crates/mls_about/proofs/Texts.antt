@@ -1,5 +1,6 @@
 -- What is told of a subject or an object, part by part.
-use Rattle.std.proofs.Common.{◌≡◌, ℕ, ◌+◌, Bool, true, false, List, [], ◌∷◌, ◌++◌, refl, sym, ap, ◌∙◌, append-nil, cond, filter}
+use Rattle.std.proofs.Common.{◌≡◌, ℕ, ◌+◌, Bool, true, false, List, [], ◌∷◌, ◌++◌}
+use Rattle.std.proofs.Common.{refl, sym, ap, ◌∙◌, append-nil, cond, filter}
 use Rattle.std.proofs.lemmas.List.{append_assoc}
 use Rattle.mls_facts.proofs.Gathered.{range_flat_more}
 use Rattle.mls_lines.specs.Names.{Names}
@@ -25,7 +26,8 @@ pub children_none : (names : Names) (v : State) (o : ℕ) → children_text name
 unfolding children_text
 children_none names v o = refl
 
-pub children_more : (names : Names) (v : State) (o n : ℕ) → children_text names v o (n + 1) ≡ children_text names v o n ++ child_line names v o n
+pub children_more : (names : Names) (v : State) (o n : ℕ)
+    → children_text names v o (n + 1) ≡ children_text names v o n ++ child_line names v o n
 unfolding children_text
 children_more names v o n = range_flat_more (child_line names v o) n
 
@@ -33,7 +35,8 @@ pub column_none : (names : Names) (b : TripleSet) (o : ℕ) → column_text name
 unfolding column_text
 column_none names b o = refl
 
-pub column_more : (names : Names) (b : TripleSet) (o n : ℕ) → column_text names b o (n + 1) ≡ column_text names b o n ++ access_lines names b o n
+pub column_more : (names : Names) (b : TripleSet) (o n : ℕ)
+    → column_text names b o (n + 1) ≡ column_text names b o n ++ access_lines names b o n
 unfolding column_text
 column_more names b o n = range_flat_more (access_lines names b o) n
 
@@ -46,7 +49,8 @@ module _ (p : Triple → Bool) where
   ]
 
   four : (old : List Triple) (a b c d : Triple)
-      → (((old ++ where_so (p a) a) ++ where_so (p b) b) ++ where_so (p c) c) ++ where_so (p d) d ≡ old ++ filter p (a ∷ b ∷ c ∷ d ∷ [])
+      → (((old ++ where_so (p a) a) ++ where_so (p b) b) ++ where_so (p c) c) ++ where_so (p d) d
+      ≡ old ++ filter p (a ∷ b ∷ c ∷ d ∷ [])
   four old a b c d =
       let A = where_so (p a) a in
       let B = where_so (p b) b in
@@ -59,7 +63,8 @@ module _ (p : Triple → Bool) where
       ∙ ap (λ t. C ++ t) (first d [] ∙ append-nil D)))))
 
   -- four triples, each where it is there
-  pub four_pushed : (a b c d : Triple) (pa pb pc pd : Bool) (t0 t1 t2 t3 t4 : List Triple) → pa ≡ p a → pb ≡ p b → pc ≡ p c → pd ≡ p d
+  pub four_pushed : (a b c d : Triple) (pa pb pc pd : Bool) (t0 t1 t2 t3 t4 : List Triple)
+      → pa ≡ p a → pb ≡ p b → pc ≡ p c → pd ≡ p d
       → t1 ≡ t0 ++ where_so pa a → t2 ≡ t1 ++ where_so pb b → t3 ≡ t2 ++ where_so pc c → t4 ≡ t3 ++ where_so pd d
       → t4 ≡ t0 ++ filter p (a ∷ b ∷ c ∷ d ∷ [])
   four_pushed a b c d pa pb pc pd t0 t1 t2 t3 t4 ea eb ec ed e1 e2 e3 e4 =

@@ -30,8 +30,8 @@ pub record ShowsSubject (names : Names) (v : State) (s : ℕ) (told : List ℕ) 
   pub text : told ≡ subject_line names v s ++ (permissions
       ++ (row_text (codes "access") names v.accesses s MAX_OBJECTS ++ powers_text names v (all_of s)))
 
--- A text tells of a subject: what there is of it in a state, and where there is a journal what it asked, and the entries
--- about its permissions. (own)
+-- A text tells of a subject: what there is of it in a state, and where there is a journal what it asked, and the
+-- entries about its permissions. (own)
 pub record TellsSubject (names : Names) (v : State) (s : ℕ) (rows : Option (List Row))
     (entries : Option (List Entry)) (told : List ℕ) : Type 0 where
   pub standing : List ℕ

@@ -3,7 +3,8 @@ ghost use Rattle.std.specs.Prelude.{◌≡◌, ◌++◌, All, map, string_bytes,
 ghost use Rattle.std.specs.List.{flat_map};
 ghost use Rattle.mls_tables.specs.Once.{accesses_at};
 ghost use Rattle.mls_tables.specs.declared.limits.TheConstants.{MAX_OBJECTS};
-ghost use Rattle.mls_about.specs.Permissions.{triple_of, where_so, IsTold, permission_line, permitted, TellsPermissions};
+ghost use Rattle.mls_about.specs.Permissions.{triple_of, where_so, IsTold, permission_line, permitted};
+ghost use Rattle.mls_about.specs.Permissions.{TellsPermissions};
 
 use mls_explain::{Prospect, prospect_of};
 use mls_explain_text::push_outcome;
@@ -15,7 +16,7 @@ use mls_wording::{push_object, push_subject};
 use std::alloc::{AllocError, Global};
 
 /// A permission on an object, with what its get would be answered.
-#[derive(Clone, Copy, Debug)]
+#[derive(Clone, Copy)]
 pub(crate) struct Permission {
     pub object: ObjectId,
     pub prospect: Prospect,

@@ -65,14 +65,17 @@ fn subject_now(
     let permissions = permission_lines(alloc, names, state, s)?;
     let powers = powers_of(alloc, names, state, s)?;
     let mut text = String::new(alloc);
-    push_now(
+    let pushed = push_now(
         &mut text,
         names,
         state,
         s,
         permissions.as_str(),
         powers.as_str(),
-    )?;
+    );
+    drop(powers);
+    drop(permissions);
+    pushed?;
     Ok(text)
 }
 
@@ -94,8 +97,8 @@ fn push_history(
     push_all_given(text, names, marks, s, entries)
 }
 
-/// What is told of a subject: what there is of it in a state, and where there is a journal what it asked, and the entries
-/// about its permissions.
+/// What is told of a subject: what there is of it in a state, and where there is a journal what it asked, and the
+/// entries about its permissions.
 pub(crate) fn subject_text(
     alloc: Global,
     names: &Names,

@@ -87,12 +87,12 @@ fn tell_named(
 }
 
 /// All that there is to tell of a subject or of an object, which a word names, in the state that a start file and all
-/// entries of a journal lead to, or in the one before the entry of a number; without a journal in the one that the start
-/// opens with. Of a subject: its line, its permissions with what their gets would be answered, what it holds, what it may
-/// change; and where there is a journal how many of the entries before that state it asked and how many of these were
-/// denied, and the entries that ask for a permission for it or that one be rescinded. Of an object: its line, its
-/// children, who may get it, who holds it, and the entries before that changed it. With the journal's marks the times of
-/// entries are told. The answer is positive where there is a line.
+/// entries of a journal lead to, or in the one before the entry of a number; without a journal in the one that the
+/// start opens with. Of a subject: its line, its permissions with what their gets would be answered, what it holds,
+/// what it may change; and where there is a journal how many of the entries before that state it asked and how many of
+/// these were denied, and the entries that ask for a permission for it or that one be rescinded. Of an object: its
+/// line, its children, who may get it, who holds it, and the entries before that changed it. With the journal's marks
+/// the times of entries are told. The answer is positive where there is a line.
 ///
 /// # Errors
 /// - The faults of [`replay_at`](mls_replay::replay_at).
