@@ -8,7 +8,7 @@ use mls_labels::{CatSet, Label, LabelFault, Scheme};
 use std::alloc::{AllocError, Global};
 
 /// A label, and its counterpart in another scheme, where it has one.
-#[derive(Clone, Copy, Debug)]
+#[derive(Clone, Copy)]
 pub(crate) struct Carried {
     pub label: Label,
     pub to: Option<Label>,

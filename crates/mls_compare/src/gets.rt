@@ -39,8 +39,7 @@ pub(crate) fn push_get(
     text.push_str(" ")?;
     text.push_str(mode_word(x))?;
     text.push_str(" ")?;
-    push_object(text, names, ObjectId(o))?;
-    Ok(())
+    push_object(text, names, ObjectId(o))
 }
 
 /// Appends the line of a get, where two states answer it otherwise.
@@ -61,8 +60,7 @@ fn push_line(
         return Ok(());
     }
     push_get(text, names, s.first, o.first, x)?;
-    push_replies(text, first, second)?;
-    Ok(())
+    push_replies(text, first, second)
 }
 
 /// Appends the lines of the gets of an object by a subject.
@@ -79,8 +77,7 @@ fn push_cell(
     push_line(text, names, states, s, o, Mode::Execute)?;
     push_line(text, names, states, s, o, Mode::Read)?;
     push_line(text, names, states, s, o, Mode::Append)?;
-    push_line(text, names, states, s, o, Mode::Write)?;
-    Ok(())
+    push_line(text, names, states, s, o, Mode::Write)
 }
 
 /// Appends the lines of the gets of some objects by a subject.

@@ -31,8 +31,7 @@ fn push_profiles(text: &mut String, here: Profile, there: Profile) -> Result<(),
         return Ok(());
     }
     text.push_str("profile: ")?;
-    push_both(text, first, second)?;
-    Ok(())
+    push_both(text, first, second)
 }
 
 /// Appends a separator and a name that two lists share, and gives the separator before the next.
@@ -91,8 +90,7 @@ fn push_orders(text: &mut String, kind: &str, here: &str, there: &str) -> Result
     text.push_str(here)?;
     text.push_str(" >")?;
     text.push_str(there)?;
-    text.push_str("\n")?;
-    Ok(())
+    text.push_str("\n")
 }
 
 /// Appends the line of the levels that two lists share, where their order isn't the same.
@@ -157,6 +155,5 @@ pub(crate) fn push_heads(
         "integrity",
         names.0.integrity(),
         names.1.integrity(),
-    )?;
-    Ok(())
+    )
 }

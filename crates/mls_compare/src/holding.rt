@@ -49,8 +49,7 @@ fn push_triple(
     push_get(text, names, at.0, at.1, x)?;
     text.push_str(": only in ")?;
     text.push_str(file)?;
-    text.push_str("\n")?;
-    Ok(())
+    text.push_str("\n")
 }
 
 /// Appends the line of a mode of a subject and an object, by whether the table of each start has it.
@@ -95,8 +94,7 @@ fn push_modes(
     push_mode(text, table, words, names, at, Mode::Execute, execute)?;
     push_mode(text, table, words, names, at, Mode::Read, read)?;
     push_mode(text, table, words, names, at, Mode::Append, append)?;
-    push_mode(text, table, words, names, at, Mode::Write, write)?;
-    Ok(())
+    push_mode(text, table, words, names, at, Mode::Write, write)
 }
 
 /// Appends the lines of a subject's modes with some objects.
@@ -160,6 +158,5 @@ pub(crate) fn push_tables(
         states,
         subjects,
         objects,
-    )?;
-    Ok(())
+    )
 }

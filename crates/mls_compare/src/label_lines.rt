@@ -53,8 +53,7 @@ pub(crate) fn push_security_line(
     push_security(text, first, here)?;
     text.push_str(" > ")?;
     push_security(text, second, there)?;
-    text.push_str("\n")?;
-    Ok(())
+    text.push_str("\n")
 }
 
 /// Appends the line of the integrity label of a subject or an object, where the two starts' aren't alike by name.
@@ -84,6 +83,5 @@ pub(crate) fn push_integrity_line(
     push_integrity(text, first, here)?;
     text.push_str(" > ")?;
     push_integrity(text, second, there)?;
-    text.push_str("\n")?;
-    Ok(())
+    text.push_str("\n")
 }

@@ -16,7 +16,7 @@ use std::alloc::{AllocError, Global};
 const NUMBERS: usize = 65_536;
 
 /// A counterpart, and the time since when it is one.
-#[derive(Clone, Copy, Debug)]
+#[derive(Clone, Copy)]
 pub(crate) struct Since {
     pub object: ObjectId,
     pub time: u64,

@@ -119,8 +119,7 @@ fn push_changes(
 {
     push_parent(text, names, states, o, p)?;
     push_security(alloc, text, names, states, o, p)?;
-    push_integrity(alloc, text, names, states, o, p)?;
-    Ok(())
+    push_integrity(alloc, text, names, states, o, p)
 }
 
 /// Appends the lines of an object that two starts share.

@@ -23,8 +23,7 @@ fn push_line(text: &mut String, file: &str, kind: &str, name: &str) -> Result<()
     text.push_str(kind)?;
     text.push_str(" ")?;
     text.push_str(name)?;
-    text.push_str("\n")?;
-    Ok(())
+    text.push_str("\n")
 }
 
 /// Appends the line of a name of a kind that a file has, where it isn't found in another.
@@ -143,8 +142,7 @@ fn push_lists(
         (map string_bytes names.now) (map string_bytes others.now)) }
 {
     push_names(text, words.0, kind, names, others)?;
-    push_names(text, words.1, kind, others, names)?;
-    Ok(())
+    push_names(text, words.1, kind, others, names)
 }
 
 /// Appends the lines of the levels that only one of two schemes has.
@@ -200,8 +198,7 @@ fn push_scheme(
         ++ only_scheme words.entry.0.now words.entry.1.now kinds.entry.0.now kinds.entry.1.now first.now second.now) }
 {
     push_levels(alloc, text, words, kinds.0, first, second)?;
-    push_categories(alloc, text, words, kinds.1, first, second)?;
-    Ok(())
+    push_categories(alloc, text, words, kinds.1, first, second)
 }
 
 /// Appends the lines of the subjects, then of the objects, that only one of two files has, of each kind the first
@@ -221,8 +218,7 @@ fn push_things(
     push_subjects(text, file, first, second)?;
     push_subjects(text, other, second, first)?;
     push_objects(text, file, first, second)?;
-    push_objects(text, other, second, first)?;
-    Ok(())
+    push_objects(text, other, second, first)
 }
 
 /// Appends the lines of the names that only one of two files has: levels and categories of security, then of

@@ -8,7 +8,7 @@ use mls_tables::{MAX_OBJECTS, MAX_SUBJECTS, ObjectId, SubjectId};
 use std::alloc::{AllocError, Global};
 
 /// The numbers that a name has in two starts.
-#[derive(Clone, Copy, Debug, PartialEq, Eq)]
+#[derive(Clone, Copy)]
 pub(crate) struct Shared {
     pub first: u16,
     pub second: u16,

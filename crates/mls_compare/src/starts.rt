@@ -33,8 +33,7 @@ fn push_things(
         subjects.now objects.now) }
 {
     push_subjects(alloc, text, names, states, subjects)?;
-    push_objects(alloc, text, names, states, objects)?;
-    Ok(())
+    push_objects(alloc, text, names, states, objects)
 }
 
 /// Appends what differs between two starts with these names and states, of which these are the subjects and the objects
@@ -57,8 +56,7 @@ fn push_all(
     push_things(alloc, text, names, states, subjects, objects)?;
     push_tables(text, words, names.0, states, subjects, objects)?;
     push_only(alloc, text, words, names.0, names.1)?;
-    push_gets(text, names.0, states, subjects, objects)?;
-    Ok(())
+    push_gets(text, names.0, states, subjects, objects)
 }
 
 /// Appends what differs between two starts with these names that open with these states.
@@ -77,8 +75,10 @@ fn push_states(
 {
     let subjects = shared_subjects(alloc, names.0, names.1)?;
     let objects = shared_objects(alloc, names.0, names.1)?;
-    push_all(alloc, text, words, names, states, &subjects, &objects)?;
-    Ok(())
+    let pushed = push_all(alloc, text, words, names, states, &subjects, &objects);
+    drop(objects);
+    drop(subjects);
+    pushed
 }
 
 /// Appends what differs between a start that opens with a state and another start.

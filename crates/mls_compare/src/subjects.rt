@@ -135,8 +135,7 @@ fn push_changes(
     push_maximum(alloc, text, names, states, s, t)?;
     push_current(alloc, text, names, states, s, t)?;
     push_integrity(alloc, text, names, states, s, t)?;
-    push_trusted(text, names.0, states, s, t)?;
-    Ok(())
+    push_trusted(text, names.0, states, s, t)
 }
 
 /// Appends the lines of a subject that two starts share.

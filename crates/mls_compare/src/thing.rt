@@ -9,7 +9,7 @@ use mls_wording::{push_object, push_subject};
 use std::alloc::AllocError;
 
 /// A subject or an object, by its number in the first of two starts.
-#[derive(Clone, Copy, Debug, PartialEq, Eq)]
+#[derive(Clone, Copy)]
 pub(crate) enum Thing {
     Subject(SubjectId),
     Object(ObjectId),
@@ -44,8 +44,7 @@ pub(crate) fn push_part(
     push_thing(text, names, thing)?;
     text.push_str(" ")?;
     text.push_str(part)?;
-    text.push_str(": ")?;
-    Ok(())
+    text.push_str(": ")
 }
 
 /// Appends both of two texts, the first start's first, and the end of the line.
@@ -55,8 +54,7 @@ pub(crate) fn push_both(text: &mut String, here: &str, there: &str) -> Result<()
     text.push_str(here)?;
     text.push_str(" > ")?;
     text.push_str(there)?;
-    text.push_str("\n")?;
-    Ok(())
+    text.push_str("\n")
 }
 
 /// Appends the line of a part of which two starts have these texts, where these aren't the same.
@@ -75,6 +73,5 @@ pub(crate) fn push_texts(
         return Ok(());
     }
     push_part(text, names, thing, part)?;
-    push_both(text, here, there)?;
-    Ok(())
+    push_both(text, here, there)
 }
