@@ -35,10 +35,10 @@ pub fn lattice(alloc: Global, names: &Names, start: &Start) -> Result<Answer, Al
     ensures positive { IfOk result (λ drawn. drawn.is_positive ≡ true) }
 {
     let state = start.opening(alloc)?;
-    let text = drawing(alloc, names, &state)?;
+    let text = drawing(alloc, names, &state);
     drop(state);
     Ok(Answer {
-        text,
+        text: text?,
         is_positive: true,
     })
 }

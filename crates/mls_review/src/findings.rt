@@ -104,7 +104,7 @@ pub fn lint(alloc: Global, names: &Names, start: &Start) -> Result<Answer, Alloc
         (λ found. found.is_positive ≡ (length (lint_text names.now start.now) == 0)) }
 {
     let state = start.opening(alloc)?;
-    let text = lint_lines(alloc, names, &state)?;
+    let text = lint_lines(alloc, names, &state);
     drop(state);
-    Ok(answer(text))
+    Ok(answer(text?))
 }

@@ -174,8 +174,10 @@ fn flow_of<A: Allocator>(
     }
     let observed = permitted(alloc, state, s, all, Mode::Read)?;
     let altered = permitted(alloc, state, s, all, Mode::Append)?;
-    let pairs = pairs_among(alloc, state, &observed, &altered)?;
-    Ok(flow_from(s, pairs))
+    let pairs = pairs_among(alloc, state, &observed, &altered);
+    drop(altered);
+    drop(observed);
+    Ok(flow_from(s, pairs?))
 }
 
 /// Adds the flow downwards of a subject, where there is one.
