@@ -16,7 +16,7 @@ use json::Writer;
 use std::alloc::{AllocError, Global};
 
 /// What is open of an object that lines add to.
-#[derive(Clone, Copy, Debug)]
+#[derive(Clone, Copy)]
 pub(crate) enum Open {
     /// The object alone.
     Object,

@@ -151,8 +151,9 @@ fn accesses_lines(
 {
     let state = loaded.start().opening(alloc)?;
     let mut text = String::new(alloc);
-    push_cells(&mut text, loaded.names(), &state, cells)?;
+    let pushed = push_cells(&mut text, loaded.names(), &state, cells);
     drop(state);
+    pushed?;
     Ok(text)
 }
 

@@ -9,7 +9,7 @@ use mls_labels::is_name;
 use std::alloc::{AllocError, Global};
 
 /// Why a name is refused in its list.
-#[derive(Clone, Copy, Debug, PartialEq, Eq)]
+#[derive(Clone, Copy)]
 pub(crate) enum NameFault {
     /// It is no NAME.
     Bad,

@@ -13,7 +13,7 @@ use crate::place::Spot;
 use serde_json::{Map, Value};
 
 /// What a value in a list of the file is to be.
-#[derive(Clone, Copy, Debug, PartialEq, Eq)]
+#[derive(Clone, Copy)]
 pub(crate) enum Row {
     Subject,
     Object,

@@ -276,8 +276,9 @@ fn labelled_text(
 {
     let labels = known_labels(alloc, file)?;
     let mut text = String::new(alloc);
-    push_labelled(&mut text, fault, &labels)?;
+    let pushed = push_labelled(&mut text, fault, &labels);
     drop(labels);
+    pushed?;
     Ok(text)
 }
 

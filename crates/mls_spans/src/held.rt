@@ -55,9 +55,10 @@ pub fn list_spans(
     ensures fault { IfErr result (λ fault. fault ≡ Files Memory) }
 {
     let spans = spans_of(alloc, start, entries)?;
-    let text = lines(alloc, names, choice, &spans)?;
+    let text = lines(alloc, names, choice, &spans);
     let is_positive = is_any_asked(choice, &spans);
     drop(spans);
+    let text = text?;
     Ok(Answer { text, is_positive })
 }
 

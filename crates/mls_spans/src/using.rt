@@ -70,10 +70,10 @@ pub fn list_usages(
 {
     let usages = usages_over(alloc, first, entries)?;
     let unused = count_unused(&usages);
-    let text = usage_lines(alloc, names, &usages, unused)?;
+    let text = usage_lines(alloc, names, &usages, unused);
     drop(usages);
     Ok(Answer {
-        text,
+        text: text?,
         is_positive: unused == 0,
     })
 }
