@@ -7,13 +7,15 @@ use crate::listing::{journal, state};
 use crate::report::report;
 use crate::segmented::answer_in_segments;
 use crate::snapshots::start_of_state;
+use crate::source_names::source_of;
+use crate::sources::{Bytes, read_source};
 use crate::spans::{held, usage, who_ever};
 use crate::starts::{lattice, lint};
 use mls_explain_text::{Sort, fault_line, thing_line, word_line};
 use mls_files::{command_refused, fault_file};
 use mls_lines::LineFault;
 use mls_replay::QuestionFault;
-use mls_terminal::{NO_MEMORY, Progress, Question, refused};
+use mls_terminal::{NO_MEMORY, Progress, Question, Source, refused};
 use mls_wording::Answer;
 use std::alloc::AllocError;
 use std::process::ExitCode;
@@ -22,7 +24,7 @@ use std::process::ExitCode;
 const NEGATIVE: u8 = 4;
 
 /// The words that the fault lines of a question name.
-#[derive(Clone, Copy, Debug)]
+#[derive(Clone, Copy)]
 pub(crate) struct Named<'a> {
     pub start: &'a str,
     pub journal: &'a str,
@@ -131,48 +133,61 @@ pub(crate) fn ended(
     }
 }
 
-/// Answers a question, of a journal over all that it holds.
-fn answer_whole(progress: &mut Progress<'_>, question: &Question<'_>) -> ExitCode {
+/// Answers a question over the bytes of its files.
+fn answer_over(
+    progress: &mut Progress<'_>,
+    question: &Question<'_>,
+    source: &Source<'_>,
+    bytes: &Bytes,
+) -> ExitCode {
     match question {
-        Question::Ask { source, line } => ask(progress, source, line),
-        Question::Explain { source, line } => explain(progress, source, *line),
-        Question::Who {
-            source,
-            object,
-            mode,
-        } => who(progress, source, object, *mode),
-        Question::WhoEver(words) => who_ever(progress, words),
+        Question::Ask { line, .. } => ask(progress, source, bytes, line),
+        Question::Explain { line, .. } => explain(progress, source, bytes, *line),
+        Question::Who { object, mode, .. } => who(progress, source, bytes, object, *mode),
+        Question::WhoEver(words) => who_ever(progress, words, bytes),
         Question::Powers {
-            source,
             subject,
             downgrades,
-        } => powers(progress, source, *subject, *downgrades),
+            ..
+        } => powers(progress, source, bytes, *subject, *downgrades),
         Question::About {
-            source,
             name,
             is_object,
-        } => about(progress, source, name, *is_object),
-        Question::Lint { start } => lint(progress, start),
-        Question::Lattice { start } => lattice(progress, start),
-        Question::Journal(words) => journal(progress, words),
+            ..
+        } => about(progress, source, bytes, name, *is_object),
+        Question::Lint { start } => lint(progress, start, bytes),
+        Question::Lattice { start } => lattice(progress, start, bytes),
+        Question::Journal(words) => journal(progress, words, bytes),
         Question::State {
-            source,
             is_start: false,
             ..
-        } => state(progress, source),
+        } => state(progress, source, bytes),
         Question::State {
-            source,
             is_start: true,
             map,
-        } => start_of_state(progress, source, *map),
-        Question::Held(words) => held(progress, words),
-        Question::Usage(words) => usage(progress, words),
+            ..
+        } => start_of_state(progress, source, bytes, *map),
+        Question::Held(words) => held(progress, words, bytes),
+        Question::Usage(words) => usage(progress, words, bytes),
         Question::Compare {
             first,
             second,
             journal,
-        } => compare(progress, first, second, *journal),
-        Question::Report(words) => report(progress, words),
+        } => compare(progress, first, bytes, second, *journal),
+        Question::Report(words) => report(progress, words, bytes),
+    }
+}
+
+/// Answers a question, of a journal over all that it holds.
+fn answer_whole(progress: &mut Progress<'_>, question: &Question<'_>) -> ExitCode {
+    let source = source_of(question);
+    match read_source(progress, &source) {
+        Ok(bytes) => {
+            let status = answer_over(progress, question, &source, &bytes);
+            drop(bytes);
+            status
+        }
+        Err(status) => status,
     }
 }
 

@@ -1,8 +1,8 @@
 //! The commands that ask about a request.
 use crate::answering::{Named, ended};
-use crate::sources::{Bytes, read_source};
+use crate::one_state::mode_of;
+use crate::sources::Bytes;
 use mls_explain_text::{ask as asked, explain as explained, who as listed};
-use mls_requests::read_mode;
 use mls_terminal::{Progress, Source};
 use std::process::ExitCode;
 
@@ -18,83 +18,55 @@ fn named<'a>(source: &Source<'a>, object: &'a str, line: &'a str) -> Named<'a> {
 }
 
 /// Prints what a line would be answered.
-pub(crate) fn ask(progress: &mut Progress<'_>, source: &Source<'_>, line: &str) -> ExitCode {
-    let bytes = match read_source(progress, source) {
-        Ok(bytes) => bytes,
-        Err(status) => return status,
-    };
-    let Bytes {
-        start,
-        journal,
-        at,
-        ..
-    } = &bytes;
+pub(crate) fn ask(
+    progress: &mut Progress<'_>,
+    source: &Source<'_>,
+    bytes: &Bytes,
+    line: &str,
+) -> ExitCode {
     progress.begin("asking");
-    let done = asked(
-        progress.rt().alloc(),
-        start,
-        journal.as_deref(),
-        *at,
-        line.as_bytes(),
-    );
-    let status = ended(progress, named(source, "", line), start, done);
-    drop(bytes);
-    status
+    let journal = bytes.journal.as_deref();
+    let text = line.as_bytes();
+    let done = asked(progress.rt().alloc(), &bytes.start, journal, bytes.at, text);
+    ended(progress, named(source, "", line), &bytes.start, done)
 }
 
 /// Prints why a line, or an entry, is answered as it is.
 pub(crate) fn explain<'x>(
     progress: &mut Progress<'_>,
     source: &Source<'x>,
+    bytes: &Bytes,
     line: Option<&'x str>,
 ) -> ExitCode {
-    let bytes = match read_source(progress, source) {
-        Ok(bytes) => bytes,
-        Err(status) => return status,
-    };
-    let Bytes {
-        start,
-        journal,
-        at,
-        ..
-    } = &bytes;
-    let text = line.map(|line| line.as_bytes());
     progress.begin("explaining");
-    let done = explained(progress.rt().alloc(), start, journal.as_deref(), *at, text);
+    let journal = bytes.journal.as_deref();
+    let text = match line {
+        Some(line) => Some(line.as_bytes()),
+        None => None,
+    };
+    let done = explained(progress.rt().alloc(), &bytes.start, journal, bytes.at, text);
     let about = named(source, "", line.unwrap_or(""));
-    let status = ended(progress, about, start, done);
-    drop(bytes);
-    status
+    ended(progress, about, &bytes.start, done)
 }
 
 /// Prints who may get an object.
 pub(crate) fn who(
     progress: &mut Progress<'_>,
     source: &Source<'_>,
+    bytes: &Bytes,
     object: &str,
     mode: Option<&str>,
 ) -> ExitCode {
-    let bytes = match read_source(progress, source) {
-        Ok(bytes) => bytes,
-        Err(status) => return status,
-    };
-    let Bytes {
-        start,
-        journal,
-        at,
-        ..
-    } = &bytes;
-    let mode = mode.and_then(|mode| read_mode(mode.as_bytes()));
     progress.begin("looking");
+    let alloc = progress.rt().alloc();
+    let journal = bytes.journal.as_deref();
     let done = listed(
-        progress.rt().alloc(),
-        start,
-        journal.as_deref(),
-        *at,
+        alloc,
+        &bytes.start,
+        journal,
+        bytes.at,
         object,
-        mode,
+        mode_of(mode),
     );
-    let status = ended(progress, named(source, object, ""), start, done);
-    drop(bytes);
-    status
+    ended(progress, named(source, object, ""), &bytes.start, done)
 }

@@ -2,8 +2,8 @@
 use crate::answering::answered;
 use crate::sources::{Bytes, read_source};
 use mls_compare::{CompareFault, compare as compared};
-use mls_files::{command_refused, start_file};
-use mls_terminal::{Progress, Source, file_refused};
+use mls_files::command_refused;
+use mls_terminal::{Progress, Source};
 use mls_wording::Answer;
 use std::process::ExitCode;
 
@@ -44,42 +44,14 @@ fn words_of<'x>(progress: &Progress<'_>, first: &'x str, second: &'x str) -> (&'
     }
 }
 
-/// Reads the second start's file, and the journal's where there is one, and prints how the second start differs.
-fn compare_with(
-    progress: &mut Progress<'_>,
-    first: &str,
-    bytes: &[u8],
-    others: &Source<'_>,
-) -> ExitCode {
-    let read = match read_source(progress, others) {
-        Ok(read) => read,
-        Err(status) => return status,
-    };
-    let Bytes { start, journal, .. } = &read;
-    progress.begin("comparing");
-    let words = words_of(progress, first, others.start);
-    let done = compared(
-        progress.rt().alloc(),
-        words,
-        bytes,
-        start,
-        journal.as_deref(),
-    );
-    drop(read);
-    ended(progress, first, others, done)
-}
-
-/// Prints how a second start differs from a first one, or from the replies of a journal of it.
+/// Prints how a second start differs from a first one, whose bytes these are, or from the replies of a journal of it.
 pub(crate) fn compare<'x>(
     progress: &mut Progress<'_>,
     first: &str,
+    bytes: &Bytes,
     second: &'x str,
     journal: Option<&'x str>,
 ) -> ExitCode {
-    let bytes = match start_file(first).read(progress) {
-        Ok(bytes) => bytes,
-        Err(fault) => return file_refused(progress, first, fault),
-    };
     let others = Source {
         start: second,
         journal,
@@ -87,7 +59,16 @@ pub(crate) fn compare<'x>(
         marks: None,
         when: None,
     };
-    let status = compare_with(progress, first, &bytes, &others);
-    drop(bytes);
-    status
+    match read_source(progress, &others) {
+        Ok(read) => {
+            progress.begin("comparing");
+            let words = words_of(progress, first, second);
+            let journal = read.journal.as_deref();
+            let alloc = progress.rt().alloc();
+            let done = compared(alloc, words, &bytes.start, &read.start, journal);
+            drop(read);
+            ended(progress, first, &others, done)
+        }
+        Err(status) => status,
+    }
 }

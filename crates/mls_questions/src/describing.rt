@@ -1,6 +1,6 @@
 //! The command that tells all of a subject or of an object.
 use crate::answering::{Named, ended, thing_refused};
-use crate::sources::{Bytes, read_source};
+use crate::sources::Bytes;
 use mls_about::about as told;
 use mls_replay::QuestionFault;
 use mls_terminal::{Progress, Source};
@@ -34,31 +34,19 @@ fn ended_about(
 pub(crate) fn about(
     progress: &mut Progress<'_>,
     source: &Source<'_>,
+    bytes: &Bytes,
     name: &str,
     is_object: bool,
 ) -> ExitCode {
-    let bytes = match read_source(progress, source) {
-        Ok(bytes) => bytes,
-        Err(status) => return status,
-    };
-    let Bytes {
-        start,
-        journal,
-        marks,
-        at,
-        verified: _,
-    } = &bytes;
     progress.begin("looking");
     let done = told(
         progress.rt().alloc(),
-        start,
-        journal.as_deref(),
-        *at,
-        marks.as_ref(),
+        &bytes.start,
+        bytes.journal.as_deref(),
+        bytes.at,
+        bytes.marks.as_ref(),
         name,
         is_object,
     );
-    let status = ended_about(progress, source, name, start, done);
-    drop(bytes);
-    status
+    ended_about(progress, source, name, &bytes.start, done)
 }

@@ -1,6 +1,6 @@
 //! The command that asks what subjects may change.
 use crate::answering::{Named, ended};
-use crate::sources::{Bytes, read_source};
+use crate::sources::Bytes;
 use mls_replay::{QuestionFault, Replay, named_subject, replay_at};
 use mls_review::{Asked, powers as listed};
 use mls_terminal::{Progress, Source};
@@ -42,8 +42,7 @@ fn tell_of(
     word: Option<&str>,
     downgrades: bool,
 ) -> Result<Answer, QuestionFault> {
-    let journal = bytes.journal.as_deref().unwrap_or(b"".as_slice());
-    let seen = replay_at(alloc, &bytes.start, journal, bytes.at)?;
+    let seen = replay_at(alloc, &bytes.start, bytes.journal(), bytes.at)?;
     let told = tell(alloc, &seen, word, downgrades);
     drop(seen);
     told
@@ -53,15 +52,12 @@ fn tell_of(
 pub(crate) fn powers(
     progress: &mut Progress<'_>,
     source: &Source<'_>,
+    bytes: &Bytes,
     subject: Option<&str>,
     downgrades: bool,
 ) -> ExitCode {
-    let bytes = match read_source(progress, source) {
-        Ok(bytes) => bytes,
-        Err(status) => return status,
-    };
     progress.begin("looking");
-    let done = tell_of(progress.rt().alloc(), &bytes, subject, downgrades);
+    let done = tell_of(progress.rt().alloc(), bytes, subject, downgrades);
     let named = Named {
         start: source.start,
         journal: source.journal.unwrap_or(""),
@@ -69,7 +65,5 @@ pub(crate) fn powers(
         object: "",
         line: "",
     };
-    let status = ended(progress, named, &bytes.start, done);
-    drop(bytes);
-    status
+    ended(progress, named, &bytes.start, done)
 }

@@ -13,6 +13,7 @@ mod report;
 mod report_parts;
 mod segmented;
 mod snapshots;
+mod source_names;
 mod sources;
 mod spans;
 mod starts;

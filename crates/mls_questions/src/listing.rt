@@ -1,11 +1,13 @@
 //! The commands that list what a journal has, and the state that it leads to.
 use crate::answering::{Named, answered, ended, name_refused, question_refused};
 use crate::renaming::journal_after;
-use crate::sources::{Bytes, read_source};
+use crate::sources::Bytes;
 use mls_explain_text::{Sort, list_explained};
 use mls_marks::Marks;
 use mls_reports::{Filter, ListFault, Words, list_journal, list_state};
 use mls_terminal::{JournalWords, Progress, Source};
+use mls_wording::Answer;
+use std::alloc::Global;
 use std::process::ExitCode;
 
 /// Tells why the entries of a journal aren't listed, by the bytes of the start file.
@@ -82,67 +84,46 @@ fn marked_filter<'a>(words: &JournalWords<'a>, marks: Option<&Marks>) -> Words<'
     }
 }
 
-/// Prints the entries of a journal that are asked for.
-pub(crate) fn journal(progress: &mut Progress<'_>, words: &JournalWords<'_>) -> ExitCode {
-    let source = Source {
-        start: words.start,
-        journal: Some(words.journal),
-        at: None,
-        marks: words.marks,
-        when: None,
-    };
-    let bytes = match read_source(progress, &source) {
-        Ok(bytes) => bytes,
-        Err(status) => return status,
-    };
-    let journal = bytes.journal.as_deref().unwrap_or(b"".as_slice());
+/// The entries of a journal that are asked for, each explained or each as it is.
+fn listed(
+    alloc: Global,
+    words: &JournalWords<'_>,
+    bytes: &Bytes,
+    filter: &Words<'_>,
+) -> Result<Answer, ListFault> {
+    let journal = bytes.journal();
     let marks = bytes.marks.as_ref();
-    let filter = marked_filter(words, marks);
+    if words.is_explained {
+        list_explained(alloc, &bytes.start, journal, marks, filter)
+    } else {
+        list_journal(alloc, &bytes.start, journal, marks, filter, words.form)
+    }
+}
+
+/// Prints the entries of a journal that are asked for.
+pub(crate) fn journal(
+    progress: &mut Progress<'_>,
+    words: &JournalWords<'_>,
+    bytes: &Bytes,
+) -> ExitCode {
+    let filter = marked_filter(words, bytes.marks.as_ref());
     if let Some(map) = words.after {
-        let status = journal_after(progress, words, map, &bytes, &filter);
-        drop(bytes);
-        return status;
+        return journal_after(progress, words, map, bytes, &filter);
     }
     progress.begin("listing");
-    let rt = progress.rt();
-    let done = if words.is_explained {
-        list_explained(rt.alloc(), &bytes.start, journal, marks, &filter)
-    } else {
-        list_journal(
-            rt.alloc(),
-            &bytes.start,
-            journal,
-            marks,
-            &filter,
-            words.form,
-        )
-    };
+    let done = listed(progress.rt().alloc(), words, bytes, &filter);
     progress.end();
-    let status = match done {
+    match done {
         Ok(answer) => answered(progress, answer),
-        Err(fault) => list_refused(rt, words, &bytes.start, fault),
-    };
-    drop(bytes);
-    status
+        Err(fault) => list_refused(progress.rt(), words, &bytes.start, fault),
+    }
 }
 
 /// Prints the state that a journal leads to.
-pub(crate) fn state(progress: &mut Progress<'_>, source: &Source<'_>) -> ExitCode {
-    let bytes = match read_source(progress, source) {
-        Ok(bytes) => bytes,
-        Err(status) => return status,
-    };
-    let Bytes {
-        start,
-        journal,
-        at,
-        ..
-    } = &bytes;
-    let journal = journal.as_deref().unwrap_or(b"".as_slice());
+pub(crate) fn state(progress: &mut Progress<'_>, source: &Source<'_>, bytes: &Bytes) -> ExitCode {
     progress.begin("listing");
-    let done = list_state(progress.rt().alloc(), start, journal, *at);
+    let alloc = progress.rt().alloc();
+    let done = list_state(alloc, &bytes.start, bytes.journal(), bytes.at);
     let named = Named::files(source.start, source.journal.unwrap_or(""));
-    let status = ended(progress, named, start, done);
-    drop(bytes);
-    status
+    ended(progress, named, &bytes.start, done)
 }

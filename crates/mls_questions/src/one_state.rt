@@ -13,7 +13,7 @@ use mls_wording::Answer;
 use std::alloc::Global;
 
 /// What is asked of one state.
-#[derive(Clone, Copy, Debug)]
+#[derive(Clone, Copy)]
 pub(crate) enum OfState<'a> {
     /// What a line would be answered.
     Line(&'a str),
@@ -55,9 +55,17 @@ fn why(alloc: Global, names: &Names, state: &State, line: &str) -> Result<Answer
     }
 }
 
+/// The mode that a word names, where there is one.
+pub(crate) fn mode_of(word: Option<&str>) -> Option<Mode> {
+    match word {
+        Some(word) => read_mode(word.as_bytes()),
+        None => None,
+    }
+}
+
 /// The modes that are asked for: one, or all.
 fn modes_of(word: Option<&str>) -> Modes {
-    match word.and_then(|mode| read_mode(mode.as_bytes())) {
+    match mode_of(word) {
         Some(x) => Modes::empty().with(x),
         None => Modes::empty()
             .with(Mode::Execute)

@@ -134,8 +134,7 @@ fn journal_by(
     words: &JournalWords<'_>,
     filter: &Words<'_>,
 ) -> Result<Answer, ListFault> {
-    let journal = bytes.journal.as_deref().unwrap_or(b"".as_slice());
-    match replay_at(alloc, &bytes.start, journal, None) {
+    match replay_at(alloc, &bytes.start, bytes.journal(), None) {
         Ok(replay) => {
             let listed = list_replayed(alloc, names, &replay, bytes.marks.as_ref(), words, filter);
             drop(replay);
@@ -235,8 +234,12 @@ fn held_by(
     bytes: &Bytes,
     words: &SpanWords<'_>,
 ) -> Result<Answer, QuestionFault> {
-    let journal = bytes.journal.as_deref().unwrap_or(b"".as_slice());
-    let replay = replay_at(alloc, &bytes.start, journal, Some(words.states.first))?;
+    let replay = replay_at(
+        alloc,
+        &bytes.start,
+        bytes.journal(),
+        Some(words.states.first),
+    )?;
     let listed = held_over(alloc, names, &replay, words);
     drop(replay);
     listed
@@ -276,8 +279,12 @@ fn usage_by(
     bytes: &Bytes,
     words: &UsageWords<'_>,
 ) -> Result<Answer, QuestionFault> {
-    let journal = bytes.journal.as_deref().unwrap_or(b"".as_slice());
-    let replay = replay_at(alloc, &bytes.start, journal, Some(words.states.first))?;
+    let replay = replay_at(
+        alloc,
+        &bytes.start,
+        bytes.journal(),
+        Some(words.states.first),
+    )?;
     let entries = entries_between(replay.entries(), words.states);
     let listed = list_usages(alloc, names, replay.state(), entries);
     drop(replay);

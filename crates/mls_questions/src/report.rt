@@ -1,17 +1,16 @@
 //! The command that prints a page about a journal.
 use crate::answering::{Named, question_refused};
 use crate::report_parts::add_sections;
-use crate::sources::{Bytes, read_source};
+use crate::sources::Bytes;
 use mls_page::Page;
 use mls_replay::{QuestionFault, replay_at};
-use mls_terminal::{Progress, ReportWords, Source, print};
+use mls_terminal::{Progress, ReportWords, print};
 use std::alloc::Global;
 use std::process::ExitCode;
 
 /// Appends all sections.
 fn add_all(alloc: Global, page: &mut Page, bytes: &Bytes) -> Result<(), QuestionFault> {
-    let journal = bytes.journal.as_deref().unwrap_or(b"".as_slice());
-    match replay_at(alloc, &bytes.start, journal, None) {
+    match replay_at(alloc, &bytes.start, bytes.journal(), None) {
         Ok(seen) => {
             let (verified, marks) = (bytes.verified.as_ref(), bytes.marks.as_ref());
             let done = add_sections(alloc, page, &seen, verified, marks);
@@ -39,22 +38,15 @@ fn page_of(
 }
 
 /// Prints a page about a journal.
-pub(crate) fn report(progress: &mut Progress<'_>, words: &ReportWords<'_>) -> ExitCode {
-    let source = Source {
-        start: words.start,
-        journal: Some(words.journal),
-        at: None,
-        marks: words.marks,
-        when: None,
-    };
-    let bytes = match read_source(progress, &source) {
-        Ok(bytes) => bytes,
-        Err(status) => return status,
-    };
+pub(crate) fn report(
+    progress: &mut Progress<'_>,
+    words: &ReportWords<'_>,
+    bytes: &Bytes,
+) -> ExitCode {
     progress.begin("reporting");
-    let done = page_of(progress.rt().alloc(), words, &bytes);
+    let done = page_of(progress.rt().alloc(), words, bytes);
     progress.end();
-    let status = match done {
+    match done {
         Ok(html) => {
             let status = print(progress.rt(), &html);
             drop(html);
@@ -64,7 +56,5 @@ pub(crate) fn report(progress: &mut Progress<'_>, words: &ReportWords<'_>) -> Ex
             let named = Named::files(words.start, words.journal);
             question_refused(progress.rt(), named, &bytes.start, fault)
         }
-    };
-    drop(bytes);
-    status
+    }
 }

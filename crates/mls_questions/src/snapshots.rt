@@ -1,6 +1,6 @@
 //! The command that prints the state that a journal leads to as a start file.
 use crate::answering::{Named, question_refused};
-use crate::sources::{Bytes, read_source};
+use crate::sources::Bytes;
 use mls_compare::{SnapshotFault, map_text, snapshot};
 use mls_lines::Names;
 use mls_replay::{CommandFault, QuestionFault, START_LIMIT, replay_at};
@@ -95,24 +95,14 @@ pub(crate) fn ended_start(
 }
 
 /// The start file of the state that files lead to.
-fn start_alone(
-    alloc: Global,
-    start: &[u8],
-    journal: &[u8],
-    at: Option<u64>,
-) -> Result<NewStart, SnapshotFault> {
-    let text = snapshot(alloc, start, journal, at)?;
+fn start_alone(alloc: Global, bytes: &Bytes) -> Result<NewStart, SnapshotFault> {
+    let text = snapshot(alloc, &bytes.start, bytes.journal(), bytes.at)?;
     Ok(NewStart { text, map: None })
 }
 
 /// The same, and the map of its objects.
-fn start_and_map(
-    alloc: Global,
-    start: &[u8],
-    journal: &[u8],
-    at: Option<u64>,
-) -> Result<NewStart, SnapshotFault> {
-    let seen = replay_at(alloc, start, journal, at)?;
+fn start_and_map(alloc: Global, bytes: &Bytes) -> Result<NewStart, SnapshotFault> {
+    let seen = replay_at(alloc, &bytes.start, bytes.journal(), bytes.at)?;
     let made = snapshot_in(alloc, seen.names(), seen.state());
     drop(seen);
     made
@@ -123,27 +113,15 @@ fn start_and_map(
 pub(crate) fn start_of_state(
     progress: &mut Progress<'_>,
     source: &Source<'_>,
+    bytes: &Bytes,
     map: Option<&str>,
 ) -> ExitCode {
-    let bytes = match read_source(progress, source) {
-        Ok(bytes) => bytes,
-        Err(status) => return status,
-    };
-    let Bytes {
-        start,
-        journal,
-        at,
-        ..
-    } = &bytes;
-    let journal = journal.as_deref().unwrap_or(b"".as_slice());
     progress.begin("writing");
     let alloc = progress.rt().alloc();
     let done = match map {
-        Some(_) => start_and_map(alloc, start, journal, *at),
-        None => start_alone(alloc, start, journal, *at),
+        Some(_) => start_and_map(alloc, bytes),
+        None => start_alone(alloc, bytes),
     };
     let named = Named::files(source.start, source.journal.unwrap_or(""));
-    let status = ended_start(progress, named, start, map, done);
-    drop(bytes);
-    status
+    ended_start(progress, named, &bytes.start, map, done)
 }

@@ -17,6 +17,16 @@ pub(crate) struct Bytes {
     pub at: Option<u64>,
 }
 
+impl Bytes {
+    /// The bytes of the journal, none where there is no journal.
+    pub(crate) fn journal(&self) -> &[u8] {
+        match &self.journal {
+            Some(journal) => journal.as_slice(),
+            None => b"".as_slice(),
+        }
+    }
+}
+
 /// The bytes of a journal, where there is one.
 fn read_any(progress: &mut Progress<'_>, path: Option<&str>) -> Result<Option<Vec<u8>>, FileFault> {
     match path {
@@ -64,9 +74,9 @@ fn marks_over(
 fn place_of(
     progress: &mut Progress<'_>,
     source: &Source<'_>,
-    marks: Option<&Marks>,
+    marks: &Marks,
 ) -> Result<Option<u64>, ExitCode> {
-    let (Some(time), Some(marks)) = (source.when, marks) else {
+    let Some(time) = source.when else {
         return Ok(source.at);
     };
     match marks.until(&time) {
@@ -82,30 +92,54 @@ fn no_mark(progress: &mut Progress<'_>, marks: &str) -> ExitCode {
     ExitCode::from(1)
 }
 
-/// What was read of the start and the journal, with the marks.
+/// What is read beside a start: the rest of `Bytes`.
+#[derive(Drop)]
+struct Beside {
+    journal: Option<Vec<u8>>,
+    marks: Option<Marks>,
+    verified: Option<Verified>,
+    at: Option<u64>,
+}
+
+/// A journal that was read, with its marks, where there are such.
 fn with_marks(
     progress: &mut Progress<'_>,
     source: &Source<'_>,
     input: &Option<MarksInput>,
-    start: Vec<u8>,
     journal: Option<Vec<u8>>,
-) -> Result<Bytes, ExitCode> {
-    let (marks, verified) = match marks_over(progress, source.marks, input, journal.as_deref())? {
-        Some((marks, verified)) => (Some(marks), Some(verified)),
-        None => (None, None),
-    };
-    let at = place_of(progress, source, marks.as_ref())?;
-    Ok(Bytes {
-        start,
-        journal,
-        marks,
-        verified,
-        at,
-    })
+) -> Result<Beside, ExitCode> {
+    match marks_over(progress, source.marks, input, journal.as_deref())? {
+        Some((marks, verified)) => {
+            let at = place_of(progress, source, &marks)?;
+            Ok(Beside {
+                journal,
+                marks: Some(marks),
+                verified: Some(verified),
+                at,
+            })
+        }
+        None => Ok(Beside {
+            journal,
+            marks: None,
+            verified: None,
+            at: source.at,
+        }),
+    }
 }
 
-/// Reads the files of a question, the start's first. The file of marks is opened before the journal is read: what a
-/// service adds to both meanwhile isn't looked at.
+/// Reads what a question needs beside a start. The file of marks is opened before the journal is read: what a service
+/// adds to both meanwhile isn't looked at.
+fn read_beside(progress: &mut Progress<'_>, source: &Source<'_>) -> Result<Beside, ExitCode> {
+    let input = open_marks(progress, source.marks)?;
+    let read = match read_any(progress, source.journal) {
+        Ok(journal) => with_marks(progress, source, &input, journal),
+        Err(fault) => Err(file_refused(progress, source.journal.unwrap_or(""), fault)),
+    };
+    drop(input);
+    read
+}
+
+/// Reads the files of a question, the start's first.
 ///
 /// # Errors
 /// The status to end with: it is told which file couldn't be read, or why the marks are refused.
@@ -117,12 +151,24 @@ pub(crate) fn read_source(
         Ok(start) => start,
         Err(fault) => return Err(file_refused(progress, source.start, fault)),
     };
-    let input = open_marks(progress, source.marks)?;
-    match read_any(progress, source.journal) {
-        Ok(journal) => with_marks(progress, source, &input, start, journal),
-        Err(fault) => {
+    match read_beside(progress, source) {
+        Ok(
+            Beside {
+                journal,
+                marks,
+                verified,
+                at,
+            },
+        ) => Ok(Bytes {
+            start,
+            journal,
+            marks,
+            verified,
+            at,
+        }),
+        Err(status) => {
             drop(start);
-            Err(file_refused(progress, source.journal.unwrap_or(""), fault))
+            Err(status)
         }
     }
 }

@@ -2,43 +2,20 @@
 use crate::answering::{Named, ended};
 use crate::listing::earlier;
 use crate::renaming::{held_after, usage_after};
-use crate::sources::{Bytes, read_source};
+use crate::sources::Bytes;
 use mls_marks::{Marks, Time};
 use mls_spans::{States, list_ever, list_held, list_usage};
-use mls_terminal::{EverWords, HeldWords, Progress, Source, UsageWords};
+use mls_terminal::{EverWords, HeldWords, Progress, UsageWords};
 use std::process::ExitCode;
 
-/// Reads a start file and a journal.
-fn read_both<'x>(
-    progress: &mut Progress<'_>,
-    start: &'x str,
-    journal: &'x str,
-) -> Result<Bytes, ExitCode> {
-    let source = Source {
-        start,
-        journal: Some(journal),
-        at: None,
-        marks: None,
-        when: None,
-    };
-    read_source(progress, &source)
-}
-
 /// Prints who held what over a journal.
-pub(crate) fn held(progress: &mut Progress<'_>, words: &HeldWords<'_>) -> ExitCode {
-    let bytes = match read_both(progress, words.start, words.journal) {
-        Ok(bytes) => bytes,
-        Err(status) => return status,
-    };
+pub(crate) fn held(progress: &mut Progress<'_>, words: &HeldWords<'_>, bytes: &Bytes) -> ExitCode {
     if let Some(map) = words.after {
-        let status = held_after(progress, words, map, &bytes);
-        drop(bytes);
-        return status;
+        return held_after(progress, words, map, bytes);
     }
-    let Bytes { start, journal, .. } = &bytes;
-    let journal = journal.as_deref().unwrap_or(b"".as_slice());
     progress.begin("listing");
-    let done = list_held(progress.rt().alloc(), start, journal, &words.filter);
+    let alloc = progress.rt().alloc();
+    let done = list_held(alloc, &bytes.start, bytes.journal(), &words.filter);
     let named = Named {
         start: words.start,
         journal: words.journal,
@@ -46,34 +23,23 @@ pub(crate) fn held(progress: &mut Progress<'_>, words: &HeldWords<'_>) -> ExitCo
         object: words.filter.object.unwrap_or(""),
         line: "",
     };
-    let status = ended(progress, named, start, done);
-    drop(bytes);
-    status
+    ended(progress, named, &bytes.start, done)
 }
 
 /// Prints how the permissions over a journal were used.
-pub(crate) fn usage(progress: &mut Progress<'_>, words: &UsageWords<'_>) -> ExitCode {
-    let bytes = match read_both(progress, words.start, words.journal) {
-        Ok(bytes) => bytes,
-        Err(status) => return status,
-    };
+pub(crate) fn usage(
+    progress: &mut Progress<'_>,
+    words: &UsageWords<'_>,
+    bytes: &Bytes,
+) -> ExitCode {
     if let Some(map) = words.after {
-        let status = usage_after(progress, words, map, &bytes);
-        drop(bytes);
-        return status;
+        return usage_after(progress, words, map, bytes);
     }
-    let Bytes { start, journal, .. } = &bytes;
-    let journal = journal.as_deref().unwrap_or(b"".as_slice());
     progress.begin("listing");
-    let done = list_usage(progress.rt().alloc(), start, journal, words.states);
-    let status = ended(
-        progress,
-        Named::files(words.start, words.journal),
-        start,
-        done,
-    );
-    drop(bytes);
-    status
+    let alloc = progress.rt().alloc();
+    let done = list_usage(alloc, &bytes.start, bytes.journal(), words.states);
+    let named = Named::files(words.start, words.journal);
+    ended(progress, named, &bytes.start, done)
 }
 
 /// The number of the first state at a time or behind it: the one before the first entry of the first batch whose time
@@ -116,32 +82,18 @@ fn states_of(words: &EverWords<'_>, marks: Option<&Marks>) -> States {
 }
 
 /// Prints who could ever get an object over a journal.
-pub(crate) fn who_ever(progress: &mut Progress<'_>, words: &EverWords<'_>) -> ExitCode {
-    let source = Source {
-        start: words.start,
-        journal: Some(words.journal),
-        at: None,
-        marks: words.marks,
-        when: None,
-    };
-    let bytes = match read_source(progress, &source) {
-        Ok(bytes) => bytes,
-        Err(status) => return status,
-    };
-    let Bytes {
-        start,
-        journal,
-        marks,
-        ..
-    } = &bytes;
-    let journal = journal.as_deref().unwrap_or(b"".as_slice());
-    let marks = marks.as_ref();
+pub(crate) fn who_ever(
+    progress: &mut Progress<'_>,
+    words: &EverWords<'_>,
+    bytes: &Bytes,
+) -> ExitCode {
+    let marks = bytes.marks.as_ref();
     let states = states_of(words, marks);
     progress.begin("looking");
     let done = list_ever(
         progress.rt().alloc(),
-        start,
-        journal,
+        &bytes.start,
+        bytes.journal(),
         marks,
         states,
         words.object,
@@ -154,7 +106,5 @@ pub(crate) fn who_ever(progress: &mut Progress<'_>, words: &EverWords<'_>) -> Ex
         object: words.object,
         line: "",
     };
-    let status = ended(progress, named, start, done);
-    drop(bytes);
-    status
+    ended(progress, named, &bytes.start, done)
 }

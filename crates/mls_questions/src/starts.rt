@@ -7,12 +7,13 @@ ghost use Rattle.mls_review.specs.LintText.{lint_text};
 ghost use Rattle.mls_start_file.specs.Says.{RefusesStart};
 
 use crate::answering::{Named, ended};
-use mls_files::{command_refused, load_start, start_file};
+use crate::sources::Bytes;
+use mls_files::{command_refused, judge_start};
 use mls_places::{places, repeated_members};
 use mls_replay::{CommandFault, QuestionFault};
 use mls_review::{lattice as drawn, lint as linted};
 use mls_start_file::{LoadFault, Loaded, read_start};
-use mls_terminal::{NO_MEMORY, Progress, file_refused, refused};
+use mls_terminal::{NO_MEMORY, Progress, refused};
 use mls_wording::Answer;
 use std::alloc::{AllocError, Global};
 use std::process::ExitCode;
@@ -50,8 +51,9 @@ fn findings(alloc: Global, bytes: &[u8], loaded: &Loaded) -> Result<Answer, Allo
 {
     let mut text = repeated_members(alloc, bytes)?;
     let found = linted(alloc, loaded.names(), loaded.start())?;
-    text.push_str(&found.text)?;
+    let pushed = text.push_str(&found.text);
     drop(found);
+    pushed?;
     let is_positive = text.len() == 0;
     Ok(Answer { text, is_positive })
 }
@@ -69,24 +71,19 @@ fn lint_bytes(progress: &mut Progress<'_>, path: &str, bytes: &[u8]) -> ExitCode
 }
 
 /// Prints what is suspicious in a start and its file, or where the start file's fault applies.
-pub(crate) fn lint(progress: &mut Progress<'_>, path: &str) -> ExitCode {
-    let bytes = match start_file(path).read(progress) {
-        Ok(bytes) => bytes,
-        Err(fault) => return file_refused(progress, path, fault),
-    };
+pub(crate) fn lint(progress: &mut Progress<'_>, path: &str, bytes: &Bytes) -> ExitCode {
     progress.end();
-    let status = lint_bytes(progress, path, &bytes);
-    drop(bytes);
-    status
+    lint_bytes(progress, path, &bytes.start)
 }
 
 /// Prints the order of the labels of a start.
-pub(crate) fn lattice(progress: &mut Progress<'_>, path: &str) -> ExitCode {
-    let loaded = match load_start(progress, path) {
-        Ok(loaded) => loaded,
-        Err(status) => return status,
-    };
-    let done = asked(drawn(progress.rt().alloc(), loaded.names(), loaded.start()));
-    drop(loaded);
-    ended(progress, Named::files(path, ""), b"".as_slice(), done)
+pub(crate) fn lattice(progress: &mut Progress<'_>, path: &str, bytes: &Bytes) -> ExitCode {
+    match judge_start(progress, path, &bytes.start) {
+        Ok(loaded) => {
+            let done = asked(drawn(progress.rt().alloc(), loaded.names(), loaded.start()));
+            drop(loaded);
+            ended(progress, Named::files(path, ""), b"".as_slice(), done)
+        }
+        Err(status) => status,
+    }
 }
