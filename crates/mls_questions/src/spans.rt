@@ -4,76 +4,26 @@ use crate::listing::earlier;
 use crate::renaming::{held_after, usage_after};
 use crate::sources::{Bytes, read_source};
 use mls_marks::{Marks, Time};
-use mls_spans::{States, list_ever, list_held, list_usage};
-use mls_terminal::{EverWords, HeldWords, Progress, Source, UsageWords};
+use mls_spans::{Filter, States, Words, list_ever, list_held, list_usage};
+use mls_terminal::{EverWords, HeldWords, Progress, Source, Times, UsageWords};
 use std::process::ExitCode;
 
-/// Reads a start file and a journal.
+/// Reads a start file and a journal, and its marks where there are some.
 fn read_both<'x>(
     progress: &mut Progress<'_>,
     start: &'x str,
     journal: &'x str,
+    marks: Option<&'x str>,
+    when: Option<Time>,
 ) -> Result<Bytes, ExitCode> {
     let source = Source {
         start,
         journal: Some(journal),
         at: None,
-        marks: None,
-        when: None,
+        marks,
+        when,
     };
     read_source(progress, &source)
-}
-
-/// Prints who held what over a journal.
-pub(crate) fn held(progress: &mut Progress<'_>, words: &HeldWords<'_>) -> ExitCode {
-    let bytes = match read_both(progress, words.start, words.journal) {
-        Ok(bytes) => bytes,
-        Err(status) => return status,
-    };
-    if let Some(map) = words.after {
-        let status = held_after(progress, words, map, &bytes);
-        drop(bytes);
-        return status;
-    }
-    let Bytes { start, journal, .. } = &bytes;
-    let journal = journal.as_deref().unwrap_or(b"".as_slice());
-    progress.begin("listing");
-    let done = list_held(progress.rt().alloc(), start, journal, &words.filter);
-    let named = Named {
-        start: words.start,
-        journal: words.journal,
-        subject: words.filter.subject.unwrap_or(""),
-        object: words.filter.object.unwrap_or(""),
-        line: "",
-    };
-    let status = ended(progress, named, start, done);
-    drop(bytes);
-    status
-}
-
-/// Prints how the permissions over a journal were used.
-pub(crate) fn usage(progress: &mut Progress<'_>, words: &UsageWords<'_>) -> ExitCode {
-    let bytes = match read_both(progress, words.start, words.journal) {
-        Ok(bytes) => bytes,
-        Err(status) => return status,
-    };
-    if let Some(map) = words.after {
-        let status = usage_after(progress, words, map, &bytes);
-        drop(bytes);
-        return status;
-    }
-    let Bytes { start, journal, .. } = &bytes;
-    let journal = journal.as_deref().unwrap_or(b"".as_slice());
-    progress.begin("listing");
-    let done = list_usage(progress.rt().alloc(), start, journal, words.states);
-    let status = ended(
-        progress,
-        Named::files(words.start, words.journal),
-        start,
-        done,
-    );
-    drop(bytes);
-    status
 }
 
 /// The number of the first state at a time or behind it: the one before the first entry of the first batch whose time
@@ -95,17 +45,20 @@ fn state_until(marks: &Marks, time: &Time) -> u64 {
     }
 }
 
-/// The states that are asked about, by number and by time.
-fn states_of(words: &EverWords<'_>, marks: Option<&Marks>) -> States {
-    let States { first, last } = States::between(words.from, words.to);
-    let Some(marks) = marks else {
+/// The states that are asked about, by number and by time. The only one by a time was found as the files were read.
+fn states_of(states: States, times: &Times, bytes: &Bytes) -> States {
+    if let Some(at) = bytes.at {
+        return States::at(at);
+    }
+    let States { first, last } = states;
+    let Some(marks) = &bytes.marks else {
         return States { first, last };
     };
-    let since = match &words.since {
+    let since = match &times.since {
         Some(time) => state_since(marks, time),
         None => 0,
     };
-    let until = match &words.until {
+    let until = match &times.until {
         Some(time) => Some(state_until(marks, time)),
         None => None,
     };
@@ -115,34 +68,94 @@ fn states_of(words: &EverWords<'_>, marks: Option<&Marks>) -> States {
     }
 }
 
-/// Prints who could ever get an object over a journal.
-pub(crate) fn who_ever(progress: &mut Progress<'_>, words: &EverWords<'_>) -> ExitCode {
-    let source = Source {
-        start: words.start,
-        journal: Some(words.journal),
-        at: None,
-        marks: words.marks,
-        when: None,
-    };
-    let bytes = match read_source(progress, &source) {
+/// Which spans are asked for, by number and by time.
+fn timed_filter<'a>(words: &HeldWords<'a>, bytes: &Bytes) -> Words<'a> {
+    Filter {
+        subject: words.filter.subject,
+        object: words.filter.object,
+        mode: words.filter.mode,
+        states: states_of(words.filter.states, &words.times, bytes),
+    }
+}
+
+/// Prints who held what over a journal.
+pub(crate) fn held(progress: &mut Progress<'_>, words: &HeldWords<'_>) -> ExitCode {
+    let when = words.times.when;
+    let bytes = match read_both(progress, words.start, words.journal, words.marks, when) {
         Ok(bytes) => bytes,
         Err(status) => return status,
     };
-    let Bytes {
+    let filter = timed_filter(words, &bytes);
+    if let Some(map) = words.after {
+        let status = held_after(progress, words, map, &bytes, &filter);
+        drop(bytes);
+        return status;
+    }
+    let start = &bytes.start;
+    let journal = bytes.journal.as_deref().unwrap_or(b"".as_slice());
+    progress.begin("listing");
+    let done = list_held(
+        progress.rt().alloc(),
         start,
         journal,
-        marks,
-        ..
-    } = &bytes;
-    let journal = journal.as_deref().unwrap_or(b"".as_slice());
-    let marks = marks.as_ref();
-    let states = states_of(words, marks);
+        bytes.marks.as_ref(),
+        &filter,
+    );
+    let named = Named {
+        start: words.start,
+        journal: words.journal,
+        subject: filter.subject.unwrap_or(""),
+        object: filter.object.unwrap_or(""),
+        line: "",
+    };
+    let status = ended(progress, named, start, done);
+    drop(bytes);
+    status
+}
+
+/// Prints how the permissions over a journal were used.
+pub(crate) fn usage(progress: &mut Progress<'_>, words: &UsageWords<'_>) -> ExitCode {
+    let bytes = match read_both(progress, words.start, words.journal, words.marks, None) {
+        Ok(bytes) => bytes,
+        Err(status) => return status,
+    };
+    let states = states_of(words.states, &words.times, &bytes);
+    if let Some(map) = words.after {
+        let status = usage_after(progress, words, map, &bytes, states);
+        drop(bytes);
+        return status;
+    }
+    let start = &bytes.start;
+    let journal = bytes.journal.as_deref().unwrap_or(b"".as_slice());
+    progress.begin("listing");
+    let done = list_usage(
+        progress.rt().alloc(),
+        start,
+        journal,
+        bytes.marks.as_ref(),
+        states,
+    );
+    let named = Named::files(words.start, words.journal);
+    let status = ended(progress, named, start, done);
+    drop(bytes);
+    status
+}
+
+/// Prints who could ever get an object over a journal.
+pub(crate) fn who_ever(progress: &mut Progress<'_>, words: &EverWords<'_>) -> ExitCode {
+    let bytes = match read_both(progress, words.start, words.journal, words.marks, None) {
+        Ok(bytes) => bytes,
+        Err(status) => return status,
+    };
+    let states = states_of(words.states, &words.times, &bytes);
+    let start = &bytes.start;
+    let journal = bytes.journal.as_deref().unwrap_or(b"".as_slice());
     progress.begin("looking");
     let done = list_ever(
         progress.rt().alloc(),
         start,
         journal,
-        marks,
+        bytes.marks.as_ref(),
         states,
         words.object,
         words.mode,

@@ -413,7 +413,7 @@ const STATE_ARGUMENTS: [Argument; 7] = [
 ];
 
 /// The arguments of `held`.
-const HELD_ARGUMENTS: [Argument; 9] = [
+const HELD_ARGUMENTS: [Argument; 13] = [
     Argument {
         name: "subject",
         kind: Kind::Text("SUBJ"),
@@ -444,13 +444,31 @@ const HELD_ARGUMENTS: [Argument; 9] = [
         kind: Kind::Entry,
         help: "What was held in the state after entry N, or earlier",
     },
+    MARKS_OF_OPERAND,
+    Argument {
+        name: "when",
+        kind: Kind::TimeOrRange,
+        help: "What was held in the state after the last batch in MARKS whose time is TIME, or earlier; TIME as \
+            2026-11-27T12:12:26+01:00, or a date as 2026-11-27, in UTC",
+    },
+    Argument {
+        name: "since",
+        kind: Kind::Time,
+        help: "What was held in the state at TIME, or later; TIME as for --when",
+    },
+    Argument {
+        name: "until",
+        kind: Kind::Time,
+        help: "What was held in the state after the last batch in MARKS whose time is TIME, or earlier; TIME as for \
+            --when",
+    },
     AFTER,
     START,
     JOURNAL,
 ];
 
 /// The arguments of `usage`.
-const USAGE_ARGUMENTS: [Argument; 5] = [
+const USAGE_ARGUMENTS: [Argument; 8] = [
     Argument {
         name: "from",
         kind: Kind::Entry,
@@ -461,6 +479,19 @@ const USAGE_ARGUMENTS: [Argument; 5] = [
         name: "to",
         kind: Kind::Entry,
         help: "The permissions of the state after entry N, or of an earlier one, and the entries up to N",
+    },
+    MARKS_OF_OPERAND,
+    Argument {
+        name: "since",
+        kind: Kind::Time,
+        help: "The permissions of the state at TIME, or of a later one, and the entries from then on; TIME as \
+            2026-11-27T12:12:26+01:00, or a date as 2026-11-27, in UTC",
+    },
+    Argument {
+        name: "until",
+        kind: Kind::Time,
+        help: "The permissions of the state after the last batch in MARKS whose time is TIME, or of an earlier one, and \
+            the entries up to it; TIME as for --since",
     },
     AFTER,
     START,

@@ -22,6 +22,8 @@ pub use held::Held;
 pub use job::{Asked, Job, RunWords, ServeWords, VerifyWords};
 pub use output::{NO_MEMORY, NOT_WRITTEN, file_refused, is_taken, print, refused, write_bytes};
 pub use progress::Progress;
-pub use question::{EverWords, HeldWords, JournalWords, Question, ReportWords, Source, UsageWords};
+pub use question::{
+    EverWords, HeldWords, JournalWords, Question, ReportWords, Source, Times, UsageWords,
+};
 pub use times::now;
 pub use words::read_words;
