@@ -85,9 +85,13 @@ def who_line(row):
     return f"{named(row, 'subject')} {row['mode']} {get_words(row)}\n"
 
 
+def at(row, key):
+    """An entry, with its time where that is told."""
+    return f"{row[key]}" + ("" if f"{key}_time" not in row else f" [{row[f'{key}_time'] or '-'}]")
+
+
 def ever_line(row):
     """A subject and a mode, and the spans in which the get would be granted."""
-    at = lambda span, key: f"{span[key]}" + ("" if f"{key}_time" not in span else f" [{span[f'{key}_time'] or '-'}]")
     begin = lambda span: "start" if span["begin"] is None else at(span, "begin")
     spans = [f"{begin(it)} " + ("on" if it["end"] is None else f"to {at(it, 'end')}") for it in row["spans"]]
     return f"{named(row, 'subject')} {row['mode']}: {', '.join(spans) or 'never'}\n"
@@ -153,8 +157,8 @@ def about_line(row):
 
 
 def held_line(row):
-    begin = "start" if row["begin"] is None else row["begin"]
-    end = "on" if row["end"] is None else f"to {row['end']}, {row['by']}"
+    begin = "start" if row["begin"] is None else at(row, "begin")
+    end = "on" if row["end"] is None else f"to {at(row, 'end')}, {row['by']}"
     return f"{access(row)}: {begin} {end}\n"
 
 
@@ -163,7 +167,7 @@ def usage_line(row):
         return f"{row['permissions']} permission{'s' * (row['permissions'] != 1)}, {row['never_granted']} never granted\n"
     if row["granted"] == row["denied"] == 0:
         return f"{access(row)}: never asked\n"
-    return f"{access(row)}: {row['granted']} granted, {row['denied']} denied, last {'start' if row['last'] is None else row['last']}\n"
+    return f"{access(row)}: {row['granted']} granted, {row['denied']} denied, last {'start' if row['last'] is None else at(row, 'last')}\n"
 
 
 def asked(row):
@@ -393,10 +397,19 @@ def objects_of_each_form():
         put("e", LEVELS)
         put("em", marks.text_of(marks.made(LEVELS, ends, TIMES[: len(ends)])))
         told("ever", ["who", "--ever", "--journal", "e", "--marks", "em", STANDARD, "memo"])
+        for command in ("held", "usage"):
+            told(command, [command, "--marks", "em", STANDARD, "e"])
         for name in ("bob", "memo"):
             told("about", ["about", "--journal", "e", "--marks", "em", STANDARD, name])
     put("about.journal", JOURNAL)
     put("about.marks", marks.text_of(marks.made(JOURNAL, [3, 9], TIMES)))
+    for command in ("held", "usage"):
+        told(command, [command, "--marks", "about.marks", STANDARD, "about.journal"])
+    put("held.journal", OPENED)
+    for ends in ([1], [2, 4], [5]):
+        put("held.marks", marks.text_of(marks.made(OPENED, ends, TIMES[: len(ends)])))
+        for command in ("held", "usage"):
+            told(command, [command, "--marks", "held.marks", f"{EXAMPLES}/held.json", "held.journal"])
     for name in ("bob", "aud", "sec", "plans", "#4", "#5", "#6"):
         for more in ([], ["--marks", "about.marks"]):
             told("about", ["about", "--journal", "about.journal", *more, STANDARD, name])

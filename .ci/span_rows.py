@@ -1,6 +1,8 @@
 """Who held what: `mls held`, with answers by hand, and with answers that spans.py finds in all states of random journals."""
+import marks
 import spans
-from outside import EXAMPLES, example, in_its_folder, put, ran_program, same
+import time_rows
+from outside import EXAMPLES, TOP, example, in_its_folder, put, ran_program, same
 from policy import MODES
 
 STANDARD, HELD, REUSED = (f"{EXAMPLES}/{it}.json" for it in ("standard", "held", "reused"))
@@ -62,6 +64,39 @@ LISTED = [
     (["--from", "12", "--to", "99", "--subject", "ann"], [1, 4]),
     (["--from", "0", "--to", "4"], [0, 1, 2]),
 ]
+# The batches of its journal end before these entries; the last two have no mark.
+ENDS, TIMES = [5, 9, 13], [b"2026-11-27T10:00:00.000000Z", b"2026-11-27T11:00:00.000000Z", b"2026-11-27T12:00:00.000000Z"]
+TEN, ELEVEN, NOON = (f"[{it.decode()}]" for it in TIMES)
+TIMED = [
+    f"sec write root: 0 {TEN} to 14 [-], release\n", f"ann read #4: 3 {TEN} to 12 {NOON}, delete\n", f"ann read plans: 4 {TEN} to 11 {NOON}, rescind\n",
+    f"sec write #4: 6 {ELEVEN} to 12 {NOON}, delete\n", f"ann read #5: 9 {NOON} to 12 {NOON}, delete\n",
+]
+# What is asked of it with these marks, and which of these lines are printed.
+MARKED = [
+    ([], [0, 1, 2, 3, 4]),
+    (["--when", "2026-11-27T10:00:00Z"], [0, 1, 2]),
+    (["--when", "2026-11-27T12:59:59+01:00"], [0, 1, 2, 3]),
+    (["--when", "2026-11-28"], [0]),
+    (["--since", "2026-11-27T11:30:00Z"], [0, 1, 2, 3, 4]),
+    (["--since", "2026-11-28"], [0]),
+    (["--until", "2026-11-27T10:30:00Z"], [0, 1, 2]),
+    (["--until", "2026-11-26"], []),
+    (["--since", "2026-11-27T10:30:00Z", "--until", "2026-11-27T11:00:00Z", "--mode", "write"], [0, 3]),
+    (["--since", "2026-11-28", "--until", "2026-11-27T11:00:00Z"], []),
+    (["--since", "2026-11-27T10:30:00Z", "--to", "5"], [0, 1, 2]),
+    (["--from", "13", "--until", "2026-11-27T11:00:00Z"], []),
+    (["--from", "13", "--since", "2026-11-27", "--subject", "ann"], []),
+    (["--at", "12", "--subject", "sec"], [0, 3]),
+]
+# The commands of the example with times in FORMATS.md, and what they print, with the one mark that it tells of.
+EXAMPLE_OF_TIMES = """
+    $ mls held --marks held.marks --since 2026-11-27T11:30:00Z examples/held.json held.journal
+    ann read plans: 3 [-] on
+    sec write root: 4 [-] on
+    $ mls held --marks held.marks --subject ann examples/held.json held.journal
+    ann read plans: start to 2 [2026-11-27T11:00:00.000000Z], release
+    ann read plans: 3 [-] on
+"""
 
 
 def answered(words, lines):
@@ -83,6 +118,22 @@ def spans_that_are_held():
     journal_of(STANDARD, SCRIPT, ANSWERS)
     for words, places in LISTED:
         answered([*words, STANDARD, "held.journal"], [SPANS[it] for it in places])
+
+
+def spans_with_times():
+    """The entries' times, and the states that are asked for by time; the example of FORMATS.md, as it stands there."""
+    journal_of(STANDARD, SCRIPT, ANSWERS)
+    put("held.marks", marks.text_of(marks.made(open("held.journal", "rb").read(), ENDS, TIMES)))
+    for words, places in MARKED:
+        answered(["--marks", "held.marks", *words, STANDARD, "held.journal"], [TIMED[it] for it in places])
+    with open(f"{TOP}/docs/FORMATS.md", encoding="ascii") as page:
+        same(page.read().count(EXAMPLE_OF_TIMES), 1)
+    put("held.journal", OPENED)
+    put("held.marks", marks.text_of(marks.made(OPENED, [3], TIMES[1:2])))
+    first, *rest = EXAMPLE_OF_TIMES.strip().removeprefix("$ ").split("\n    $ ")
+    for it in (first, *rest):
+        command, *lines = it.split("\n    ")
+        answered([*command.split()[2:-2], HELD, "held.journal"], [f"{line}\n" for line in lines])
 
 
 def spans_of_what_a_start_opens_with():
@@ -134,6 +185,13 @@ def faults_of_spans_in_their_order():
     for word, meant in (("", ""), ("#", ""), ("#01", ""), ("#65536", ""), ("$x", ""), ("Plans", " (plans?)"), ("plans ", " (plans?)"), ("ann", "")):
         refused([f"--object={word}", HELD, "opened.journal"], f"mls: {word}: bad name{meant}\n")
     refused(["--from", "3", "--to", "2", "no.json", "no.journal"], "mls: --from 3: above --to 2\n", 2)
+    put("none.marks", b"x\n")
+    put("early.marks", marks.text_of(marks.made(OPENED, [3], TIMES[1:2])))
+    refused([*names, "--marks", "no.marks", "empty.json", "no.journal"], "mls: no.marks: file\n")
+    refused([*names, "--marks", "none.marks", HELD, "opened.journal"], "mls: none.marks: line 1: mark\n")
+    refused([*names, "--marks", "early.marks", "--when", "2026-11-27", HELD, "opened.journal"], "mls: early.marks: no mark by then\n")
+    for option in ("--when", "--since", "--until"):
+        refused(["--marks", "no.marks", option, "now", "no.json", "no.journal"], f"mls: {option} now: {time_rows.NO_TIME}\n", 2)
 
 
 def words_that_ask_for_no_spans():
@@ -142,6 +200,11 @@ def words_that_ask_for_no_spans():
     rows += [["--at", "1", option, "1", HELD, "opened.journal"] for option in ("--from", "--to")]
     rows += [[option, word, HELD, "opened.journal"] for option in ("--at", "--from", "--to") for word in ("-1", "x", "18446744073709551616")]
     rows += [["--summary", HELD, "opened.journal"], ["--by", "ann", HELD, "opened.journal"]]
+    rows += [[option, "2026-11-27", HELD, "opened.journal"] for option in ("--when", "--since", "--until")]
+    beside = ["--marks", "m", "--when", "2026-11-27"]
+    rows += [[*beside, option, "1", HELD, "opened.journal"] for option in ("--at", "--from", "--to")]
+    rows += [[*beside, option, "2026-11-27", HELD, "opened.journal"] for option in ("--since", "--until")]
+    rows += [["--marks", "m", "--at", "1", option, "2026-11-27", HELD, "opened.journal"] for option in ("--since", "--until")]
     for words in rows:
         status, output, error = ran_program(["held", *words])
         same((words, status, output, bool(error)), (words, 2, b"", True))
@@ -174,12 +237,16 @@ def spans_by_chance(world):
         if which in ("to", "between"):
             last = max(last, number) if which == "between" else last
             words, asked = [*words, "--to", str(last)], {**asked, "last": last + 1}
+        if rnd.random() < 0.4:
+            found = time_rows.marks_by_chance(rnd, world)
+            by_time, asked = time_rows.states_by_chance(rnd, found, asked, which in ("all", "from", "to", "between"))
+            words, asked = [*words, *by_time], {**asked, "marks": found}
         text, status = spans.listed(states, world.entries, **asked)
         same((words, *ran_program(["held", *words, *files])), (words, status, text.encode(), b""))
 
 
 CHECKS = [*map(in_its_folder, [
-    spans_that_are_held, spans_of_what_a_start_opens_with, objects_that_have_a_number_again, faults_of_spans_in_their_order,
+    spans_that_are_held, spans_with_times, spans_of_what_a_start_opens_with, objects_that_have_a_number_again, faults_of_spans_in_their_order,
     words_that_ask_for_no_spans,
 ])]
 # (it is asked of random starts and journals)

@@ -1,6 +1,7 @@
 """Who held what, in Python from docs/FORMATS.md ("held"): from all states of a journal, one by one, and not from what its entries do."""
 import collections
 
+from evers import entry_text
 from policy import MODES
 
 # An access (subject, object, mode), and the first and the last state in which it is held, one after the other; state N is the one before
@@ -22,20 +23,21 @@ def spans(states):
     return sorted(found, key=lambda it: (it.first, it.access))
 
 
-def line_of(opening, entries, span):
-    """The line of a span."""
+def line_of(opening, entries, span, found):
+    """The line of a span, with the times of marks, where these are told."""
     s, o, x = span.access
-    begin = span.first - 1 if span.first else "start"
-    end = f" to {span.last}, {entries[span.last].action[0]}" if span.last < len(entries) else " on"
+    begin = entry_text(span.first - 1, found) if span.first else "start"
+    end = f" to {entry_text(span.last, found)}, {entries[span.last].action[0]}" if span.last < len(entries) else " on"
     return f"{opening.subject(s)} {MODES[x]} {opening.object(o)}: {begin}{end}\n"
 
 
-def listed(states, entries, subject=None, object=None, mode=None, first=0, last=None):
+def listed(states, entries, subject=None, object=None, mode=None, first=0, last=None, marks=None):
     """What `mls held` prints of the spans that meet all that is asked for, and its status: of those in which some state is from `first` to
     `last`."""
+    asked = range(first, len(states) if last is None else min(last + 1, len(states)))
     found = [
         it for it in spans(states)
         if (subject is None or it.access[0] == subject) and (object is None or it.access[1] == object)
-        and (mode is None or it.access[2] == mode) and first <= it.last and (last is None or it.first <= last)
+        and (mode is None or it.access[2] == mode) and any(it.first <= state <= it.last for state in asked)
     ]
-    return "".join(line_of(states[0], entries, it) for it in found), 0 if found else 4
+    return "".join(line_of(states[0], entries, it, marks) for it in found), 0 if found else 4

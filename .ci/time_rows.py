@@ -65,6 +65,25 @@ def noted(found):
     return put("start.marks", marks.text_of(found))
 
 
+def states_by_chance(rnd, found, asked, is_range):
+    """Words that tell marks, and perhaps by time from which state on and up to which; and what then is asked for beside what was: states
+    from `first` to `last`."""
+    words = ["--marks", noted(found)]
+    if is_range and rnd.random() < 0.5:
+        at = instant_by_chance(rnd, found)
+        number = marks.since(found, at)
+        behind = found[-1].number + 1 if found else 0
+        words.append(f"--since={word_of(rnd, at)}")
+        asked = {**asked, "first": max(asked.get("first", 0), behind if number is None else number)}
+    if is_range and rnd.random() < 0.5:
+        at = instant_by_chance(rnd, found)
+        number = marks.until(found, at)
+        last = 0 if number is None else number + 1
+        words += ["--until", word_of(rnd, at)]
+        asked = {**asked, "last": min(asked.get("last", last), last)}
+    return words, asked
+
+
 # lists
 
 

@@ -1,6 +1,8 @@
 """How permissions were used: `mls usage`, with answers by hand, and with answers that usages.py finds in all states of random journals."""
 import json
 
+import marks
+import time_rows
 import usages
 from outside import example, in_its_folder, put, ran_program, same
 from span_rows import ANSWERS, HELD, OPENED, REUSED, SCRIPT, STANDARD, journal_of
@@ -103,6 +105,29 @@ def permissions_of_a_number_that_is_used_again():
     same((status, output.splitlines()[0]), (4, b"ann read plans: 1 granted, 0 denied, last 5"))
 
 
+def uses_with_times():
+    """The times of the last uses, and the states that are asked for by time; where there is none, no permission."""
+    put("opened.journal", OPENED)
+    times = [b"2026-11-27T10:00:00.000000Z", b"2026-11-27T11:00:00.000000Z"]
+    put("opened.marks", marks.text_of(marks.made(OPENED, [2, 4], times)))
+    files = ["--marks", "opened.marks", HELD, "opened.journal"]
+    told = OF_OPENED.replace("last 3\n", "last 3 [2026-11-27T11:00:00.000000Z]\n").replace("last 4\n", "last 4 [-]\n")
+    told = told.replace("last 1\n", "last 1 [2026-11-27T10:00:00.000000Z]\n")
+    answered(files, told)
+    answered(["--since", "2026-11-26", *files], told)
+    # (START opens with the access that the first entry asks for)
+    early = OF_OPENED.replace("3 granted, 0 denied, last 3\n", "2 granted, 0 denied, last 0 [2026-11-27T10:00:00.000000Z]\n")
+    early = early.replace("last 1\n", "last 1 [2026-11-27T10:00:00.000000Z]\n").replace("1 granted, 0 denied, last 4\n", "never asked\n")
+    early = early.replace("10 never", "11 never")
+    answered(["--until", "2026-11-27T10:30:00Z", *files], early)
+    late = "".join(f"{line.split(':')[0]}: never asked\n" for line in OF_OPENED.splitlines()[:-1]) + "12 permissions, 10 never granted\n"
+    late = late.replace("ann read plans: never asked", "ann read plans: 1 granted, 0 denied, last start")
+    late = late.replace("sec write root: never asked", "sec write root: 1 granted, 0 denied, last 4 [-]")
+    answered(["--since", "2026-11-28", *files], late)
+    answered(["--since", "2026-11-28", "--until", "2026-11-27", *files], "0 permissions, 0 never granted\n")
+    answered(["--from", "4", "--until", "2026-11-27T10:00:00Z", *files], "0 permissions, 0 never granted\n")
+
+
 def faults_of_uses_in_their_order():
     put("opened.journal", OPENED)
     put("torn.journal", OPENED[:-1])
@@ -115,12 +140,19 @@ def faults_of_uses_in_their_order():
     refused(["--from", "9", HELD, "forged.journal"], "mls: forged.journal: replay 2 Differs at 1 expected no star\n", 3)
     refused(["--from", "6", HELD, "opened.journal"], "mls: opened.journal: at most 5\n")
     refused(["--from", "3", "--to", "2", "no.json", "no.journal"], "mls: --from 3: above --to 2\n", 2)
+    put("none.marks", b"x\n")
+    refused(["--marks", "no.marks", "empty.json", "no.journal"], "mls: no.marks: file\n")
+    refused(["--marks", "none.marks", HELD, "opened.journal"], "mls: none.marks: line 1: mark\n")
+    for option in ("--since", "--until"):
+        refused(["--marks", "no.marks", option, "now", "no.json", "no.journal"], f"mls: {option} now: {time_rows.NO_TIME}\n", 2)
 
 
 def words_that_ask_for_no_uses():
     put("opened.journal", OPENED)
     rows = [[], [HELD], [HELD, "opened.journal", "x"], ["--at", "1", HELD, "opened.journal"], ["--subject", "ann", HELD, "opened.journal"]]
     rows += [[option, word, HELD, "opened.journal"] for option in ("--from", "--to") for word in ("-1", "x", "", "18446744073709551616")]
+    rows += [[option, "2026-11-27", HELD, "opened.journal"] for option in ("--since", "--until")]
+    rows += [["--marks", "m", "--when", "2026-11-27", HELD, "opened.journal"]]
     for words in rows:
         status, output, error = ran_program(["usage", *words])
         same((words, status, output, bool(error)), (words, 2, b"", True))
@@ -139,12 +171,16 @@ def uses_by_chance(world):
         if which in ("to", "between"):
             last = max(last, first) if which == "between" else last
             words, asked = [*words, "--to", str(last)], {**asked, "last": last + 1}
+        if rnd.random() < 0.4:
+            found = time_rows.marks_by_chance(rnd, world)
+            by_time, asked = time_rows.states_by_chance(rnd, found, asked, True)
+            words, asked = [*words, *by_time], {**asked, "marks": found}
         text, status = usages.listed(states, world.entries, **asked)
         same((words, *ran_program(["usage", *words, world.start, world.journal])), (words, status, text.encode(), b""))
 
 
 CHECKS = [*map(in_its_folder, [
-    permissions_and_their_uses, uses_of_what_a_start_opens_with, gets_without_the_permission, permissions_of_a_number_that_is_used_again,
+    permissions_and_their_uses, uses_with_times, uses_of_what_a_start_opens_with, gets_without_the_permission, permissions_of_a_number_that_is_used_again,
     faults_of_uses_in_their_order, words_that_ask_for_no_uses,
 ])]
 # (it is asked of random starts and journals)

@@ -1,4 +1,5 @@
 """How permissions were used, in Python from docs/FORMATS.md ("usage"): from the matrices of all states of a journal, one by one."""
+from evers import entry_text
 from policy import MODES
 
 
@@ -10,21 +11,22 @@ def uses(states, entries, access):
     return asked
 
 
-def use_of(opening, first, access, asked):
-    """The line of a permission with these uses, where a state is the first, and whether it was granted."""
+def use_of(opening, first, access, asked, found):
+    """The line of a permission with these uses, where a state is the first, with the times of marks, where these are told; and whether it
+    was granted."""
     s, o, x = access
     is_held = access in first.accesses
     granted = sum(it.reply == "yes" for it in asked) + is_held
-    last = asked[-1].number if asked else "start"
+    last = entry_text(asked[-1].number, found) if asked else "start"
     text = f"{granted} granted, {len(asked) + is_held - granted} denied, last {last}" if asked or is_held else "never asked"
     return f"{opening.subject(s)} {MODES[x]} {opening.object(o)}: {text}\n", granted > 0
 
 
-def listed(states, entries, first=0, last=None):
+def listed(states, entries, first=0, last=None, marks=None):
     """What `mls usage` prints of the permissions of the states from `first` to `last`, and its status."""
     last = len(entries) if last is None else min(last, len(entries))
     permissions = sorted({it for state in states[first : last + 1] for it in state.matrix})
-    rows = [use_of(states[0], states[first], it, uses(states, entries[first:last], it)) for it in permissions]
+    rows = [use_of(states[0], states[first], it, uses(states, entries[first:last], it), marks) for it in permissions]
     unused = sum(not granted for _, granted in rows)
     ending = f"{len(rows)} permission{'s' * (len(rows) != 1)}, {unused} never granted\n"
     return "".join(text for text, _ in rows) + ending, 4 if unused else 0

@@ -113,7 +113,6 @@ int mls_office_open(mls_office *office, mls_monitor *m, mls_session *sessions, u
     }
     status = mls_office_open_monitor(office, m, count);
     if (status) return status;
-    office->serial = new_serial();
     office->count = count;
     /* (the last of those that aren't handed out is handed out first) */
     for (n = count; n > 0; n--) {
@@ -122,8 +121,12 @@ int mls_office_open(mls_office *office, mls_monitor *m, mls_session *sessions, u
             int undone = shut(office, sessions, n, m);
             return undone ? undone : status;
         }
-        sessions[n - 1].office = office->serial;
-        sessions[n - 1].number = n - 1;
+    }
+    /* (noted last: a refused opening leaves what a session that was dropped has of its office) */
+    office->serial = new_serial();
+    for (n = 0; n < count; n++) {
+        sessions[n].office = office->serial;
+        sessions[n].number = n;
     }
     return MLS_OK;
 }

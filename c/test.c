@@ -1701,17 +1701,21 @@ static void offices(void) {
     seats_of_an_office();
 }
 
-/* Each allocation of an opening is refused in turn: the monitor is as it was. So is each of a submit. */
+/* Each allocation of an opening is refused in turn: the monitor is as it was, and what a session that was dropped has of
+ * its office. So is each of a submit. */
 static void refused_offices(void) {
-    mls_t m = MLS_INIT;
-    mls_office office = MLS_OFFICE_INIT;
+    mls_t m = MLS_INIT, other = MLS_INIT;
+    mls_office office = MLS_OFFICE_INIT, first = MLS_OFFICE_INIT;
     mls_session s[2] = {MLS_SESSION_INIT, MLS_SESSION_INIT};
     mls_request_t q = request(MLS_GET, BOB, MLS_READ, MEMO);
     mls_answer_t a = no_answer;
     long n, before = live, refusals = 0, made_none = 0;
     int status;
     open_standard(&m);
+    open_standard(&other);
     CHECK(asked(&m, request(MLS_GET, ANN, MLS_READ, PLANS)) == MLS_YES);
+    CHECK(mls_office_open(&first, &other, &s[1], 1) == MLS_OK);
+    mls_session_drop(&s[1]);
     for (n = 0;; n++) {
         long blocks = live;
         left = n;
@@ -1720,9 +1724,11 @@ static void refused_offices(void) {
         if (status == MLS_OK) break;
         CHECK(status == MLS_ENOMEM && live == blocks && m.held == 1 && !office.held && !s[0].held && !s[1].held);
         CHECK(mls_entries(&m) == 1 && mls_check(&m, ANN, PLANS, MLS_READ) == 1);
+        CHECK(mls_office_close(&first, &s[1], &other) == MLS_EBUSY);
         refusals++;
     }
-    CHECK(refusals > 10);
+    CHECK(refusals > 10 && mls_office_close(&first, &s[1], &other) == MLS_EINVAL);
+    mls_office_drop(&first);
     for (n = 0; n < 10000; n++) {
         left = 0;
         status = mls_session_submit(&s[n % 2], &q, &a);

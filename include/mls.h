@@ -398,7 +398,7 @@ int mls_office_open(mls_office *office, mls_monitor *m, mls_session *sessions, u
 int mls_office_close(mls_office *office, mls_session *sessions, mls_monitor *m);
 
 /* Frees an office that isn't closed, with its monitor once its last session is dropped: the journal
- * is lost. A closed one stays closed. */
+ * is lost. Calls may be at work on its sessions, and go on. A closed one stays closed. */
 void mls_office_drop(mls_office *office);
 
 /* Frees a session, without which its office can't be closed any more, but dropped. */

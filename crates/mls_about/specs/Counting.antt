@@ -6,7 +6,7 @@ use Rattle.mls_marks.specs.declared.row.Row.{Row}
 use Rattle.mls_requests.specs.declared.entry.Entry.{Entry}
 use Rattle.mls_requests.specs.declared.reply.Reply.{Reply}
 use Rattle.mls_requests.specs.declared.reply.Reply.TheVariants.{Yes, Created, No, Undefined}
-use Rattle.mls_spans.specs.EverLines.{entry_text}
+use Rattle.mls_spans.specs.EntryText.{entry_text}
 
 -- A subject asked an entry. (own)
 abbrev pub is_asked : ℕ → Entry → Bool

@@ -9,8 +9,8 @@ use mls_marks::Marks;
 use mls_replay::{QuestionFault, Replay, replay_at};
 use mls_reports::{Choice, Filter, ListFault, Words, choose, list_chosen};
 use mls_spans::{
-    Filter as SpanFilter, Words as SpanWords, choose as choose_spans, entries_between, list_spans,
-    list_usages,
+    Filter as SpanFilter, States, Words as SpanWords, choose as choose_spans, list_spans,
+    list_usages_of,
 };
 use mls_terminal::{
     HeldWords, JournalWords, NO_MEMORY, Progress, UsageWords, file_refused, refused,
@@ -214,6 +214,7 @@ fn held_over(
     alloc: Global,
     names: &Names,
     replay: &Replay,
+    marks: Option<&Marks>,
     words: &SpanWords<'_>,
 ) -> Result<Answer, QuestionFault> {
     let object = any_number_word(alloc, names, words.object)?;
@@ -224,7 +225,14 @@ fn held_over(
         states: words.states,
     };
     let choice = choose_spans(names, &by_number)?;
-    list_spans(alloc, names, replay.start(), replay.entries(), &choice)
+    list_spans(
+        alloc,
+        names,
+        replay.start(),
+        replay.entries(),
+        marks,
+        &choice,
+    )
 }
 
 /// Who held what over a journal, by these names of objects.
@@ -240,7 +248,7 @@ fn held_by(
         bytes.journal(),
         Some(words.states.first),
     )?;
-    let listed = held_over(alloc, names, &replay, words);
+    let listed = held_over(alloc, names, &replay, bytes.marks.as_ref(), words);
     drop(replay);
     listed
 }
@@ -251,6 +259,7 @@ pub(crate) fn held_after(
     words: &HeldWords<'_>,
     map: &str,
     bytes: &Bytes,
+    filter: &SpanWords<'_>,
 ) -> ExitCode {
     let file = StartFile {
         name: words.start,
@@ -261,42 +270,32 @@ pub(crate) fn held_after(
         Err(status) => return status,
     };
     progress.begin("listing");
-    let done = held_by(progress.rt().alloc(), &names, bytes, &words.filter);
+    let done = held_by(progress.rt().alloc(), &names, bytes, filter);
     drop(names);
-    let about = named(
-        words.start,
-        words.journal,
-        words.filter.subject,
-        words.filter.object,
-    );
+    let about = named(words.start, words.journal, filter.subject, filter.object);
     ended_by(progress, about, &bytes.start, done)
 }
 
-/// How the permissions over a journal were used, by these names of objects.
+/// How the permissions over some states of a journal were used, by these names of objects.
 fn usage_by(
     alloc: Global,
     names: &Names,
     bytes: &Bytes,
-    words: &UsageWords<'_>,
+    states: States,
 ) -> Result<Answer, QuestionFault> {
-    let replay = replay_at(
-        alloc,
-        &bytes.start,
-        bytes.journal(),
-        Some(words.states.first),
-    )?;
-    let entries = entries_between(replay.entries(), words.states);
-    let listed = list_usages(alloc, names, replay.state(), entries);
+    let replay = replay_at(alloc, &bytes.start, bytes.journal(), Some(states.first))?;
+    let listed = list_usages_of(alloc, names, bytes.marks.as_ref(), &replay, states);
     drop(replay);
     Ok(listed?)
 }
 
-/// Prints how the permissions over a journal were used, with objects by the names of a map.
+/// Prints how the permissions over some states of a journal were used, with objects by the names of a map.
 pub(crate) fn usage_after(
     progress: &mut Progress<'_>,
     words: &UsageWords<'_>,
     map: &str,
     bytes: &Bytes,
+    states: States,
 ) -> ExitCode {
     let file = StartFile {
         name: words.start,
@@ -307,7 +306,7 @@ pub(crate) fn usage_after(
         Err(status) => return status,
     };
     progress.begin("listing");
-    let done = usage_by(progress.rt().alloc(), &names, bytes, words);
+    let done = usage_by(progress.rt().alloc(), &names, bytes, states);
     drop(names);
     let about = named(words.start, words.journal, None, None);
     ended_by(progress, about, &bytes.start, done)

@@ -146,7 +146,7 @@ fn add_spans(alloc: Global, page: &mut Page, seen: &Replay) -> Result<(), Questi
         states: States::between(None, None),
     };
     let entries = seen.entries();
-    let listed = list_spans(alloc, seen.names(), seen.start(), entries, &all)?;
+    let listed = list_spans(alloc, seen.names(), seen.start(), entries, None, &all)?;
     let done = page.add_spans(alloc, &listed.text, entries.len() as u64);
     drop(listed);
     Ok(done?)
@@ -155,7 +155,7 @@ fn add_spans(alloc: Global, page: &mut Page, seen: &Replay) -> Result<(), Questi
 /// How permissions were used, from the opening of the start on.
 fn usage_of(alloc: Global, seen: &Replay) -> Result<Answer, AllocError> {
     let opening = seen.start().opening(alloc)?;
-    let listed = list_usages(alloc, seen.names(), &opening, seen.entries());
+    let listed = list_usages(alloc, seen.names(), None, &opening, seen.entries());
     drop(opening);
     listed
 }

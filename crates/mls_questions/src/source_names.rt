@@ -1,5 +1,5 @@
 //! Which files a question is about.
-use mls_terminal::{Question, Source};
+use mls_terminal::{HeldWords, Question, Source};
 
 /// The files of a start, and of a journal where there is one, with its marks where there are such.
 fn files<'a>(start: &'a str, journal: Option<&'a str>, marks: Option<&'a str>) -> Source<'a> {
@@ -9,6 +9,17 @@ fn files<'a>(start: &'a str, journal: Option<&'a str>, marks: Option<&'a str>) -
         at: None,
         marks,
         when: None,
+    }
+}
+
+/// The files of a question who held what; where it is asked of one state by a time, that of it.
+fn held_files<'a>(words: &HeldWords<'a>) -> Source<'a> {
+    Source {
+        start: words.start,
+        journal: Some(words.journal),
+        at: None,
+        marks: words.marks,
+        when: words.times.when,
     }
 }
 
@@ -24,8 +35,8 @@ pub(crate) fn source_of<'a>(question: &Question<'a>) -> Source<'a> {
         Question::WhoEver(words) => files(words.start, Some(words.journal), words.marks),
         Question::Lint { start } | Question::Lattice { start } => files(start, None, None),
         Question::Journal(words) => files(words.start, Some(words.journal), words.marks),
-        Question::Held(words) => files(words.start, Some(words.journal), None),
-        Question::Usage(words) => files(words.start, Some(words.journal), None),
+        Question::Held(words) => held_files(words),
+        Question::Usage(words) => files(words.start, Some(words.journal), words.marks),
         Question::Compare { first, .. } => files(first, None, None),
         Question::Report(words) => files(words.start, Some(words.journal), words.marks),
     }

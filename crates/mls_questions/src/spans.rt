@@ -4,43 +4,9 @@ use crate::listing::earlier;
 use crate::renaming::{held_after, usage_after};
 use crate::sources::Bytes;
 use mls_marks::{Marks, Time};
-use mls_spans::{States, list_ever, list_held, list_usage};
-use mls_terminal::{EverWords, HeldWords, Progress, UsageWords};
+use mls_spans::{Filter, States, Words, list_ever, list_held, list_usage};
+use mls_terminal::{EverWords, HeldWords, Progress, Times, UsageWords};
 use std::process::ExitCode;
-
-/// Prints who held what over a journal.
-pub(crate) fn held(progress: &mut Progress<'_>, words: &HeldWords<'_>, bytes: &Bytes) -> ExitCode {
-    if let Some(map) = words.after {
-        return held_after(progress, words, map, bytes);
-    }
-    progress.begin("listing");
-    let alloc = progress.rt().alloc();
-    let done = list_held(alloc, &bytes.start, bytes.journal(), &words.filter);
-    let named = Named {
-        start: words.start,
-        journal: words.journal,
-        subject: words.filter.subject.unwrap_or(""),
-        object: words.filter.object.unwrap_or(""),
-        line: "",
-    };
-    ended(progress, named, &bytes.start, done)
-}
-
-/// Prints how the permissions over a journal were used.
-pub(crate) fn usage(
-    progress: &mut Progress<'_>,
-    words: &UsageWords<'_>,
-    bytes: &Bytes,
-) -> ExitCode {
-    if let Some(map) = words.after {
-        return usage_after(progress, words, map, bytes);
-    }
-    progress.begin("listing");
-    let alloc = progress.rt().alloc();
-    let done = list_usage(alloc, &bytes.start, bytes.journal(), words.states);
-    let named = Named::files(words.start, words.journal);
-    ended(progress, named, &bytes.start, done)
-}
 
 /// The number of the first state at a time or behind it: the one before the first entry of the first batch whose time
 /// is that or later, or, where there is none, the one behind the last batch.
@@ -61,17 +27,20 @@ fn state_until(marks: &Marks, time: &Time) -> u64 {
     }
 }
 
-/// The states that are asked about, by number and by time.
-fn states_of(words: &EverWords<'_>, marks: Option<&Marks>) -> States {
-    let States { first, last } = States::between(words.from, words.to);
-    let Some(marks) = marks else {
+/// The states that are asked about, by number and by time. The only one by a time was found as the files were read.
+fn states_of(states: States, times: &Times, bytes: &Bytes) -> States {
+    if let Some(at) = bytes.at {
+        return States::at(at);
+    }
+    let States { first, last } = states;
+    let Some(marks) = &bytes.marks else {
         return States { first, last };
     };
-    let since = match &words.since {
+    let since = match &times.since {
         Some(time) => state_since(marks, time),
         None => 0,
     };
-    let until = match &words.until {
+    let until = match &times.until {
         Some(time) => Some(state_until(marks, time)),
         None => None,
     };
@@ -81,20 +50,67 @@ fn states_of(words: &EverWords<'_>, marks: Option<&Marks>) -> States {
     }
 }
 
+/// Which spans are asked for, by number and by time.
+fn timed_filter<'a>(words: &HeldWords<'a>, bytes: &Bytes) -> Words<'a> {
+    Filter {
+        subject: words.filter.subject,
+        object: words.filter.object,
+        mode: words.filter.mode,
+        states: states_of(words.filter.states, &words.times, bytes),
+    }
+}
+
+/// Prints who held what over a journal.
+pub(crate) fn held(progress: &mut Progress<'_>, words: &HeldWords<'_>, bytes: &Bytes) -> ExitCode {
+    let filter = timed_filter(words, bytes);
+    if let Some(map) = words.after {
+        return held_after(progress, words, map, bytes, &filter);
+    }
+    progress.begin("listing");
+    let alloc = progress.rt().alloc();
+    let marks = bytes.marks.as_ref();
+    let done = list_held(alloc, &bytes.start, bytes.journal(), marks, &filter);
+    let named = Named {
+        start: words.start,
+        journal: words.journal,
+        subject: filter.subject.unwrap_or(""),
+        object: filter.object.unwrap_or(""),
+        line: "",
+    };
+    ended(progress, named, &bytes.start, done)
+}
+
+/// Prints how the permissions over a journal were used.
+pub(crate) fn usage(
+    progress: &mut Progress<'_>,
+    words: &UsageWords<'_>,
+    bytes: &Bytes,
+) -> ExitCode {
+    let states = states_of(words.states, &words.times, bytes);
+    if let Some(map) = words.after {
+        return usage_after(progress, words, map, bytes, states);
+    }
+    progress.begin("listing");
+    let alloc = progress.rt().alloc();
+    let marks = bytes.marks.as_ref();
+    let done = list_usage(alloc, &bytes.start, bytes.journal(), marks, states);
+    let named = Named::files(words.start, words.journal);
+    ended(progress, named, &bytes.start, done)
+}
+
 /// Prints who could ever get an object over a journal.
 pub(crate) fn who_ever(
     progress: &mut Progress<'_>,
     words: &EverWords<'_>,
     bytes: &Bytes,
 ) -> ExitCode {
-    let marks = bytes.marks.as_ref();
-    let states = states_of(words, marks);
+    let states = states_of(words.states, &words.times, bytes);
     progress.begin("looking");
     let done = list_ever(
         progress.rt().alloc(),
         &bytes.start,
         bytes.journal(),
-        marks,
+        bytes.marks.as_ref(),
         states,
         words.object,
         words.mode,

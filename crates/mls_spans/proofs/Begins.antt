@@ -19,8 +19,8 @@ use Rattle.mls_tables.specs.Triples.{Triple}
 use Rattle.mls_tables.specs.declared.limits.TheConstants.{MAX_OBJECTS, MAX_SUBJECTS}
 use Rattle.mls_tables.specs.declared.mode.Mode.TheVariants.{Execute, Read, Append, Write}
 use Rattle.mls_spans.specs.Opening.{span_where, accesses_of}
-use Rattle.mls_spans.specs.Spans.{is_held, span_of, span_from, opened}
-use Rattle.mls_spans.specs.Sweeping.{is_open, stands}
+use Rattle.mls_spans.specs.Spans.{span_of, span_from, opened}
+use Rattle.mls_spans.specs.Sweeping.{stands}
 use Rattle.std.specs.List.{list_all}
 use Rattle.mls_spans.specs.declared.span.Span.{Span}
 

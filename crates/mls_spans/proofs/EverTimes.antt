@@ -6,7 +6,7 @@ use Rattle.std.proofs.lemmas.Bool.{le-leb, lt-leb}
 use Rattle.std.proofs.lemmas.List.Elements.{All-head, All-tail}
 use Rattle.mls_marks.specs.Rows.{IsRowOf}
 use Rattle.mls_marks.specs.declared.row.Row.{Row}
-use Rattle.mls_spans.specs.EverLines.{time_of}
+use Rattle.mls_spans.specs.EntryText.{time_of}
 
 -- the time of the row in front, where it reaches the entry, or else of the rows behind
 front : Row → List Row → ℕ → Bool → Option (List ℕ)

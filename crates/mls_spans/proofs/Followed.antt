@@ -11,7 +11,7 @@ use Rattle.mls_state.specs.State.{State}
 use Rattle.mls_tables.specs.Once.{by_subject}
 use Rattle.mls_tables.specs.Triples.{Triple}
 use Rattle.mls_tables.specs.declared.limits.TheConstants.{MAX_SUBJECTS}
-use Rattle.mls_spans.specs.Spans.{is_held, span_of, ending_of, ended, span_from, gained, made_by, begun_by, begun, opened, spans_over}
+use Rattle.mls_spans.specs.Spans.{is_held, span_of, ending_of, ended, span_from, made_by, begun_by, begun, opened, spans_over}
 use Rattle.mls_spans.specs.Sweeping.{closed, sought, begins, moved}
 use Rattle.mls_spans.specs.declared.span.Ending.{Ending}
 use Rattle.mls_spans.specs.declared.span.Span.{Span}

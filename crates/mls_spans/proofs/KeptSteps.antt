@@ -1,5 +1,5 @@
 -- What is kept once an access is asked for, and once one is given.
-use Rattle.std.proofs.Common.{◌≡◌, ℕ, ◌<◌, Bool, true, false, cond, Option, Some, None, refl, sym, ap, ◌∙◌}
+use Rattle.std.proofs.Common.{◌≡◌, ℕ, ◌<◌, Bool, true, false, cond, Option, Some, sym, ap, ◌∙◌}
 use Rattle.std.specs.Prelude.{◌&&◌}
 use Rattle.mls_requests.specs.declared.entry.Entry.{Entry}
 use Rattle.mls_rules.specs.Rules.{reply}

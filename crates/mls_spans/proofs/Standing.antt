@@ -1,5 +1,5 @@
 -- Which accesses stand after an entry.
-use Rattle.std.proofs.Common.{◌≡◌, ℕ, Bool, true, false, cond, List, [], ◌∷◌, ◌++◌, map, Option, Some, None, refl, sym, ap, subst, ◌∙◌}
+use Rattle.std.proofs.Common.{◌≡◌, ℕ, Bool, true, false, cond, List, [], ◌∷◌, map, Option, Some, None, refl, sym, ap, ◌∙◌}
 use Rattle.std.specs.Prelude.{not, ◌&&◌, ◌||◌}
 use Rattle.std.specs.FinSet as set
 use Rattle.std.specs.List.{list_all}
@@ -16,7 +16,7 @@ use Rattle.mls_state.specs.State.{State}
 use Rattle.mls_tables.specs.Triples.{Triple, is_triple}
 use Rattle.mls_tables.proofs.Laws.{contains-insert-triple}
 use Rattle.mls_spans.specs.Spans.{is_held, span_of, ending_of}
-use Rattle.mls_spans.specs.Sweeping.{is_open, is_lost, closed, stands, sought, begins, moved, may_take, is_granted}
+use Rattle.mls_spans.specs.Sweeping.{closed, stands, begins, moved, may_take, is_granted}
 use Rattle.mls_spans.specs.declared.span.Ending.{Ending}
 use Rattle.mls_spans.specs.declared.span.Span.{Span}
 

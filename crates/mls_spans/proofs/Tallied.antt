@@ -1,7 +1,7 @@
 -- What is kept of the uses of permissions, with one entry more.
 use Rattle.std.proofs.Common.{◌≡◌, ℕ, ◌+◌, ◌<◌, Bool, true, false, cond, List, [], ◌∷◌, ◌++◌, length, take, get_or, Option, Some, None, refl, sym, ap, subst, ◌∙◌}
 use Rattle.std.specs.Prelude.{◌&&◌, ◌||◌, is_some}
-use Rattle.std.proofs.lemmas.Bool.{and_parts, or_right, or_cases}
+use Rattle.std.proofs.lemmas.Bool.{and_parts, or_right}
 use Rattle.mls_monitor.specs.Journal.{fold}
 use Rattle.mls_requests.specs.declared.action.Action.{Action}
 use Rattle.mls_requests.specs.declared.action.Action.TheVariants.{Get, Release, Give, Rescind, Create, Delete, SubjectLevel, ObjectLevel}
@@ -10,8 +10,8 @@ use Rattle.mls_rules.specs.Rules.{reply, after}
 use Rattle.mls_state.specs.State.{State}
 use Rattle.mls_tables.specs.Triples.{Triple, is_triple}
 use Rattle.mls_spans.specs.Sweeping.{is_granted}
-use Rattle.mls_spans.specs.Uses.{is_permitted, is_permission, is_get, is_use, uses_of}
-use Rattle.mls_spans.specs.Kept.{kept, told_of, with_use, asked_in, given_by, is_asked, is_given, with_asked, with_given, followed, IsTally}
+use Rattle.mls_spans.specs.Uses.{is_permitted, is_permission, is_get, is_use}
+use Rattle.mls_spans.specs.Kept.{kept, told_of, with_use, asked_in, given_by, is_asked, is_given, with_asked, followed, IsTally}
 use Rattle.mls_spans.specs.declared.tally.Tally.{Tally}
 use Rattle.mls_spans.specs.declared.uses.Uses.{Uses}
 use Rattle.mls_spans.proofs.Followed.{more}

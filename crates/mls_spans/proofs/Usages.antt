@@ -1,17 +1,17 @@
 -- The usages of permissions by what is kept of them, and by what they are.
-use Rattle.std.proofs.Common.{◌≡◌, ℕ, ◌<◌, ◌≤◌, Bool, true, false, cond, List, [], ◌++◌, refl, sym, ap, ◌∙◌, append-nil, arith}
+use Rattle.std.proofs.Common.{◌≡◌, ℕ, ◌≤◌, true, false, cond, List, [], ◌++◌, sym, ap, ◌∙◌, append-nil, arith}
 use Rattle.std.specs.List.{flat_map, range_with_len}
 use Rattle.mls_requests.specs.declared.entry.Entry.{Entry}
+use Rattle.mls_marks.specs.declared.row.Row.{Row}
 use Rattle.mls_state.specs.State.{State, is_subject}
-use Rattle.mls_tables.specs.Triples.{Triple}
 use Rattle.mls_tables.specs.declared.limits.TheConstants.{MAX_OBJECTS}
 use Rattle.mls_spans.specs.Uses.{is_permission, usage_by, usage_of, usages, accesses_on, accesses_by, all_accesses}
 use Rattle.mls_replay.specs.Replays.{Replayed, ReplaysAt}
 use Rattle.mls_replay.specs.declared.question_fault.QuestionFault.{QuestionFault}
 use Rattle.mls_wording.specs.declared.answer.Answer.{Answer}
-use Rattle.mls_spans.specs.UsageListings.{IsUsage, ListsUsage, entries_between}
+use Rattle.mls_spans.specs.UsageListings.{IsUsage, ListsUsage, usages_seen}
 use Rattle.mls_spans.specs.declared.states.States.{States}
-use Rattle.std.specs.Prelude.{IfOk, Some, Result, Ok, Err}
+use Rattle.std.specs.Prelude.{IfOk, Option, Some, Result, Ok, Err}
 use Rattle.mls_spans.specs.Kept.{IsTally, is_there, usage_told, usages_told}
 use Rattle.mls_spans.specs.declared.tally.Tally.{Tally}
 use Rattle.mls_spans.specs.declared.usage.Usage.{Usage}
@@ -41,9 +41,9 @@ all_by_known v m s n rows new known all is =
     is ∙ ap (λ k. rows ++ usages_told v m (flat_map (accesses_on s) (range_with_len 0 k))) all ∙ ap (λ b. rows ++ usages_told v m (cond b (flat_map (accesses_on s) (range_with_len 0 MAX_OBJECTS)) [])) (sym known)
 
 -- the permissions of a start file and a journal are listed
-pub lists_usage : (bytes journal : List ℕ) (states : States) (r : Replayed) (result : Result Answer QuestionFault)
-    → ReplaysAt bytes journal (Some states.first) r
-    → IfOk result (λ answer. IsUsage r.names r.state (entries_between states r.entries) answer)
-    → IfOk result (λ answer. ListsUsage bytes journal states answer)
-lists_usage bytes journal states r (Ok answer) replays listed = (r, replays, listed)
-lists_usage bytes journal states r (Err fault) replays listed = tt
+pub lists_usage : (bytes journal : List ℕ) (rows : Option (List Row)) (states : States) (r : Replayed)
+    (result : Result Answer QuestionFault) → ReplaysAt bytes journal (Some states.first) r
+    → IfOk result (λ answer. IsUsage r.names rows (usages_seen r states) answer)
+    → IfOk result (λ answer. ListsUsage bytes journal rows states answer)
+lists_usage bytes journal rows states r (Ok answer) replays listed = (r, replays, listed)
+lists_usage bytes journal rows states r (Err fault) replays listed = tt

@@ -1,6 +1,7 @@
 pub mod Spans
 pub mod Sweeping
 pub mod Asked
+pub mod EntryText
 pub mod Lines
 pub mod Listings
 pub mod Opening

@@ -1,7 +1,8 @@
 -- What is listed of the spans in which accesses are held.
-use Rattle.std.specs.Prelude.{◌≡◌, ◌⊎◌, ℕ, List, Some, string_bytes}
+use Rattle.std.specs.Prelude.{◌≡◌, ◌⊎◌, ℕ, List, Option, Some, string_bytes}
 use Rattle.std.specs.List.{list_any}
 use Rattle.mls_lines.specs.Names.{Names}
+use Rattle.mls_marks.specs.declared.row.Row.{Row}
 use Rattle.mls_requests.specs.declared.entry.Entry.{Entry}
 use Rattle.mls_replay.specs.Replays.{Replayed, ReplaysAt, RefusesAt}
 use Rattle.mls_replay.specs.declared.command.CommandFault.TheVariants.{Memory}
@@ -13,21 +14,22 @@ use Rattle.mls_spans.specs.Asked.{Choice, Words, IsChosen, choice_fault, is_aske
 use Rattle.mls_spans.specs.Lines.{lines_text}
 use Rattle.mls_spans.specs.Spans.{spans_over}
 
--- The lines of the spans over a start and entries that are asked for, and of no others; it is positive where there is
--- one. (own)
-pub record IsListing (names : Names) (start : State) (entries : List Entry) (c : Choice) (answer : Answer)
-    : Type 0 where
-  pub text : string_bytes answer.text ≡ lines_text names c (spans_over start entries)
+-- The lines of the spans over a start and entries that are asked for, and of no others, with times by the rows of
+-- marks, where there are some; it is positive where there is one. (own)
+pub record IsListing (names : Names) (rows : Option (List Row)) (start : State) (entries : List Entry) (c : Choice)
+    (answer : Answer) : Type 0 where
+  pub text : string_bytes answer.text ≡ lines_text names rows c (spans_over start entries)
   pub positive : answer.is_positive ≡ list_any (is_asked c) (spans_over start entries)
 
 -- There is a listing of the spans of a replay that a filter asks for. (own)
-abbrev pub ListsOver : Replayed → Words → Answer → Type 0
-ListsOver r words answer = (c : Choice) × IsChosen r.names words c × IsListing r.names r.start r.entries c answer
+abbrev pub ListsOver : Replayed → Option (List Row) → Words → Answer → Type 0
+ListsOver r rows words answer =
+    (c : Choice) × IsChosen r.names words c × IsListing r.names rows r.start r.entries c answer
 
 -- A start file and a journal are replayed, and there is a listing of the spans that a filter asks for. (own)
-abbrev pub ListsHeld : List ℕ → List ℕ → Words → Answer → Type 0
-ListsHeld bytes journal words answer =
-    (r : Replayed) × ReplaysAt bytes journal (Some words.states.first) r × ListsOver r words answer
+abbrev pub ListsHeld : List ℕ → List ℕ → Option (List Row) → Words → Answer → Type 0
+ListsHeld bytes journal rows words answer =
+    (r : Replayed) × ReplaysAt bytes journal (Some words.states.first) r × ListsOver r rows words answer
 
 -- A start file and a journal are replayed, and a filter's words have this fault. (own)
 abbrev pub HasWrongName : List ℕ → List ℕ → Words → QuestionFault → Type 0

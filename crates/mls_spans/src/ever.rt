@@ -1,7 +1,8 @@
 //! Who could ever get an object over a journal.
 ghost use Rattle.std.specs.Prelude.{◌≡◌, ◌<◌, ◌++◌, ◌||◌, string_bytes, IfOk, IfErr, OnOk};
 ghost use Rattle.std.specs.List.{flat_map, list_any};
-ghost use Rattle.mls_spans.specs.EverLines.{ever_line, rows_lent};
+ghost use Rattle.mls_spans.specs.EntryText.{rows_lent};
+ghost use Rattle.mls_spans.specs.EverLines.{ever_line};
 ghost use Rattle.mls_spans.specs.EverListings.{IsEver, ListsEver, ListsWord, RefusesEver, RefusesWord};
 ghost use Rattle.mls_spans.specs.EverListings.{modes_asked as modes_in, permissions_seen};
 ghost use Rattle.mls_spans.specs.Permissions.{permissions_to};

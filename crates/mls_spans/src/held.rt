@@ -4,6 +4,7 @@ ghost use Rattle.std.specs.List.{list_any};
 ghost use Rattle.mls_replay.specs.declared.command.CommandFault.TheVariants.{Memory};
 ghost use Rattle.mls_replay.specs.declared.question_fault.QuestionFault.TheVariants.{Files};
 ghost use Rattle.mls_spans.specs.Asked.{is_asked as is_asked_for};
+ghost use Rattle.mls_spans.specs.EntryText.{rows_lent};
 ghost use Rattle.mls_spans.specs.Spans.{spans_over};
 ghost use Rattle.mls_spans.specs.Listings.{IsListing, ListsOver, ListsHeld, RefusesNames, RefusesHeld};
 
@@ -12,6 +13,7 @@ use crate::following::spans_from;
 use crate::held_lines::lines;
 use crate::span::Span;
 use mls_lines::Names;
+use mls_marks::Marks;
 use mls_monitor::{Entry, Start};
 use mls_replay::{QuestionFault, Replay, replay_at};
 use mls_wording::Answer;
@@ -39,8 +41,8 @@ fn spans_of(alloc: Global, start: &Start, entries: &[Entry]) -> Result<Vec<Span>
     spans
 }
 
-/// The answer that lists the spans over a start and its entries that are asked for, by these names. It is a positive one
-/// where there is one.
+/// The answer that lists the spans over a start and its entries that are asked for, by these names; where there are
+/// marks, with times. It is a positive one where there is one.
 ///
 /// # Errors
 /// `Files` with `Memory` where an allocation failed.
@@ -49,13 +51,15 @@ pub fn list_spans(
     names: &Names,
     start: &Start,
     entries: &[Entry],
+    marks: Option<&Marks>,
     choice: &Choice,
 ) -> Result<Answer, QuestionFault>
-    ensures ok { IfOk result (λ answer. IsListing names.now start.now entries.now choice.now answer) }
+    ensures ok { IfOk result
+        (λ answer. IsListing names.now (rows_lent marks.entry) start.now entries.now choice.now answer) }
     ensures fault { IfErr result (λ fault. fault ≡ Files Memory) }
 {
     let spans = spans_of(alloc, start, entries)?;
-    let text = lines(alloc, names, choice, &spans);
+    let text = lines(alloc, names, marks, choice, &spans);
     let is_positive = is_any_asked(choice, &spans);
     drop(spans);
     let text = text?;
@@ -64,21 +68,27 @@ pub fn list_spans(
 
 /// The spans of the accesses of a replay that a filter asks for.
 #[tactic(auto, using(crate::proofs::Listed::lists_over, crate::proofs::Listed::refuses_memory))]
-fn list_replay(alloc: Global, replay: &Replay, words: &Words<'_>) -> Result<Answer, QuestionFault>
-    ensures ok { IfOk result (λ answer. ListsOver replay.now words.now answer) }
+fn list_replay(
+    alloc: Global,
+    replay: &Replay,
+    marks: Option<&Marks>,
+    words: &Words<'_>,
+) -> Result<Answer, QuestionFault>
+    ensures ok { IfOk result (λ answer. ListsOver replay.now (rows_lent marks.entry) words.now answer) }
     ensures fault { IfErr result (λ fault. RefusesNames replay.now.names words.now fault) }
 {
     let names = replay.names();
     let start = replay.start();
     let entries = replay.entries();
     match choose(names, words) {
-        Ok(choice) => list_spans(alloc, names, start, entries, &choice),
+        Ok(choice) => list_spans(alloc, names, start, entries, marks, &choice),
         Err(fault) => Err(fault),
     }
 }
 
 /// The spans of states in which an access is held over a journal, as long as they are, a line each: those that a filter
-/// asks for. The answer is a positive one where there is such a span.
+/// asks for. Where there are marks the times of entries are told. The answer is a positive one where there is such a
+/// span.
 ///
 /// # Errors
 /// - `Files` as `mls replay` of these files is refused, and with `Memory` where an allocation failed.
@@ -88,13 +98,15 @@ pub fn list_held(
     alloc: Global,
     start: &[u8],
     journal: &[u8],
+    marks: Option<&Marks>,
     words: &Words<'_>,
 ) -> Result<Answer, QuestionFault>
-    ensures ok { IfOk result (λ answer. ListsHeld start.now journal.now words.now answer) }
+    ensures ok { IfOk result
+        (λ answer. ListsHeld start.now journal.now (rows_lent marks.entry) words.now answer) }
     ensures fault { IfErr result (λ fault. RefusesHeld start.now journal.now words.now fault) }
 {
     let replay = replay_at(alloc, start, journal, Some(words.states.first))?;
-    let answer = list_replay(alloc, &replay, words);
+    let answer = list_replay(alloc, &replay, marks, words);
     drop(replay);
     answer
 }

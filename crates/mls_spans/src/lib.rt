@@ -2,6 +2,7 @@
 #![tactic(auto)]
 
 mod choosing;
+mod entry_text;
 mod ever;
 mod ever_lines;
 mod following;
@@ -27,11 +28,11 @@ mod window;
 mod windows;
 
 pub use choosing::{Choice, Filter, Words, choose};
+pub use entry_text::push_entry;
 pub use ever::list_ever;
-pub use ever_lines::push_entry;
 pub use held::{list_held, list_spans};
 pub use span::{Ending, Span};
 pub use states::States;
 pub use usage::Usage;
 pub use uses::Uses;
-pub use using::{entries_between, list_usage, list_usages};
+pub use using::{list_usage, list_usages, list_usages_of};

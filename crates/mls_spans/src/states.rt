@@ -60,7 +60,7 @@ impl States {
             Some(ending) => self.first <= ending.number,
             None => true,
         };
-        self.is_begun(span) && is_late
+        self.are_some() && self.is_begun(span) && is_late
     }
 
     /// Whether a span in which a get would be granted has one of them.

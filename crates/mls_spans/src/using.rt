@@ -3,8 +3,9 @@ ghost use Rattle.std.specs.Prelude.{◌≡◌, drop as dropped, IfOk, IfErr, Som
 ghost use Rattle.mls_replay.specs.Replays.{RefusesAt};
 ghost use Rattle.mls_replay.specs.declared.command.CommandFault.TheVariants.{Memory};
 ghost use Rattle.mls_replay.specs.declared.question_fault.QuestionFault.TheVariants.{Files};
+ghost use Rattle.mls_spans.specs.EntryText.{rows_lent};
 ghost use Rattle.mls_spans.specs.Uses.{usages as usages_in};
-ghost use Rattle.mls_spans.specs.UsageListings.{IsUsage, ListsUsage, up_to};
+ghost use Rattle.mls_spans.specs.UsageListings.{IsUsage, ListsUsage, up_to, usages_seen};
 ghost use Rattle.mls_spans.specs.UsageListings.{entries_between as between};
 
 use crate::states::States;
@@ -12,6 +13,7 @@ use crate::tallying::tally_over;
 use crate::usage::{Usage, usages_by};
 use crate::usage_lines::{count_unused, usage_lines};
 use mls_lines::Names;
+use mls_marks::Marks;
 use mls_monitor::Entry;
 use mls_replay::{QuestionFault, Replay, replay_at};
 use mls_rules::State;
@@ -38,8 +40,8 @@ fn entries_from(entries: &[Entry], first: u64) -> &[Entry]
     &entries[first as usize..]
 }
 
-/// The entries between the first and the last of some states. It doesn't allocate.
-pub fn entries_between(entries: &[Entry], states: States) -> &[Entry]
+/// The entries between the first and the last of some states.
+pub(crate) fn entries_between(entries: &[Entry], states: States) -> &[Entry]
     ensures { result.now ≡ between states entries.now }
 {
     entries_from(entries_up_to(entries, states.last), states.first)
@@ -55,43 +57,98 @@ fn usages_over(alloc: Global, first: &State, entries: &[Entry]) -> Result<Vec<Us
     usages
 }
 
-/// The answer that lists the permissions over entries from a state, by these names. It is a positive one where each was
-/// granted.
+/// How the permissions of some states of a replay were used.
+fn usages_of(alloc: Global, replay: &Replay, states: States) -> Result<Vec<Usage>, AllocError>
+    ensures { IfOk result (λ usages. usages.items ≡ usages_seen replay.now states) }
+{
+    if !states.are_some() {
+        return Ok(Vec::new(alloc));
+    }
+    usages_over(
+        alloc,
+        replay.state(),
+        entries_between(replay.entries(), states),
+    )
+}
+
+/// The answer that lists permissions.
+fn list_permissions(
+    alloc: Global,
+    names: &Names,
+    marks: Option<&Marks>,
+    usages: &[Usage],
+) -> Result<Answer, AllocError>
+    ensures { IfOk result (λ answer. IsUsage names.now (rows_lent marks.entry) usages.now answer) }
+{
+    let unused = count_unused(usages);
+    let text = usage_lines(alloc, names, marks, usages, unused)?;
+    Ok(Answer {
+        text,
+        is_positive: unused == 0,
+    })
+}
+
+/// The answer that lists the permissions over entries from a state, by these names; where there are marks, with times. It
+/// is a positive one where each was granted.
 ///
 /// # Errors
 /// `AllocError` where an allocation failed.
 pub fn list_usages(
     alloc: Global,
     names: &Names,
+    marks: Option<&Marks>,
     first: &State,
     entries: &[Entry],
 ) -> Result<Answer, AllocError>
-    ensures { IfOk result (λ answer. IsUsage names.now first.now entries.now answer) }
+    ensures { IfOk result
+        (λ answer. IsUsage names.now (rows_lent marks.entry) (usages_in first.now entries.now) answer) }
 {
     let usages = usages_over(alloc, first, entries)?;
-    let unused = count_unused(&usages);
-    let text = usage_lines(alloc, names, &usages, unused);
+    let answer = list_permissions(alloc, names, marks, &usages);
     drop(usages);
-    Ok(Answer {
-        text: text?,
-        is_positive: unused == 0,
-    })
+    answer
 }
 
-/// The answer that lists the permissions over the entries of a replay from the state that is looked at.
-fn list_replay(alloc: Global, replay: &Replay, states: States) -> Result<Answer, QuestionFault>
+/// The answer that lists the permissions of some states of a replay, by these names; where there are marks, with times. It
+/// is a positive one where each was granted, also where there is none. The replay looks at the first of the states.
+///
+/// # Errors
+/// `AllocError` where an allocation failed.
+pub fn list_usages_of(
+    alloc: Global,
+    names: &Names,
+    marks: Option<&Marks>,
+    replay: &Replay,
+    states: States,
+) -> Result<Answer, AllocError>
+    ensures { IfOk result
+        (λ answer. IsUsage names.now (rows_lent marks.entry) (usages_seen replay.now states) answer) }
+{
+    let usages = usages_of(alloc, replay, states)?;
+    let answer = list_permissions(alloc, names, marks, &usages);
+    drop(usages);
+    answer
+}
+
+/// The answer that lists the permissions of some states of a replay, by the names of its start.
+fn list_replay(
+    alloc: Global,
+    replay: &Replay,
+    marks: Option<&Marks>,
+    states: States,
+) -> Result<Answer, QuestionFault>
     ensures ok { IfOk result (λ answer.
-        IsUsage replay.now.names replay.now.state (between states replay.now.entries) answer) }
+        IsUsage replay.now.names (rows_lent marks.entry) (usages_seen replay.now states) answer) }
     ensures fault { IfErr result (λ fault. fault ≡ Files Memory) }
 {
-    let entries = entries_between(replay.entries(), states);
-    let answer = list_usages(alloc, replay.names(), replay.state(), entries)?;
+    let answer = list_usages_of(alloc, replay.names(), marks, replay, states)?;
     Ok(answer)
 }
 
 /// How the permissions over a journal were used, a line each: of each permission of one of some states, how many of its
 /// gets were granted and how many were denied while it was there, and which was the last; what the first of the states
-/// has as a current access counts as one granted. The answer is a positive one where each was granted.
+/// has as a current access counts as one granted. Where there are marks the time of the last is told. The answer is a
+/// positive one where each was granted.
 ///
 /// # Errors
 /// - `Files` as `mls replay` of these files is refused, and with `Memory` where an allocation failed.
@@ -100,13 +157,15 @@ pub fn list_usage(
     alloc: Global,
     start: &[u8],
     journal: &[u8],
+    marks: Option<&Marks>,
     states: States,
 ) -> Result<Answer, QuestionFault>
-    ensures ok { IfOk result (λ answer. ListsUsage start.now journal.now states answer) }
+    ensures ok { IfOk result
+        (λ answer. ListsUsage start.now journal.now (rows_lent marks.entry) states answer) }
     ensures fault { IfErr result (λ fault. RefusesAt start.now journal.now (Some states.first) fault) }
 {
     let replay = replay_at(alloc, start, journal, Some(states.first))?;
-    let answer = list_replay(alloc, &replay, states);
+    let answer = list_replay(alloc, &replay, marks, states);
     drop(replay);
     answer
 }

@@ -33,8 +33,10 @@ pub(crate) enum Kind {
     Segment,
     /// An option with the number of an entry.
     Entry,
-    /// An option with the number of an entry that can't stand beside the options `--from` and `--to`.
+    /// An option with the number of an entry that stands beside no option that tells the first or the last of some states.
     EntryOrRange,
+    /// An option with a time, that stands beside the option `--marks` alone, and beside no other that tells states.
+    TimeOrRange,
     /// An option with the number of an entry of the journal that the option `--journal` names.
     EntryOfJournal,
     /// An option with the number of an entry, that stands beside the option `--ever` alone.
@@ -86,6 +88,14 @@ fn with_time<'a>(arg: Arg<'a>, name: &'a str) -> Result<Arg<'a>, AllocError> {
     with_value(arg, name, "TIME").requires_arg("marks")
 }
 
+/// An option that stands beside none that tells the first or the last of some states.
+fn without_range<'a>(arg: Arg<'a>) -> Result<Arg<'a>, AllocError> {
+    arg.conflicts_with("from")?
+        .conflicts_with("to")?
+        .conflicts_with("since")?
+        .conflicts_with("until")
+}
+
 /// An option without a value.
 fn as_flag<'a>(arg: Arg<'a>, name: &'a str) -> Arg<'a> {
     arg.long(name).action(ArgAction::SetTrue)
@@ -117,9 +127,8 @@ impl Argument {
                 clap::value_parser!(u32).range(LEAST_SEGMENT..=GREATEST_SEGMENT),
             )),
             Kind::Entry => Ok(with_entry(arg, self.name)),
-            Kind::EntryOrRange => with_entry(arg, self.name)
-                .conflicts_with("from")?
-                .conflicts_with("to"),
+            Kind::EntryOrRange => without_range(with_entry(arg, self.name)),
+            Kind::TimeOrRange => { without_range(with_time(arg, self.name)?.conflicts_with("at")?) }
             Kind::EntryOfJournal => with_entry(arg, self.name).requires_arg("journal"),
             Kind::EntryOfEver => with_entry(arg, self.name).requires_arg("ever"),
             Kind::TimeOfEver => with_time(arg, self.name)?.requires_arg("ever"),

@@ -11,7 +11,10 @@ mod json_words;
 mod output;
 mod progress;
 mod question;
+mod question_arguments;
 mod question_words;
+mod run_arguments;
+mod shared_arguments;
 mod times;
 mod verify_words;
 mod words;
@@ -22,6 +25,8 @@ pub use held::Held;
 pub use job::{Asked, Job, RunWords, ServeWords, VerifyWords};
 pub use output::{NO_MEMORY, NOT_WRITTEN, file_refused, is_taken, print, refused, write_bytes};
 pub use progress::Progress;
-pub use question::{EverWords, HeldWords, JournalWords, Question, ReportWords, Source, UsageWords};
+pub use question::{
+    EverWords, HeldWords, JournalWords, Question, ReportWords, Source, Times, UsageWords,
+};
 pub use times::now;
 pub use words::read_words;

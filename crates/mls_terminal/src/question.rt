@@ -37,12 +37,28 @@ pub struct JournalWords<'a> {
     pub after: Option<&'a str>,
 }
 
+/// The times of marks by which states of a journal are asked about, beside the numbers of entries.
+#[derive(Clone, Copy, Debug)]
+pub struct Times {
+    /// The time from which on states are asked about.
+    pub since: Option<Time>,
+    /// The time of the last batch after which one is.
+    pub until: Option<Time>,
+    /// The time of the last batch after which the only state is that is asked about.
+    pub when: Option<Time>,
+}
+
 /// What `held` is asked for.
 #[derive(Clone, Copy, Debug)]
 pub struct HeldWords<'a> {
     pub start: &'a str,
     pub journal: &'a str,
+    /// The file of the journal's marks, where there is one.
+    pub marks: Option<&'a str>,
+    /// Which spans are asked for: of which accesses, and by number of which states.
     pub filter: HeldFilter<'a>,
+    /// Of which states by time.
+    pub times: Times,
     /// The file of the map that the start was made with, where objects are told by the names that it has.
     pub after: Option<&'a str>,
 }
@@ -56,14 +72,10 @@ pub struct EverWords<'a> {
     pub marks: Option<&'a str>,
     pub object: &'a str,
     pub mode: Option<Mode>,
-    /// The number of the entry before which the first state is that is asked about.
-    pub from: Option<u64>,
-    /// The number of the entry after which the last one is.
-    pub to: Option<u64>,
-    /// The time from which on states are asked about.
-    pub since: Option<Time>,
-    /// The time of the last batch after which one is.
-    pub until: Option<Time>,
+    /// The states that are asked about by number.
+    pub states: States,
+    /// Those that are asked about by time.
+    pub times: Times,
 }
 
 /// What `usage` is asked for.
@@ -71,8 +83,12 @@ pub struct EverWords<'a> {
 pub struct UsageWords<'a> {
     pub start: &'a str,
     pub journal: &'a str,
-    /// The states whose permissions are asked for.
+    /// The file of the journal's marks, where there is one.
+    pub marks: Option<&'a str>,
+    /// The states whose permissions are asked for by number.
     pub states: States,
+    /// Those whose permissions are asked for by time.
+    pub times: Times,
     /// The file of the map that the start was made with, where objects are told by the names that it has.
     pub after: Option<&'a str>,
 }

@@ -1,7 +1,7 @@
 //! What the words of a question ask for.
 use crate::job::Job;
 use crate::question::{
-    EverWords, HeldWords, JournalWords, Question, ReportWords, Source, UsageWords,
+    EverWords, HeldWords, JournalWords, Question, ReportWords, Source, Times, UsageWords,
 };
 use crate::times::{time_by, time_from};
 use crate::words_fault::{FormedOption, WordsFault};
@@ -132,6 +132,16 @@ fn states<'a>(matches: &ArgMatches<'a>) -> Result<States, WordsFault<'a>> {
     }
 }
 
+/// The times by which states are asked about, beside that of the only one, where it is told.
+///
+/// # Errors
+/// `Time` where a word is to be a time and is none.
+fn times<'a>(matches: &ArgMatches<'a>, when: Option<Time>) -> Result<Times, WordsFault<'a>> {
+    let since = time_from(FormedOption::Since, matches.get_str("since"))?;
+    let until = time_by(FormedOption::Until, matches.get_str("until"))?;
+    Ok(Times { since, until, when })
+}
+
 /// The mode that is asked for, where one is.
 fn mode(matches: &ArgMatches<'_>) -> Option<Mode> {
     let word = matches.get_str("mode")?;
@@ -141,18 +151,23 @@ fn mode(matches: &ArgMatches<'_>) -> Option<Mode> {
 /// What `held` was asked for.
 ///
 /// # Errors
-/// `Above` where the number of the first entry is above that of the last.
+/// `Above` where the number of the first entry is above that of the last, else `Time` where a word is to be a time and is
+/// none.
 pub(crate) fn held_words<'a>(matches: &ArgMatches<'a>) -> Result<Job<'a>, WordsFault<'a>> {
     let states = states(matches)?;
+    let when = when(matches)?;
+    let times = times(matches, when)?;
     Ok(Job::Question(Question::Held(HeldWords {
         start: operand(matches, "START"),
         journal: operand(matches, "JOURNAL"),
+        marks: matches.get_str("marks"),
         filter: HeldFilter {
             subject: matches.get_str("subject"),
             object: matches.get_str("object"),
             mode: mode(matches),
             states,
         },
+        times,
         after: matches.get_str("after"),
     })))
 }
@@ -160,13 +175,17 @@ pub(crate) fn held_words<'a>(matches: &ArgMatches<'a>) -> Result<Job<'a>, WordsF
 /// What `usage` was asked for.
 ///
 /// # Errors
-/// `Above` where the number of the first entry is above that of the last.
+/// `Above` where the number of the first entry is above that of the last, else `Time` where a word is to be a time and is
+/// none.
 pub(crate) fn usage_words<'a>(matches: &ArgMatches<'a>) -> Result<Job<'a>, WordsFault<'a>> {
     let (from, to) = range(matches)?;
+    let times = times(matches, None)?;
     Ok(Job::Question(Question::Usage(UsageWords {
         start: operand(matches, "START"),
         journal: operand(matches, "JOURNAL"),
+        marks: matches.get_str("marks"),
         states: States::between(from, to),
+        times,
         after: matches.get_str("after"),
     })))
 }
@@ -214,8 +233,7 @@ fn who_now<'a>(matches: &ArgMatches<'a>) -> Result<Job<'a>, WordsFault<'a>> {
 /// `Above` where the first number is above the last, else `Time` where a word is to be a time and is none.
 fn who_ever<'a>(matches: &ArgMatches<'a>) -> Result<Job<'a>, WordsFault<'a>> {
     let (from, to) = range(matches)?;
-    let since = time_from(FormedOption::Since, matches.get_str("since"))?;
-    let until = time_by(FormedOption::Until, matches.get_str("until"))?;
+    let times = times(matches, None)?;
     let mode = matches.get_str("MODE");
     Ok(Job::Question(Question::WhoEver(EverWords {
         start: operand(matches, "START"),
@@ -223,10 +241,8 @@ fn who_ever<'a>(matches: &ArgMatches<'a>) -> Result<Job<'a>, WordsFault<'a>> {
         marks: matches.get_str("marks"),
         object: operand(matches, "OBJ"),
         mode: mode.and_then(|mode| read_mode(mode.as_bytes())),
-        from,
-        to,
-        since,
-        until,
+        states: States::between(from, to),
+        times,
     })))
 }
 

@@ -111,3 +111,22 @@ fn no_office_takes_the_sessions_of_one_that_was_dropped() {
         assert_eq!(office.close(sessions).unwrap().entry_count(), 0);
     }
 }
+
+#[test]
+fn an_office_is_dropped_while_its_sessions_ask() {
+    let (office, sessions) = Office::open(Monitor::open(START).unwrap(), THREADS as u16).unwrap();
+    let work = |mut session: Session| {
+        move || {
+            for _ in 0..ROUNDS {
+                assert!(session.get(Subject(0), Object(1), Mode::Read).unwrap().is_granted());
+                session.check(Subject(0), Object(1), Mode::Read);
+                assert!(session.release(Subject(0), Object(1), Mode::Read).unwrap().is_granted());
+            }
+        }
+    };
+    let running: Vec<_> = sessions.into_iter().map(|it| thread::spawn(work(it))).collect();
+    drop(office);
+    for it in running {
+        it.join().unwrap();
+    }
+}

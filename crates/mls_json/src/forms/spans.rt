@@ -1,90 +1,51 @@
-//! The lines of how accesses were held and permissions used.
+//! The lines of the spans in which accesses were held, or gets would be granted.
 use crate::form::{Form, Place};
 use crate::forms::common::{MODE, MODE_COLON, OBJECT_COLON, SUBJECT};
 use crate::part::{Fixed, Kind, Mark, Part};
 
-/// Of `held`.
-pub(crate) static HELD: [Form; 4] = [
-    Form {
-        place: Place::Object,
-        parts: &[
-            SUBJECT,
-            MODE,
-            OBJECT_COLON,
-            Part::Word("start"),
-            Part::Says("begin", Fixed::Null),
-            Part::Word("on"),
-            Part::Says("end", Fixed::Null),
-            Part::Says("by", Fixed::Null),
-        ],
-    },
-    Form {
-        place: Place::Object,
-        parts: &[
-            SUBJECT,
-            MODE,
-            OBJECT_COLON,
-            Part::Word("start"),
-            Part::Says("begin", Fixed::Null),
-            Part::Word("to"),
-            Part::Told("end", Kind::Number, Mark::Comma),
-            Part::Told("by", Kind::Text, Mark::Nothing),
-        ],
-    },
-    Form {
-        place: Place::Object,
-        parts: &[
-            SUBJECT,
-            MODE,
-            OBJECT_COLON,
-            Part::Told("begin", Kind::Number, Mark::Nothing),
-            Part::Word("on"),
-            Part::Says("end", Fixed::Null),
-            Part::Says("by", Fixed::Null),
-        ],
-    },
-    Form {
-        place: Place::Object,
-        parts: &[
-            SUBJECT,
-            MODE,
-            OBJECT_COLON,
-            Part::Told("begin", Kind::Number, Mark::Nothing),
-            Part::Word("to"),
-            Part::Told("end", Kind::Number, Mark::Comma),
-            Part::Told("by", Kind::Text, Mark::Nothing),
-        ],
-    },
-];
+/// The entry that a span begins with.
+const BEGIN: Part = Part::Told("begin", Kind::Number, Mark::Nothing);
 
-/// Of `usage`.
-pub(crate) static USAGE: [Form; 5] = [
+/// Its time.
+const BEGIN_TIME: Part = Part::Told("begin_time", Kind::Time, Mark::Nothing);
+
+/// A span begins with the start: no entry.
+const NO_BEGIN: Part = Part::Says("begin", Fixed::Null);
+
+/// The entry that a span ends with.
+const END: Part = Part::Told("end", Kind::Number, Mark::Nothing);
+
+/// Its time.
+const END_TIME: Part = Part::Told("end_time", Kind::Time, Mark::Nothing);
+
+/// No entry ends a span.
+const NO_END: Part = Part::Says("end", Fixed::Null);
+
+/// The entry that ended an access, before its word.
+const ENDED: Part = Part::Told("end", Kind::Number, Mark::Comma);
+
+/// Its time, before its word.
+const ENDED_TIME: Part = Part::Told("end_time", Kind::Time, Mark::Comma);
+
+/// The word of the entry that ended an access.
+const BY: Part = Part::Told("by", Kind::Text, Mark::Nothing);
+
+/// No entry ended an access.
+const NO_BY: Part = Part::Says("by", Fixed::Null);
+
+/// Of `held`.
+pub(crate) static HELD: [Form; 7] = [
     Form {
         place: Place::Object,
         parts: &[
             SUBJECT,
             MODE,
             OBJECT_COLON,
-            Part::Word("never"),
-            Part::Word("asked"),
-            Part::Says("granted", Fixed::Zero),
-            Part::Says("denied", Fixed::Zero),
-            Part::Says("last", Fixed::Null),
-        ],
-    },
-    Form {
-        place: Place::Object,
-        parts: &[
-            SUBJECT,
-            MODE,
-            OBJECT_COLON,
-            Part::Told("granted", Kind::Number, Mark::Nothing),
-            Part::Word("granted,"),
-            Part::Told("denied", Kind::Number, Mark::Nothing),
-            Part::Word("denied,"),
-            Part::Word("last"),
             Part::Word("start"),
-            Part::Says("last", Fixed::Null),
+            NO_BEGIN,
+            Part::Word("on"),
+            NO_END,
+            NO_BY,
         ],
     },
     Form {
@@ -93,32 +54,76 @@ pub(crate) static USAGE: [Form; 5] = [
             SUBJECT,
             MODE,
             OBJECT_COLON,
-            Part::Told("granted", Kind::Number, Mark::Nothing),
-            Part::Word("granted,"),
-            Part::Told("denied", Kind::Number, Mark::Nothing),
-            Part::Word("denied,"),
-            Part::Word("last"),
-            Part::Told("last", Kind::Number, Mark::Nothing),
+            Part::Word("start"),
+            NO_BEGIN,
+            Part::Word("to"),
+            ENDED,
+            BY,
         ],
     },
     Form {
         place: Place::Object,
         parts: &[
-            Part::Told("permissions", Kind::Number, Mark::Nothing),
-            Part::Word("permission,"),
-            Part::Told("never_granted", Kind::Number, Mark::Nothing),
-            Part::Word("never"),
-            Part::Word("granted"),
+            SUBJECT,
+            MODE,
+            OBJECT_COLON,
+            Part::Word("start"),
+            NO_BEGIN,
+            Part::Word("to"),
+            END,
+            ENDED_TIME,
+            BY,
         ],
     },
     Form {
         place: Place::Object,
         parts: &[
-            Part::Told("permissions", Kind::Number, Mark::Nothing),
-            Part::Word("permissions,"),
-            Part::Told("never_granted", Kind::Number, Mark::Nothing),
-            Part::Word("never"),
-            Part::Word("granted"),
+            SUBJECT,
+            MODE,
+            OBJECT_COLON,
+            BEGIN,
+            Part::Word("on"),
+            NO_END,
+            NO_BY,
+        ],
+    },
+    Form {
+        place: Place::Object,
+        parts: &[
+            SUBJECT,
+            MODE,
+            OBJECT_COLON,
+            BEGIN,
+            BEGIN_TIME,
+            Part::Word("on"),
+            NO_END,
+            NO_BY,
+        ],
+    },
+    Form {
+        place: Place::Object,
+        parts: &[
+            SUBJECT,
+            MODE,
+            OBJECT_COLON,
+            BEGIN,
+            Part::Word("to"),
+            ENDED,
+            BY,
+        ],
+    },
+    Form {
+        place: Place::Object,
+        parts: &[
+            SUBJECT,
+            MODE,
+            OBJECT_COLON,
+            BEGIN,
+            BEGIN_TIME,
+            Part::Word("to"),
+            END,
+            ENDED_TIME,
+            BY,
         ],
     },
 ];
@@ -130,65 +135,36 @@ pub(crate) static EVER_HEAD: [Part; 2] = [SUBJECT, MODE_COLON];
 pub(crate) static EVER_SPANS: [Form; 7] = [
     Form {
         place: Place::Object,
-        parts: &[
-            Part::Word("start"),
-            Part::Says("begin", Fixed::Null),
-            Part::Word("on"),
-            Part::Says("end", Fixed::Null),
-        ],
+        parts: &[Part::Word("start"), NO_BEGIN, Part::Word("on"), NO_END],
     },
     Form {
         place: Place::Object,
-        parts: &[
-            Part::Told("begin", Kind::Number, Mark::Nothing),
-            Part::Word("on"),
-            Part::Says("end", Fixed::Null),
-        ],
+        parts: &[BEGIN, Part::Word("on"), NO_END],
     },
     Form {
         place: Place::Object,
-        parts: &[
-            Part::Told("begin", Kind::Number, Mark::Nothing),
-            Part::Told("begin_time", Kind::Time, Mark::Nothing),
-            Part::Word("on"),
-            Part::Says("end", Fixed::Null),
-        ],
+        parts: &[BEGIN, BEGIN_TIME, Part::Word("on"), NO_END],
+    },
+    Form {
+        place: Place::Object,
+        parts: &[Part::Word("start"), NO_BEGIN, Part::Word("to"), END],
+    },
+    Form {
+        place: Place::Object,
+        parts: &[BEGIN, Part::Word("to"), END],
     },
     Form {
         place: Place::Object,
         parts: &[
             Part::Word("start"),
-            Part::Says("begin", Fixed::Null),
+            NO_BEGIN,
             Part::Word("to"),
-            Part::Told("end", Kind::Number, Mark::Nothing),
+            END,
+            END_TIME,
         ],
     },
     Form {
         place: Place::Object,
-        parts: &[
-            Part::Told("begin", Kind::Number, Mark::Nothing),
-            Part::Word("to"),
-            Part::Told("end", Kind::Number, Mark::Nothing),
-        ],
-    },
-    Form {
-        place: Place::Object,
-        parts: &[
-            Part::Word("start"),
-            Part::Says("begin", Fixed::Null),
-            Part::Word("to"),
-            Part::Told("end", Kind::Number, Mark::Nothing),
-            Part::Told("end_time", Kind::Time, Mark::Nothing),
-        ],
-    },
-    Form {
-        place: Place::Object,
-        parts: &[
-            Part::Told("begin", Kind::Number, Mark::Nothing),
-            Part::Told("begin_time", Kind::Time, Mark::Nothing),
-            Part::Word("to"),
-            Part::Told("end", Kind::Number, Mark::Nothing),
-            Part::Told("end_time", Kind::Time, Mark::Nothing),
-        ],
+        parts: &[BEGIN, BEGIN_TIME, Part::Word("to"), END, END_TIME],
     },
 ];

@@ -1,4 +1,4 @@
-use Rattle.mls_spans.specs.EverLines.{rows_lent}
+use Rattle.mls_spans.specs.EntryText.{rows_lent}
 use Rattle.mls_spans.proofs.EverListed.{lists_ever, refuses_ever}
 use Rattle.mls_spans.proofs.ever.list_ever.Goals as goal
 

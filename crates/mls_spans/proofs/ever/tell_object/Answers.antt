@@ -1,5 +1,5 @@
 use Rattle.std.proofs.Common.{rules, ◌≡◌, ◌∙◌}
-use Rattle.mls_spans.specs.EverLines.{rows_lent}
+use Rattle.mls_spans.specs.EntryText.{rows_lent}
 use Rattle.mls_spans.specs.EverListings.{permissions_seen}
 use Rattle.mls_spans.specs.Turning.{AreTurns}
 use Rattle.mls_spans.proofs.EverListed.{ever_ok}

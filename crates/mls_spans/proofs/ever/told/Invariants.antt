@@ -1,7 +1,8 @@
 use Rattle.std.proofs.Common.{◌≡◌, take}
 use Rattle.std.specs.Prelude.{string_bytes}
 use Rattle.std.specs.List.{flat_map, list_any}
-use Rattle.mls_spans.specs.EverLines.{ever_line, rows_lent}
+use Rattle.mls_spans.specs.EntryText.{rows_lent}
+use Rattle.mls_spans.specs.EverLines.{ever_line}
 use Rattle.mls_spans.specs.Turning.{found_seen}
 use Rattle.mls_spans.specs.Windows.{is_any}
 use Rattle.mls_spans.proofs.ever.told.Given as goal

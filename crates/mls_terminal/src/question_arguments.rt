@@ -1,0 +1,327 @@
+//! The arguments of the questions.
+use crate::argument::{Argument, Kind};
+use crate::shared_arguments::{
+    AFTER, AT, JOURNAL, MARKS_OF_JOURNAL, MARKS_OF_OPERAND, OF_JOURNAL, START, WHEN,
+};
+
+/// The arguments of `ask`.
+pub(crate) const ASK_ARGUMENTS: [Argument; 6] = [
+    OF_JOURNAL,
+    AT,
+    MARKS_OF_JOURNAL,
+    WHEN,
+    START,
+    Argument {
+        name: "LINE",
+        kind: Kind::Operand,
+        help: "A line as a script has it, quoted, but without variables; #N is object N",
+    },
+];
+
+/// The arguments of `explain`.
+pub(crate) const EXPLAIN_ARGUMENTS: [Argument; 6] = [
+    OF_JOURNAL,
+    AT,
+    MARKS_OF_JOURNAL,
+    WHEN,
+    START,
+    Argument {
+        name: "LINE",
+        kind: Kind::UnlessAt,
+        help: "A line as a script has it, quoted; without it, entry N of --at is explained",
+    },
+];
+
+/// The arguments of `who`.
+pub(crate) const WHO_ARGUMENTS: [Argument; 12] = [
+    OF_JOURNAL,
+    AT,
+    MARKS_OF_JOURNAL,
+    WHEN,
+    Argument {
+        name: "ever",
+        kind: Kind::FlagOfStates,
+        help: "Prints, for each permission that a state of the journal has, from which entry to which its get would \
+            have been granted, at the level that its subject had then: start is before entry 0, on is to the end, and \
+            never is in no state",
+    },
+    Argument {
+        name: "from",
+        kind: Kind::EntryOfEver,
+        help: "Who could in the state before entry N, counted from 0, or later",
+    },
+    Argument {
+        name: "to",
+        kind: Kind::EntryOfEver,
+        help: "Who could in the state after entry N, or earlier",
+    },
+    Argument {
+        name: "since",
+        kind: Kind::TimeOfEver,
+        help: "Who could in the state at TIME, or later; TIME as 2026-11-27T12:12:26+01:00, or a date as 2026-11-27, \
+            in UTC",
+    },
+    Argument {
+        name: "until",
+        kind: Kind::TimeOfEver,
+        help: "Who could in the state after the last batch in MARKS whose time is TIME, or earlier; TIME as \
+            2026-11-27T12:12:26+01:00, or a date as 2026-11-27, in UTC",
+    },
+    START,
+    Argument {
+        name: "OBJ",
+        kind: Kind::Operand,
+        help: "An object: its name, or # and its number (quoted)",
+    },
+    Argument {
+        name: "MODE",
+        kind: Kind::Mode,
+        help: "This mode alone: read and write observe, append and write alter, execute does neither",
+    },
+];
+
+/// The arguments of `powers`.
+pub(crate) const POWERS_ARGUMENTS: [Argument; 7] = [
+    OF_JOURNAL,
+    AT,
+    MARKS_OF_JOURNAL,
+    WHEN,
+    Argument {
+        name: "down",
+        kind: Kind::Flag,
+        help: "Which objects may be given labels that don't dominate the present ones, and which labels, alone",
+    },
+    START,
+    Argument {
+        name: "SUBJ",
+        kind: Kind::Optional,
+        help: "This subject alone: its name, or # and its number (quoted)",
+    },
+];
+
+/// The arguments of `about`.
+pub(crate) const ABOUT_ARGUMENTS: [Argument; 7] = [
+    OF_JOURNAL,
+    AT,
+    MARKS_OF_JOURNAL,
+    WHEN,
+    Argument {
+        name: "as-object",
+        kind: Kind::Flag,
+        help: "The object of this name, though a subject has it, too",
+    },
+    START,
+    Argument {
+        name: "NAME",
+        kind: Kind::Operand,
+        help: "A subject's name, or else an object's: its name, or # and its number (quoted)",
+    },
+];
+
+/// The arguments of `lint`.
+pub(crate) const LINT_ARGUMENTS: [Argument; 1] = [START];
+
+/// The arguments of `lattice`.
+pub(crate) const LATTICE_ARGUMENTS: [Argument; 1] = [START];
+
+/// The arguments of `journal`.
+pub(crate) const JOURNAL_ARGUMENTS: [Argument; 16] = [
+    Argument {
+        name: "subject",
+        kind: Kind::Text("SUBJ"),
+        help: "Entries about it: what it asked, and the permissions given to it or rescinded",
+    },
+    Argument {
+        name: "by",
+        kind: Kind::Text("SUBJ"),
+        help: "Entries that it asked",
+    },
+    Argument {
+        name: "object",
+        kind: Kind::Text("OBJ"),
+        help: "Entries that name it or made it",
+    },
+    Argument {
+        name: "session",
+        kind: Kind::Session,
+        help: "Entries of session K",
+    },
+    Argument {
+        name: "reply",
+        kind: Kind::Text("WORDS"),
+        help: "Entries whose reply begins with these words: yes, created, 'created 4', no, 'no star', undefined",
+    },
+    Argument {
+        name: "from",
+        kind: Kind::Entry,
+        help: "Entries from number N on, which is at most that of --to",
+    },
+    Argument {
+        name: "to",
+        kind: Kind::Entry,
+        help: "Entries to number N",
+    },
+    MARKS_OF_OPERAND,
+    Argument {
+        name: "since",
+        kind: Kind::Time,
+        help: "Entries from the first batch in MARKS on whose time is TIME or later; TIME as \
+            2026-11-27T12:12:26+01:00, or a date as 2026-11-27, in UTC",
+    },
+    Argument {
+        name: "until",
+        kind: Kind::Time,
+        help: "Entries to the end of the last batch in MARKS whose time is TIME or earlier; TIME as \
+            2026-11-27T12:12:26+01:00, or a date as 2026-11-27, in UTC",
+    },
+    Argument {
+        name: "summary",
+        kind: Kind::Flag,
+        help: "Prints how many there are, by the subject that asked and the reply, and by reason",
+    },
+    Argument {
+        name: "json",
+        kind: Kind::Flag,
+        help: "Prints a JSON object for each, in a line; of the summary one object",
+    },
+    Argument {
+        name: "explain",
+        kind: Kind::FlagWithoutEither("summary", "json"),
+        help: "Prints under each why it has its reply, as mls explain --at does of its number",
+    },
+    AFTER,
+    START,
+    JOURNAL,
+];
+
+/// The arguments of `state`.
+pub(crate) const STATE_ARGUMENTS: [Argument; 7] = [
+    Argument {
+        name: "at",
+        kind: Kind::Entry,
+        help: "The state before entry N, counted from 0; without it, after the last entry",
+    },
+    MARKS_OF_OPERAND,
+    WHEN,
+    Argument {
+        name: "start",
+        kind: Kind::Flag,
+        help: "Prints a start file that opens with the state, its objects numbered anew: for a new journal",
+    },
+    Argument {
+        name: "map",
+        kind: Kind::TextBeside("FILE", "start"),
+        help: "Makes FILE, which isn't to be there yet, a line for each object: its new number, its number in JOURNAL, \
+            and its name there",
+    },
+    START,
+    JOURNAL,
+];
+
+/// The arguments of `held`.
+pub(crate) const HELD_ARGUMENTS: [Argument; 13] = [
+    Argument {
+        name: "subject",
+        kind: Kind::Text("SUBJ"),
+        help: "What it held",
+    },
+    Argument {
+        name: "object",
+        kind: Kind::Text("OBJ"),
+        help: "Who held it: its name, or # and its number (quoted)",
+    },
+    Argument {
+        name: "mode",
+        kind: Kind::ModeText,
+        help: "In this mode alone: read and write observe, append and write alter, execute does neither",
+    },
+    Argument {
+        name: "at",
+        kind: Kind::EntryOrRange,
+        help: "What was held in the state before entry N, counted from 0",
+    },
+    Argument {
+        name: "from",
+        kind: Kind::Entry,
+        help: "What was held in the state before entry N, or later",
+    },
+    Argument {
+        name: "to",
+        kind: Kind::Entry,
+        help: "What was held in the state after entry N, or earlier",
+    },
+    MARKS_OF_OPERAND,
+    Argument {
+        name: "when",
+        kind: Kind::TimeOrRange,
+        help: "What was held in the state after the last batch in MARKS whose time is TIME, or earlier; TIME as \
+            2026-11-27T12:12:26+01:00, or a date as 2026-11-27, in UTC",
+    },
+    Argument {
+        name: "since",
+        kind: Kind::Time,
+        help: "What was held in the state at TIME, or later; TIME as for --when",
+    },
+    Argument {
+        name: "until",
+        kind: Kind::Time,
+        help: "What was held in the state after the last batch in MARKS whose time is TIME, or earlier; TIME as for \
+            --when",
+    },
+    AFTER,
+    START,
+    JOURNAL,
+];
+
+/// The arguments of `usage`.
+pub(crate) const USAGE_ARGUMENTS: [Argument; 8] = [
+    Argument {
+        name: "from",
+        kind: Kind::Entry,
+        help: "The permissions of the state before entry N, counted from 0, or of a later one, and the entries from \
+            N on; without it, of the state that START opens with, or of a later one, and all entries",
+    },
+    Argument {
+        name: "to",
+        kind: Kind::Entry,
+        help: "The permissions of the state after entry N, or of an earlier one, and the entries up to N",
+    },
+    MARKS_OF_OPERAND,
+    Argument {
+        name: "since",
+        kind: Kind::Time,
+        help: "The permissions of the state at TIME, or of a later one, and the entries from then on; TIME as \
+            2026-11-27T12:12:26+01:00, or a date as 2026-11-27, in UTC",
+    },
+    Argument {
+        name: "until",
+        kind: Kind::Time,
+        help: "The permissions of the state after the last batch in MARKS whose time is TIME, or of an earlier one, and \
+            the entries up to it; TIME as for --since",
+    },
+    AFTER,
+    START,
+    JOURNAL,
+];
+
+/// The arguments of `compare`.
+pub(crate) const COMPARE_ARGUMENTS: [Argument; 3] = [
+    Argument {
+        name: "START1",
+        kind: Kind::Operand,
+        help: "The start file to compare with, JSON",
+    },
+    Argument {
+        name: "START2",
+        kind: Kind::Operand,
+        help: "The start file that is compared, JSON",
+    },
+    Argument {
+        name: "JOURNAL",
+        kind: Kind::Optional,
+        help: "A journal of START1, whose requests are asked of both; without it, all gets in their openings are",
+    },
+];
+
+/// The arguments of `report`.
+pub(crate) const REPORT_ARGUMENTS: [Argument; 3] = [MARKS_OF_OPERAND, START, JOURNAL];
