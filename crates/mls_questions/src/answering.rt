@@ -4,6 +4,7 @@ use crate::comparison::compare;
 use crate::describing::about;
 use crate::empowering::powers;
 use crate::listing::{journal, state};
+use crate::named::Named;
 use crate::report::report;
 use crate::segmented::answer_in_segments;
 use crate::snapshots::start_of_state;
@@ -22,32 +23,6 @@ use std::process::ExitCode;
 
 /// The status of a command whose answer is a negative one.
 const NEGATIVE: u8 = 4;
-
-/// The words that the fault lines of a question name.
-#[derive(Clone, Copy)]
-pub(crate) struct Named<'a> {
-    pub start: &'a str,
-    pub journal: &'a str,
-    /// The word that is to name a subject.
-    pub subject: &'a str,
-    /// The word that is to name an object.
-    pub object: &'a str,
-    /// The line that is asked about.
-    pub line: &'a str,
-}
-
-impl<'a> Named<'a> {
-    /// The files of a question that names neither a subject nor an object by a word, and is about no line.
-    pub(crate) fn files(start: &'a str, journal: &'a str) -> Named<'a> {
-        Named {
-            start,
-            journal,
-            subject: "",
-            object: "",
-            line: "",
-        }
-    }
-}
 
 /// Writes the line of a fault to standard error.
 fn told(rt: &HostRuntime, line: Result<String, AllocError>) -> ExitCode {

@@ -1,5 +1,6 @@
 //! The commands that ask about a request.
-use crate::answering::{Named, ended};
+use crate::answering::ended;
+use crate::named::Named;
 use crate::one_state::mode_of;
 use crate::sources::Bytes;
 use mls_explain_text::{ask as asked, explain as explained, who as listed};

@@ -1,5 +1,6 @@
 //! The command that tells all of a subject or of an object.
-use crate::answering::{Named, ended, thing_refused};
+use crate::answering::{ended, thing_refused};
+use crate::named::Named;
 use crate::sources::Bytes;
 use mls_about::about as told;
 use mls_replay::QuestionFault;

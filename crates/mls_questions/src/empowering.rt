@@ -1,5 +1,6 @@
 //! The command that asks what subjects may change.
-use crate::answering::{Named, ended};
+use crate::answering::ended;
+use crate::named::Named;
 use crate::sources::Bytes;
 use mls_replay::{QuestionFault, Replay, named_subject, replay_at};
 use mls_review::{Asked, powers as listed};

@@ -7,6 +7,7 @@ mod comparison;
 mod describing;
 mod empowering;
 mod listing;
+mod named;
 mod one_state;
 mod renaming;
 mod report;

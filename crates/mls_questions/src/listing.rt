@@ -1,5 +1,6 @@
 //! The commands that list what a journal has, and the state that it leads to.
-use crate::answering::{Named, answered, ended, name_refused, question_refused};
+use crate::answering::{answered, ended, name_refused, question_refused};
+use crate::named::Named;
 use crate::renaming::journal_after;
 use crate::sources::Bytes;
 use mls_explain_text::{Sort, list_explained};

@@ -1,5 +1,6 @@
 //! Questions about a journal whose start was made of a state, with its objects by the names that they had before.
-use crate::answering::{Named, answered, bare_refused, ended, question_refused};
+use crate::answering::{answered, bare_refused, ended, question_refused};
+use crate::named::Named;
 use crate::sources::Bytes;
 use mls_compare::{MapFault, names_after};
 use mls_explain_text::explain_chosen;

@@ -1,5 +1,6 @@
 //! The command that prints a page about a journal.
-use crate::answering::{Named, question_refused};
+use crate::answering::question_refused;
+use crate::named::Named;
 use crate::report_parts::add_sections;
 use crate::sources::Bytes;
 use mls_page::Page;

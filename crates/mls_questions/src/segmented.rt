@@ -1,5 +1,6 @@
 //! Questions about one state of a journal in segments: it is reached from the last state that was kept before it.
-use crate::answering::{Named, ended};
+use crate::answering::ended;
+use crate::named::Named;
 use crate::one_state::{OfState, answer_seen, refuse_above};
 use crate::snapshots::{NewStart, ended_start, snapshot_in};
 use mls_compare::SnapshotFault;

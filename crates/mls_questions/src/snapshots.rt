@@ -1,5 +1,6 @@
 //! The command that prints the state that a journal leads to as a start file.
-use crate::answering::{Named, question_refused};
+use crate::answering::question_refused;
+use crate::named::Named;
 use crate::sources::Bytes;
 use mls_compare::{SnapshotFault, map_text, snapshot};
 use mls_lines::Names;

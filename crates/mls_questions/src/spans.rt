@@ -1,6 +1,7 @@
 //! The commands that look at all states of a journal.
-use crate::answering::{Named, ended};
+use crate::answering::ended;
 use crate::listing::earlier;
+use crate::named::Named;
 use crate::renaming::{held_after, usage_after};
 use crate::sources::Bytes;
 use mls_marks::{Marks, Time};

@@ -6,7 +6,8 @@ ghost use Rattle.mls_places.specs.Repeated.{repeated_text};
 ghost use Rattle.mls_review.specs.LintText.{lint_text};
 ghost use Rattle.mls_start_file.specs.Says.{RefusesStart};
 
-use crate::answering::{Named, ended};
+use crate::answering::ended;
+use crate::named::Named;
 use crate::sources::Bytes;
 use mls_files::{command_refused, judge_start};
 use mls_places::{places, repeated_members};
