@@ -5,7 +5,7 @@ use mls_spans::{States, Words as HeldFilter};
 use mls_tables::Mode;
 
 /// The files of a question about a state: that of a start, or the one that a journal leads to.
-#[derive(Clone, Copy, Debug)]
+#[derive(Clone, Copy)]
 pub struct Source<'a> {
     pub start: &'a str,
     /// The file of a journal of the start, where one is replayed.
@@ -19,7 +19,7 @@ pub struct Source<'a> {
 }
 
 /// What `journal` is asked for.
-#[derive(Clone, Copy, Debug)]
+#[derive(Clone, Copy)]
 pub struct JournalWords<'a> {
     pub start: &'a str,
     pub journal: &'a str,
@@ -38,7 +38,7 @@ pub struct JournalWords<'a> {
 }
 
 /// What `held` is asked for.
-#[derive(Clone, Copy, Debug)]
+#[derive(Clone, Copy)]
 pub struct HeldWords<'a> {
     pub start: &'a str,
     pub journal: &'a str,
@@ -48,7 +48,7 @@ pub struct HeldWords<'a> {
 }
 
 /// What `who --ever` is asked for.
-#[derive(Clone, Copy, Debug)]
+#[derive(Clone, Copy)]
 pub struct EverWords<'a> {
     pub start: &'a str,
     pub journal: &'a str,
@@ -67,7 +67,7 @@ pub struct EverWords<'a> {
 }
 
 /// What `usage` is asked for.
-#[derive(Clone, Copy, Debug)]
+#[derive(Clone, Copy)]
 pub struct UsageWords<'a> {
     pub start: &'a str,
     pub journal: &'a str,
@@ -78,7 +78,7 @@ pub struct UsageWords<'a> {
 }
 
 /// What `report` is asked for.
-#[derive(Clone, Copy, Debug)]
+#[derive(Clone, Copy)]
 pub struct ReportWords<'a> {
     pub start: &'a str,
     pub journal: &'a str,
@@ -87,7 +87,7 @@ pub struct ReportWords<'a> {
 }
 
 /// A question about start files or journals.
-#[derive(Clone, Copy, Debug)]
+#[derive(Clone, Copy)]
 pub enum Question<'a> {
     /// What a line would be answered.
     Ask {
