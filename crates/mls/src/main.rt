@@ -119,7 +119,10 @@ fn read_and_run<R: Threads + Wait + Sync>(
             drop(texts);
             status
         }
-        Err(status) => status,
+        Err(status) => {
+            drop(held);
+            status
+        }
     }
 }
 
@@ -150,7 +153,11 @@ fn run_job<R: Threads + Wait + Clock + Sync>(
 ) -> ExitCode {
     match job {
         Job::Check { start } => check(progress, start),
-        Job::Run(words) => run(threads, progress, &words),
+        Job::Run(words) => {
+            let status = run(threads, progress, &words);
+            drop(words);
+            status
+        }
         Job::Replay { start, journal } => replay(progress, start, journal),
         Job::Verify(words) => verify(progress, &words),
         Job::Serve(words) => serve_journal(threads, progress, &words),
@@ -166,7 +173,12 @@ fn run_words<R: Threads + Wait + Clock + Sync>(
     words: &[String],
 ) -> ExitCode {
     match read_words(rt, words) {
-        Ok(Asked { job, lines }) => run_job(threads, &mut Progress::new(rt, lines), job),
+        Ok(Asked { job, lines }) => {
+            let mut progress = Progress::new(rt, lines);
+            let status = run_job(threads, &mut progress, job);
+            drop(progress);
+            status
+        }
         Err(status) => status,
     }
 }

@@ -3,7 +3,7 @@ use std::fmt::{Display, Formatter};
 use std::{fmt, io};
 
 /// A call on a file that the program writes, or on the clock whose time it writes.
-#[derive(Clone, Copy, Debug, PartialEq, Eq)]
+#[derive(Clone, Copy, PartialEq, Eq)]
 pub enum FileCall {
     Open,
     Lock,
@@ -17,7 +17,7 @@ pub enum FileCall {
 }
 
 /// A call on a file that has failed, and the system's reason.
-#[derive(Clone, Copy, Debug)]
+#[derive(Clone, Copy)]
 pub struct CallFault {
     pub call: FileCall,
     pub error: io::Error,

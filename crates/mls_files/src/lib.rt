@@ -15,11 +15,11 @@ pub use marks::{
     MarksFault, MarksInput, MarksJudge, first_line, marks_refused, read_marks, take_pieces,
     tell_mark,
 };
-pub use opening::{OpenFault, PRIVATE, is_named, open_locked, sync_folder};
+pub use opening::{OpenFault, PRIVATE, is_named, node_of, open_locked, sync_folder};
 pub use segments::{
     Goal, KeptFault, Lines, Listing, Seen, Wanted, compare_state, count_judged, find_behind,
-    first_number, go_on, is_last, kept_refused, last_number, list_beside, list_files, other_path,
-    probe_files, read_front, read_journal, real_path, refuse_behind, resume, see, segment_path,
-    segments_of, state_path, tell_behind,
+    first_number, go_on, is_last, kept_refused, last_number, len_of, list_beside, list_files,
+    other_path, probe_files, read_from, read_front, read_journal, read_rest, real_path,
+    refuse_behind, resume, see, segment_path, segments_of, state_path, tell_behind,
 };
 pub use telling::{command_refused, fault_file, tell_call, tell_differing, tell_end};

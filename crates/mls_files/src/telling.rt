@@ -9,11 +9,15 @@ use std::process::ExitCode;
 /// Tells why a command over a file was refused.
 pub fn command_refused(rt: &HostRuntime, file: &str, fault: &CommandFault) -> ExitCode {
     let mut line = String::new(rt.alloc());
-    if write_fault(rt.alloc(), *fault, file, &mut line).is_err() {
-        return refused(rt, NO_MEMORY, 1);
+    let written = write_fault(rt.alloc(), *fault, file, &mut line);
+    if written.is_ok() {
+        let _ = eprint!(rt; "{line}");
     }
-    let _ = eprint!(rt; "{line}");
-    ExitCode::from(status(*fault))
+    drop(line);
+    match written {
+        Ok(()) => ExitCode::from(status(*fault)),
+        Err(_) => refused(rt, NO_MEMORY, 1),
+    }
 }
 
 /// The status where a file is another than the one that is due.

@@ -3,7 +3,7 @@ use clap::{Arg, ArgAction};
 use std::alloc::{AllocError, Global};
 
 /// What an argument is, and when it has to be there.
-#[derive(Clone, Copy, Debug)]
+#[derive(Clone, Copy)]
 pub(crate) enum Kind {
     /// An operand that has to be there.
     Operand,
@@ -57,7 +57,7 @@ pub(crate) enum Kind {
 }
 
 /// An argument of a command.
-#[derive(Clone, Copy, Debug)]
+#[derive(Clone, Copy)]
 pub(crate) struct Argument {
     pub name: &'static str,
     pub kind: Kind,
@@ -83,12 +83,28 @@ fn with_entry<'a>(arg: Arg<'a>, name: &'a str) -> Arg<'a> {
     with_value(arg, name, "N").value_parser(clap::value_parser!(u64))
 }
 
-/// An option with a time that stands beside the option `--marks` alone.
-fn with_time<'a>(arg: Arg<'a>, name: &'a str) -> Result<Arg<'a>, AllocError> {
-    with_value(arg, name, "TIME").requires_arg("marks")
+/// An option without a value.
+fn as_flag<'a>(arg: Arg<'a>, name: &'a str) -> Arg<'a> {
+    arg.long(name).action(ArgAction::SetTrue)
 }
 
-/// An option that stands beside none that tells the first or the last of some states.
+/// An argument that stands beside this option alone, where one is named.
+fn beside<'a>(arg: Arg<'a>, option: Option<&'a str>) -> Result<Arg<'a>, AllocError> {
+    match option {
+        Some(name) => arg.requires_arg(name),
+        None => Ok(arg),
+    }
+}
+
+/// An argument that can't stand beside this option, where one is named.
+fn without<'a>(arg: Arg<'a>, option: Option<&'a str>) -> Result<Arg<'a>, AllocError> {
+    match option {
+        Some(name) => arg.conflicts_with(name),
+        None => Ok(arg),
+    }
+}
+
+/// An argument that stands beside no option that tells the first or the last of some states.
 fn without_range<'a>(arg: Arg<'a>) -> Result<Arg<'a>, AllocError> {
     arg.conflicts_with("from")?
         .conflicts_with("to")?
@@ -96,57 +112,75 @@ fn without_range<'a>(arg: Arg<'a>) -> Result<Arg<'a>, AllocError> {
         .conflicts_with("until")
 }
 
-/// An option without a value.
-fn as_flag<'a>(arg: Arg<'a>, name: &'a str) -> Arg<'a> {
-    arg.long(name).action(ArgAction::SetTrue)
-}
-
 impl Argument {
-    /// The argument of this kind.
-    fn of_kind<'a>(&self, arg: Arg<'a>) -> Result<Arg<'a>, AllocError> {
+    /// The argument of this kind, whatever it stands beside.
+    fn alone<'a>(&self, arg: Arg<'a>) -> Arg<'a> {
         match self.kind {
-            Kind::Operand => Ok(arg.required(true)),
-            Kind::Optional => Ok(arg),
-            Kind::UnlessAt => arg.required_unless_present("at"),
-            Kind::Mode => Ok(arg.value_parser(MODES.as_slice())),
-            Kind::ModeText => {
-                Ok(with_value(arg, self.name, "MODE").value_parser(MODES.as_slice()))
+            Kind::Operand => arg.required(true),
+            Kind::Optional | Kind::UnlessAt => arg,
+            Kind::Mode => arg.value_parser(MODES.as_slice()),
+            Kind::ModeText => with_value(arg, self.name, "MODE").value_parser(MODES.as_slice()),
+            Kind::Operands => arg.required(true).num_args(1..).action(ArgAction::Append),
+            Kind::Text(value) | Kind::TextBeside(value, _) => with_value(arg, self.name, value),
+            Kind::NeededText(value) => with_value(arg, self.name, value).required(true),
+            Kind::Time | Kind::TimeForAt | Kind::TimeOrRange | Kind::TimeOfEver => {
+                with_value(arg, self.name, "TIME")
             }
-            Kind::Operands => Ok(arg.required(true).num_args(1..).action(ArgAction::Append)),
-            Kind::Text(value) => Ok(with_value(arg, self.name, value)),
-            Kind::NeededText(value) => Ok(with_value(arg, self.name, value).required(true)),
-            Kind::TextBeside(value, other) => {
-                with_value(arg, self.name, value).requires_arg(other)
-            }
-            Kind::Time => with_time(arg, self.name),
-            Kind::TimeForAt => with_time(arg, self.name)?.conflicts_with("at"),
             Kind::Session => {
-                Ok(with_value(arg, self.name, "K").value_parser(clap::value_parser!(u32)))
+                with_value(arg, self.name, "K").value_parser(clap::value_parser!(u32))
             }
-            Kind::Segment => Ok(with_value(arg, self.name, "BYTES").value_parser(
-                clap::value_parser!(u32).range(LEAST_SEGMENT..=GREATEST_SEGMENT),
-            )),
-            Kind::Entry => Ok(with_entry(arg, self.name)),
-            Kind::EntryOrRange => without_range(with_entry(arg, self.name)),
-            Kind::TimeOrRange => { without_range(with_time(arg, self.name)?.conflicts_with("at")?) }
-            Kind::EntryOfJournal => with_entry(arg, self.name).requires_arg("journal"),
-            Kind::EntryOfEver => with_entry(arg, self.name).requires_arg("ever"),
-            Kind::TimeOfEver => with_time(arg, self.name)?.requires_arg("ever"),
-            Kind::Flag => Ok(as_flag(arg, self.name)),
-            Kind::FlagWithout(other) => as_flag(arg, self.name).conflicts_with(other),
-            Kind::FlagWithoutEither(one, other) => as_flag(arg, self.name)
-                .conflicts_with(one)?
-                .conflicts_with(other),
-            Kind::FlagBeside(other) => as_flag(arg, self.name).requires_arg(other),
-            Kind::FlagOfStates => as_flag(arg, self.name)
-                .requires_arg("journal")?
-                .conflicts_with("at")?
-                .conflicts_with("when"),
+            Kind::Segment => with_value(arg, self.name, "BYTES").value_parser(clap::value_parser!(
+                u32
+            ).range(LEAST_SEGMENT..=GREATEST_SEGMENT)),
+            Kind::Entry | Kind::EntryOrRange | Kind::EntryOfJournal | Kind::EntryOfEver => {
+                with_entry(arg, self.name)
+            }
+            Kind::Flag
+            | Kind::FlagWithout(_)
+            | Kind::FlagWithoutEither(_, _)
+            | Kind::FlagBeside(_)
+            | Kind::FlagOfStates => as_flag(arg, self.name),
+        }
+    }
+
+    /// The options beside which alone it stands, two at most.
+    fn needed(&self) -> [Option<&'static str>; 2] {
+        match self.kind {
+            Kind::TextBeside(_, other) | Kind::FlagBeside(other) => [Some(other), None],
+            Kind::Time | Kind::TimeForAt | Kind::TimeOrRange => [Some("marks"), None],
+            Kind::TimeOfEver => [Some("marks"), Some("ever")],
+            Kind::EntryOfEver => [Some("ever"), None],
+            Kind::EntryOfJournal | Kind::FlagOfStates => [Some("journal"), None],
+            _ => [None, None],
+        }
+    }
+
+    /// The options beside which it can't stand, two at most.
+    fn excluded(&self) -> [Option<&'static str>; 2] {
+        match self.kind {
+            Kind::TimeForAt | Kind::TimeOrRange => [Some("at"), None],
+            Kind::FlagWithout(other) => [Some(other), None],
+            Kind::FlagWithoutEither(one, other) => [Some(one), Some(other)],
+            Kind::FlagOfStates => [Some("at"), Some("when")],
+            _ => [None, None],
+        }
+    }
+
+    /// The argument with what it stands beside.
+    fn related<'a>(&self, arg: Arg<'a>) -> Result<Arg<'a>, AllocError> {
+        let [one, other] = self.needed();
+        let arg = beside(beside(arg, one)?, other)?;
+        let [one, other] = self.excluded();
+        let arg = without(without(arg, one)?, other)?;
+        match self.kind {
+            Kind::UnlessAt => arg.required_unless_present("at"),
+            Kind::EntryOrRange | Kind::TimeOrRange => without_range(arg),
+            _ => Ok(arg),
         }
     }
 
     /// The argument, as clap has it.
     pub(crate) fn built<'a>(&self, alloc: Global) -> Result<Arg<'a>, AllocError> {
-        self.of_kind(Arg::new(alloc, self.name).help(self.help))
+        self.related(self.alone(Arg::new(alloc, self.name).help(self.help)))
     }
 }

@@ -11,7 +11,7 @@ use crate::run_arguments::{
 
 /// The commands of the program. What each is asked for is read where they are told apart: one that isn't read doesn't
 /// compile.
-#[derive(Clone, Copy, Debug)]
+#[derive(Clone, Copy)]
 pub(crate) enum CommandName {
     Check,
     Run,
@@ -34,7 +34,7 @@ pub(crate) enum CommandName {
 }
 
 /// A command of the program.
-#[derive(Clone, Copy, Debug)]
+#[derive(Clone, Copy)]
 pub(crate) struct CommandRow {
     pub command: CommandName,
     pub name: &'static str,

@@ -8,7 +8,7 @@ use std::fs::{File, OpenOptions};
 use std::io::Read;
 
 /// Why a file wasn't read or written.
-#[derive(Clone, Copy, Debug, PartialEq, Eq)]
+#[derive(Clone, Copy)]
 pub enum FileFault {
     /// It couldn't be opened, read or written. An interrupted read counts as failed.
     File,
@@ -24,7 +24,7 @@ pub enum FileFault {
 const PIECE: usize = 65_536;
 
 /// A file that is to be read, by the word that names it, and the most bytes that it may have.
-#[derive(Clone, Copy, Debug)]
+#[derive(Clone, Copy)]
 pub struct Input<'a> {
     pub path: &'a str,
     pub limit: usize,
@@ -78,7 +78,10 @@ impl Input<'_> {
         drop(piece);
         match read {
             Ok(()) => Ok(bytes),
-            Err(fault) => Err(fault),
+            Err(fault) => {
+                drop(bytes);
+                Err(fault)
+            }
         }
     }
 
@@ -111,10 +114,18 @@ impl Input<'_> {
         let Ok(mut file) = File::open(progress.rt(), self.path) else {
             return Err(FileFault::File);
         };
-        held.lock(&file)?;
+        if let Err(fault) = held.lock(&file) {
+            drop(file);
+            return Err(fault);
+        }
         let read = self.read_all(progress, &mut file);
-        held.keep(file)?;
-        read
+        match held.keep(file) {
+            Ok(()) => read,
+            Err(fault) => {
+                drop(read);
+                Err(fault)
+            }
+        }
     }
 }
 

@@ -5,7 +5,7 @@ use mls_json::Lines;
 use mls_marks::Digest;
 
 /// What a run of scripts is asked for.
-#[derive(Debug, Drop)]
+#[derive(Drop)]
 pub struct RunWords<'a> {
     pub start: &'a str,
     pub scripts: Vec<&'a str>,
@@ -16,7 +16,7 @@ pub struct RunWords<'a> {
 }
 
 /// What a service is asked for.
-#[derive(Clone, Copy, Debug)]
+#[derive(Clone, Copy)]
 pub struct ServeWords<'a> {
     pub start: &'a str,
     /// The journal's file.
@@ -42,7 +42,7 @@ pub struct ServeWords<'a> {
 }
 
 /// What a verification of marks is asked for.
-#[derive(Clone, Copy, Debug)]
+#[derive(Clone, Copy)]
 pub struct VerifyWords<'a> {
     pub start: &'a str,
     pub journal: &'a str,
@@ -55,7 +55,7 @@ pub struct VerifyWords<'a> {
 }
 
 /// What a command line asks for.
-#[derive(Debug, Drop)]
+#[derive(Drop)]
 pub enum Job<'a> {
     /// To answer the script on standard input.
     Answer,
@@ -74,7 +74,7 @@ pub enum Job<'a> {
 }
 
 /// What a command line asks for, and how it is told.
-#[derive(Debug, Drop)]
+#[derive(Drop)]
 pub struct Asked<'a> {
     pub job: Job<'a>,
     /// The lines that are printed as JSON objects, where this is asked for.

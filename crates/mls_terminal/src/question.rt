@@ -5,7 +5,7 @@ use mls_spans::{States, Words as HeldFilter};
 use mls_tables::Mode;
 
 /// The files of a question about a state: that of a start, or the one that a journal leads to.
-#[derive(Clone, Copy, Debug)]
+#[derive(Clone, Copy)]
 pub struct Source<'a> {
     pub start: &'a str,
     /// The file of a journal of the start, where one is replayed.
@@ -19,7 +19,7 @@ pub struct Source<'a> {
 }
 
 /// What `journal` is asked for.
-#[derive(Clone, Copy, Debug)]
+#[derive(Clone, Copy)]
 pub struct JournalWords<'a> {
     pub start: &'a str,
     pub journal: &'a str,
@@ -49,7 +49,7 @@ pub struct Times {
 }
 
 /// What `held` is asked for.
-#[derive(Clone, Copy, Debug)]
+#[derive(Clone, Copy)]
 pub struct HeldWords<'a> {
     pub start: &'a str,
     pub journal: &'a str,
@@ -64,7 +64,7 @@ pub struct HeldWords<'a> {
 }
 
 /// What `who --ever` is asked for.
-#[derive(Clone, Copy, Debug)]
+#[derive(Clone, Copy)]
 pub struct EverWords<'a> {
     pub start: &'a str,
     pub journal: &'a str,
@@ -79,7 +79,7 @@ pub struct EverWords<'a> {
 }
 
 /// What `usage` is asked for.
-#[derive(Clone, Copy, Debug)]
+#[derive(Clone, Copy)]
 pub struct UsageWords<'a> {
     pub start: &'a str,
     pub journal: &'a str,
@@ -94,7 +94,7 @@ pub struct UsageWords<'a> {
 }
 
 /// What `report` is asked for.
-#[derive(Clone, Copy, Debug)]
+#[derive(Clone, Copy)]
 pub struct ReportWords<'a> {
     pub start: &'a str,
     pub journal: &'a str,
@@ -103,7 +103,7 @@ pub struct ReportWords<'a> {
 }
 
 /// A question about start files or journals.
-#[derive(Clone, Copy, Debug)]
+#[derive(Clone, Copy)]
 pub enum Question<'a> {
     /// What a line would be answered.
     Ask {

@@ -1,4 +1,5 @@
 //! The words of a command line.
+use crate::argument::Argument;
 use crate::command_rows::{COMMANDS, CommandName, CommandRow};
 use crate::job::{Asked, Job, RunWords, ServeWords};
 use crate::json_words::{asked_lines, json_argument};
@@ -23,18 +24,48 @@ const ABOUT: &str =
 
 const EXAMPLE: &str = "Example: printf 'ann get-read plans\\n' | mls";
 
+/// A command with an argument, too.
+fn with_argument<'a>(
+    alloc: Global,
+    command: Command<'a>,
+    argument: &Argument,
+) -> Result<Command<'a>, AllocError> {
+    match argument.built(alloc) {
+        Ok(arg) => command.arg(arg),
+        Err(AllocError) => {
+            drop(command);
+            Err(AllocError)
+        }
+    }
+}
+
 /// The command of a row.
 fn command_of<'a>(alloc: Global, row: &CommandRow) -> Result<Command<'a>, AllocError> {
     let mut command = Command::new(alloc, row.name)
         .about(row.about)
         .after_help(row.example);
     for argument in row.arguments {
-        command = command.arg(argument.built(alloc)?)?;
+        command = with_argument(alloc, command, argument)?;
     }
-    if let Some(argument) = json_argument(row.command) {
-        command = command.arg(argument.built(alloc)?)?;
+    match json_argument(row.command) {
+        Some(argument) => with_argument(alloc, command, &argument),
+        None => Ok(command),
     }
-    Ok(command)
+}
+
+/// A command line with the command of a row, too.
+fn with_row<'a>(
+    alloc: Global,
+    line: Command<'a>,
+    row: &CommandRow,
+) -> Result<Command<'a>, AllocError> {
+    match command_of(alloc, row) {
+        Ok(command) => line.subcommand(command),
+        Err(AllocError) => {
+            drop(line);
+            Err(AllocError)
+        }
+    }
 }
 
 /// The program's command line.
@@ -43,20 +74,16 @@ fn command<'a>(alloc: Global) -> Result<Command<'a>, AllocError> {
         .version(VERSION)
         .about(ABOUT)
         .after_help(EXAMPLE);
-    for row in COMMANDS {
-        line = line.subcommand(command_of(alloc, &row)?)?;
+    for row in &COMMANDS {
+        line = with_row(alloc, line, row)?;
     }
     Ok(line)
 }
 
 /// What a run was asked for.
 fn run_words<'a>(alloc: Global, matches: &ArgMatches<'a>) -> Result<RunWords<'a>, AllocError> {
-    let mut scripts = Vec::new(alloc);
-    if let Some(named) = matches.get_strs("SCRIPT") {
-        for script in named {
-            scripts.push(*script)?;
-        }
-    }
+    let named = matches.get_strs("SCRIPT").unwrap_or(&[]);
+    let scripts = Vec::from_slice(alloc, named)?;
     Ok(RunWords {
         start: operand(matches, "START"),
         scripts,
@@ -87,7 +114,7 @@ fn serve_words<'a>(matches: &ArgMatches<'a>) -> ServeWords<'a> {
 /// # Errors
 /// `Command` where there is none.
 fn command_named<'a>(name: &'a str) -> Result<CommandName, WordsFault<'a>> {
-    for row in COMMANDS {
+    for row in &COMMANDS {
         if row.name == name {
             return Ok(row.command);
         }

@@ -3,7 +3,7 @@ use crate::output::{NO_MEMORY, refused};
 use std::process::ExitCode;
 
 /// An option whose word has a form of its own.
-#[derive(Clone, Copy, Debug, PartialEq, Eq)]
+#[derive(Clone, Copy)]
 pub(crate) enum FormedOption {
     Since,
     Until,
@@ -26,7 +26,7 @@ impl FormedOption {
 }
 
 /// Why the words of a command ask for nothing.
-#[derive(Clone, Copy, Debug)]
+#[derive(Clone, Copy)]
 pub(crate) enum WordsFault<'a> {
     /// No reply begins with these words.
     Reply(&'a str),

@@ -18,7 +18,11 @@ fn ended(
 ) -> ExitCode {
     progress.end();
     match done {
-        Ok(text) => progress.print(text.as_bytes()),
+        Ok(text) => {
+            let status = progress.print(text.as_bytes());
+            drop(text);
+            status
+        }
         Err(fault) => command_refused(progress.rt(), fault_file(&fault, start, journal), &fault),
     }
 }
@@ -62,7 +66,11 @@ fn replay_all(
     drop(seen);
     progress.end();
     match text {
-        Ok(text) => print(progress.rt(), text.as_bytes()),
+        Ok(text) => {
+            let status = print(progress.rt(), text.as_bytes());
+            drop(text);
+            status
+        }
         Err(_) => refused(progress.rt(), NO_MEMORY, 1),
     }
 }

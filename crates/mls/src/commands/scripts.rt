@@ -113,7 +113,11 @@ pub fn ended_run(
     journal: &mut Option<RunJournal<'_>>,
 ) -> ExitCode {
     match done {
-        Ok(run) => write_run(progress, &run, journal),
+        Ok(run) => {
+            let status = write_run(progress, &run, journal);
+            drop(run);
+            status
+        }
         Err(fault) => {
             discard(progress.rt(), journal);
             progress.end();

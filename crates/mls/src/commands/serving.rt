@@ -30,7 +30,9 @@ fn serve_input(
         return Err(NO_MEMORY);
     };
     let mut reader = rt.stdin();
-    match serve(rt.alloc(), names, monitor, 0, &mut reader, &mut writer) {
+    let served = serve(rt.alloc(), names, monitor, 0, &mut reader, &mut writer);
+    drop(writer);
+    match served {
         Ok(entries) => Ok(entries),
         Err(fault) => Err(serve_line(fault)),
     }

@@ -8,7 +8,7 @@ use std::io;
 use std::process::ExitCode;
 
 /// Why marks are refused.
-#[derive(Clone, Copy, Debug)]
+#[derive(Clone, Copy)]
 pub enum MarksFault {
     /// They couldn't be read.
     Read(io::Error),
