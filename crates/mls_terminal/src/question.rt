@@ -38,7 +38,7 @@ pub struct JournalWords<'a> {
 }
 
 /// The times of marks by which states of a journal are asked about, beside the numbers of entries.
-#[derive(Clone, Copy, Debug)]
+#[derive(Clone, Copy)]
 pub struct Times {
     /// The time from which on states are asked about.
     pub since: Option<Time>,
