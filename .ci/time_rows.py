@@ -303,7 +303,7 @@ def words_that_no_question_of_times_has():
     rows += [["state", "--when", time, STANDARD, "j"], ["journal", "--since", time, STANDARD, "j"], ["journal", "--until", time, STANDARD, "j"]]
     rows += [["state", "--marks", "m", "--at", "0", "--when", time, STANDARD, "j"], ["journal", "--marks", "m", "--when", time, STANDARD, "j"]]
     rows += [["ask", "--journal", "j", "--marks", "m", "--at", "0", "--when", time, STANDARD, LINE]]
-    rows += [["explain", "--journal", "j", "--marks", "m", "--when", time, STANDARD], ["held", "--marks", "m", STANDARD, "j"]]
+    rows += [["explain", "--journal", "j", "--marks", "m", "--when", time, STANDARD], ["lint", "--marks", "m", STANDARD]]
     rows += [["compare", "--marks", "m", STANDARD, STANDARD, "j"], ["state", "--marks", "m", "--since", time, STANDARD, "j"]]
     for words in rows:
         status, output, error = ran_program(words)
