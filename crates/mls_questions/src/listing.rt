@@ -1,11 +1,12 @@
 //! The commands that list what a journal has, and the state that it leads to.
-use crate::answering::{Named, answered, ended, name_refused, question_refused};
+use crate::answering::{Named, answered, ended, name_refused, question_refused, status_of};
 use crate::renaming::journal_after;
 use crate::sources::{Bytes, read_source};
-use mls_explain_text::{Sort, list_explained};
+use mls_explain_text::{Sort, WriteFault, write_explained};
 use mls_marks::Marks;
 use mls_reports::{Filter, ListFault, Words, list_journal, list_state};
-use mls_terminal::{JournalWords, Progress, Source};
+use mls_terminal::{JournalWords, NOT_WRITTEN, Progress, Source, refused};
+use std::io::Write;
 use std::process::ExitCode;
 
 /// Tells why the entries of a journal aren't listed, by the bytes of the start file.
@@ -82,6 +83,51 @@ fn marked_filter<'a>(words: &JournalWords<'a>, marks: Option<&Marks>) -> Words<'
     }
 }
 
+/// Prints the entries of a journal that a filter asks for, each with why it has its reply, as they are explained.
+fn journal_explained(
+    progress: &mut Progress<'_>,
+    words: &JournalWords<'_>,
+    bytes: &Bytes,
+    filter: &Words<'_>,
+) -> ExitCode {
+    progress.end();
+    let rt = progress.rt();
+    let journal = bytes.journal.as_deref().unwrap_or(b"".as_slice());
+    let marks = bytes.marks.as_ref();
+    let mut output = rt.stdout();
+    match write_explained(
+        rt.alloc(),
+        &mut output,
+        &bytes.start,
+        journal,
+        marks,
+        filter,
+    ) {
+        Ok(is_any) if output.flush().is_ok() => status_of(is_any),
+        Ok(_) | Err(WriteFault::Write) => refused(rt, NOT_WRITTEN, 1),
+        Err(WriteFault::List(fault)) => list_refused(rt, words, &bytes.start, fault),
+    }
+}
+
+/// Prints the entries of a journal that a filter asks for, once all are listed.
+fn journal_listed(
+    progress: &mut Progress<'_>,
+    words: &JournalWords<'_>,
+    bytes: &Bytes,
+    filter: &Words<'_>,
+) -> ExitCode {
+    let journal = bytes.journal.as_deref().unwrap_or(b"".as_slice());
+    let marks = bytes.marks.as_ref();
+    progress.begin("listing");
+    let rt = progress.rt();
+    let done = list_journal(rt.alloc(), &bytes.start, journal, marks, filter, words.form);
+    progress.end();
+    match done {
+        Ok(answer) => answered(progress, answer),
+        Err(fault) => list_refused(rt, words, &bytes.start, fault),
+    }
+}
+
 /// Prints the entries of a journal that are asked for.
 pub(crate) fn journal(progress: &mut Progress<'_>, words: &JournalWords<'_>) -> ExitCode {
     let source = Source {
@@ -95,32 +141,13 @@ pub(crate) fn journal(progress: &mut Progress<'_>, words: &JournalWords<'_>) -> 
         Ok(bytes) => bytes,
         Err(status) => return status,
     };
-    let journal = bytes.journal.as_deref().unwrap_or(b"".as_slice());
-    let marks = bytes.marks.as_ref();
-    let filter = marked_filter(words, marks);
-    if let Some(map) = words.after {
-        let status = journal_after(progress, words, map, &bytes, &filter);
-        drop(bytes);
-        return status;
-    }
-    progress.begin("listing");
-    let rt = progress.rt();
-    let done = if words.is_explained {
-        list_explained(rt.alloc(), &bytes.start, journal, marks, &filter)
+    let filter = marked_filter(words, bytes.marks.as_ref());
+    let status = if let Some(map) = words.after {
+        journal_after(progress, words, map, &bytes, &filter)
+    } else if words.is_explained {
+        journal_explained(progress, words, &bytes, &filter)
     } else {
-        list_journal(
-            rt.alloc(),
-            &bytes.start,
-            journal,
-            marks,
-            &filter,
-            words.form,
-        )
-    };
-    progress.end();
-    let status = match done {
-        Ok(answer) => answered(progress, answer),
-        Err(fault) => list_refused(rt, words, &bytes.start, fault),
+        journal_listed(progress, words, &bytes, &filter)
     };
     drop(bytes);
     status
