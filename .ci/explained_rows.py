@@ -1,8 +1,10 @@
 """Why entries have their replies: `mls journal --explain`, with answers by hand, with those of `mls explain --at` of each entry alone, and
 with what the policy in Python gives."""
+import subprocess
+
 import question_texts as texts
 import question_worlds as worlds
-from outside import EXAMPLES, TOP, in_its_folder, put, ran_program, same
+from outside import EXAMPLES, PROGRAM, SECONDS, TOP, in_its_folder, put, ran_program, same
 from question_rows import EXPLAINED, GIVEN, HELD, MEMO, STANDARD, STRANGE
 
 # The command of the example in FORMATS.md, over the journal of examples/standard.script.
@@ -100,6 +102,18 @@ def faults_of_entries_that_are_explained():
         same((first, second, status, output, bool(error)), (first, second, 2, b"", True))
 
 
+def entries_that_are_written_in_pieces():
+    """More lines than are written at once, and standard output that takes none, of them or of few."""
+    put("memo.journal", MEMO)
+    put("many.journal", b"".join(b"%d 0 0 get-read 1 yes\n" % number for number in range(1_000)))
+    answered([STANDARD, "many.journal"], "".join(f"{number} session 0 ann get-read plans: yes\n{READ}" for number in range(1_000)))
+    for journal in ("memo.journal", "many.journal"):
+        with open("/dev/full", "wb") as full:
+            words = [PROGRAM, "journal", "--explain", STANDARD, journal]
+            done = subprocess.run(words, stdout=full, stderr=subprocess.PIPE, timeout=SECONDS)
+            same((journal, done.returncode, done.stderr), (journal, 1, b"mls: output: write\n"))
+
+
 def entries_listed_and_explained(world):
     """Some entries of a random journal: what stands under each is what `mls explain --at` prints of it, and what the policy in Python gives."""
     words, asked = worlds.some_filter(world.rnd, world.opening, world.entries)
@@ -113,6 +127,8 @@ def entries_listed_and_explained(world):
     same("".join(line + texts.under(told) for line, told in zip(lines, alone)), text)
 
 
-CHECKS = [*map(in_its_folder, [entries_that_are_listed_and_explained, faults_of_entries_that_are_explained])]
+CHECKS = [*map(in_its_folder, [
+    entries_that_are_listed_and_explained, faults_of_entries_that_are_explained, entries_that_are_written_in_pieces,
+])]
 # (it is asked of random starts and journals)
 OF_WORLDS = [entries_listed_and_explained]

@@ -1,5 +1,5 @@
 mod Alike
-mod Indented
+mod Cuts
 mod Kept
 mod Listing
 mod PartsLaw

@@ -1,6 +1,7 @@
 -- What is listed of the entries of a journal, each with why it has its reply.
-use Rattle.std.specs.Prelude.{◌≡◌, ℕ, Bool, true, false, List, [], ◌∷◌, ◌++◌, filter, take, string_bytes}
+use Rattle.std.specs.Prelude.{◌≡◌, ℕ, Bool, true, false, List, [], ◌∷◌, ◌++◌, filter, take}
 use Rattle.std.specs.Prelude.{Option, Some, None}
+use Rattle.std.specs.Io.KnownBytes.{Appends}
 use Rattle.std.specs.List.{list_any}
 use Rattle.mls_requests.specs.declared.ask.Ask.TheVariants.{Submit}
 use Rattle.mls_requests.specs.declared.entry.Entry.{Entry}
@@ -11,11 +12,13 @@ use Rattle.mls_replay.specs.Replays.{Replayed, ReplaysAt}
 use Rattle.mls_reports.specs.Choosing.{IsChosen, Words}
 use Rattle.mls_reports.specs.Listings.{stamped_line}
 use Rattle.mls_reports.specs.Matching.{Choice, matches}
+use Rattle.mls_reports.specs.declared.list_fault.ListFault.{ListFault}
 use Rattle.mls_state.specs.State.{State}
-use Rattle.mls_wording.specs.declared.answer.Answer.{Answer}
 use Rattle.mls_explain_text.specs.Explained.{Explains}
 use Rattle.mls_explain_text.specs.Files.{ExplainsEntry, ExplainsEither, SeesThat}
 use Rattle.mls_explain_text.specs.Under.{under_text}
+use Rattle.mls_explain_text.specs.declared.write_fault.WriteFault.{WriteFault}
+use Rattle.mls_explain_text.specs.declared.write_fault.WriteFault.TheVariants as faults
 
 -- A start and its entries, as they are seen before the entry of a number: in the state that those before it lead to.
 -- (own)
@@ -53,20 +56,28 @@ AddsWhere false names marks v e old new = new ≡ old
 -- What is listed of the entries that are asked for, each explained, and of no others; it is positive where there is
 -- one. (own)
 pub record IsExplained (names : Names) (start : State) (entries : List Entry) (marks : Option (List Row)) (c : Choice)
-    (answer : Answer) : Type 0 where
-  pub text : TellsEach names start entries marks (filter (matches c) entries) (string_bytes answer.text)
-  pub positive : answer.is_positive ≡ list_any (matches c) entries
+    (told : List ℕ) (positive : Bool) : Type 0 where
+  pub text : TellsEach names start entries marks (filter (matches c) entries) told
+  pub any : positive ≡ list_any (matches c) entries
 
 -- There is a listing of the entries of a replay that a filter asks for, each explained. (own)
-abbrev pub ExplainsOver : Replayed → Option (List Row) → Words → Answer → Type 0
-ExplainsOver r marks asked answer =
-    (c : Choice) × IsChosen r.names asked c × IsExplained r.names r.start r.entries marks c answer
+abbrev pub ExplainsOver : Replayed → Option (List Row) → Words → List ℕ → Bool → Type 0
+ExplainsOver r marks asked told positive =
+    (c : Choice) × IsChosen r.names asked c × IsExplained r.names r.start r.entries marks c told positive
 
 -- A start file and a journal are replayed, and there is a listing of the entries that a filter asks for, each
 -- explained, with their times by the rows of marks, where there are some. (own)
-abbrev pub ListsExplained : List ℕ → List ℕ → Option (List Row) → Words → Answer → Type 0
-ListsExplained bytes journal marks asked answer =
-    (r : Replayed) × ReplaysAt bytes journal None r × ExplainsOver r marks asked answer
+abbrev pub ListsExplained : List ℕ → List ℕ → Option (List Row) → Words → List ℕ → Bool → Type 0
+ListsExplained bytes journal marks asked told positive =
+    (r : Replayed) × ReplaysAt bytes journal None r × ExplainsOver r marks asked told positive
+
+-- A writer was handed a text of which this is so, and nothing else. (own)
+abbrev pub Writes : (List ℕ → Type 0) → Option (List ℕ) → Option (List ℕ) → Type 0
+Writes P held holds = (told : List ℕ) × P told × Appends held holds told
+
+-- A writer was handed a front of a text, of which the rest is left. (own)
+abbrev pub Pours : Option (List ℕ) → Option (List ℕ) → List ℕ → List ℕ → Type 0
+Pours held holds before after = (told : List ℕ) × Appends held holds told × (before ≡ told ++ after)
 
 -- What stands under the line of an entry is what `mls explain --at` is answered of its number over these files, but for
 -- the first line, each line behind two spaces. (own)
@@ -75,3 +86,8 @@ AnswersAlike bytes journal e under =
     (told : List ℕ) × (positive : Bool)
     × SeesThat bytes (Some journal) (Some e.number) (λ seen. ExplainsEither seen (Some e.number) None told positive)
     × (under ≡ under_text told)
+
+-- Why entries aren't written: the writer failed, or for such a fault of their listing. (own)
+abbrev pub RefusesWriting : (ListFault → Type 0) → WriteFault → Type 0
+RefusesWriting P (faults.List fault) = P fault
+RefusesWriting P faults.Write = Unit {0}

@@ -77,15 +77,27 @@ IsActionRemedy v s action remedy = remedy ≡ None
 abbrev pub IsRemedyFor : State → Request → Option Label → Type 0
 IsRemedyFor v r remedy = IsActionRemedy v r.subject r.action remedy
 
+-- What the remedy is that is told of a request with a reply: of one that is denied its own, else none. (own)
+abbrev pub IsRemedyAfter : State → Request → Reply → Option Label → Type 0
+IsRemedyAfter v r (No reason) remedy = IsRemedyFor v r remedy
+IsRemedyAfter v r reply remedy = remedy ≡ None
+
 -- A text is the explanation of a request in the domain: with just the conditions of its rule, in its order, each with
--- what it rests on, and with its remedy. (own)
+-- what it rests on, and with its remedy where it is denied. (own)
 pub record ExplainsDefined (names : Names) (v : State) (r : Request) (told : List ℕ) : Type 0 where
   pub all : List Condition
   pub remedy : Option Label
   pub tests : tests_of all ≡ conditions v r.subject r.action
   pub bases : grounds_of all ≡ grounds v r.subject r.action
-  pub least : IsRemedyFor v r remedy
+  pub least : IsRemedyAfter v r (reply v r) remedy
   pub text : told ≡ explanation names v r all remedy
+
+-- A text is that of just the conditions of a request's rule, in its order, each with what it rests on. (own)
+pub record GivesReasons (names : Names) (v : State) (r : Request) (told : List ℕ) : Type 0 where
+  pub all : List Condition
+  pub tests : tests_of all ≡ conditions v r.subject r.action
+  pub bases : grounds_of all ≡ grounds v r.subject r.action
+  pub text : told ≡ conditions_text names v r all
 
 -- What isn't there. (own)
 abbrev pub unknown_text : Names → Unknown → List ℕ
@@ -121,3 +133,7 @@ ExplainsRequest names v r told = ExplainsWhether (is_defined v r) names v r told
 abbrev pub Explains : Names → State → Ask → List ℕ → Type 0
 Explains names v (Submit r) told = ExplainsRequest names v r told
 Explains names v (Check s o x) told = told ≡ response_line (response_to v (Check s o x))
+
+-- To a text another is added, of which this is so. (own)
+abbrev pub Adds : (List ℕ → Type 0) → List ℕ → List ℕ → Type 0
+Adds P old new = (told : List ℕ) × P told × (new ≡ old ++ told)

@@ -6,6 +6,10 @@ use Rattle.std.specs.List.{flat_map, slice_split}
 abbrev pub told_lines : List ℕ → List (List ℕ)
 told_lines text = filter (λ line. nat_lt 0 (length line)) (slice_split (λ b. b == 10) text)
 
+-- The lines of one that has no newline: itself, or none where it is empty. (own)
+abbrev pub filled : List ℕ → List (List ℕ)
+filled line = filter (λ line. nat_lt 0 (length line)) (line ∷ [])
+
 -- All but the first of some lines. (own)
 abbrev pub behind_first : List (List ℕ) → List (List ℕ)
 behind_first [] = []

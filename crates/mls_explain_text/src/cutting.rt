@@ -15,7 +15,7 @@ pub(crate) fn cut(alloc: Global, text: &str, at: char) -> Result<Vec<&str>, Allo
 
 /// Those of some parts that have a byte.
 #[tactic(auto, using(crate::proofs::Kept::kept_more))]
-pub(crate) fn filled<'a>(alloc: Global, parts: &[&'a str]) -> Result<Vec<&'a str>, AllocError>
+fn filled<'a>(alloc: Global, parts: &[&'a str]) -> Result<Vec<&'a str>, AllocError>
     ensures { IfOk result (λ filled. map (λ part. part.now) filled.items
         ≡ filter (λ part. nat_lt 0 (length part)) (map (λ part. part.now) parts.now)) }
 {

@@ -1,59 +1,80 @@
 //! Why a line is answered as it is.
-ghost use Rattle.std.specs.Prelude.{◌≡◌, ◌++◌, codes, string_bytes, IsTrue, IfOk, OnOk};
-ghost use Rattle.mls_rules.specs.Rules.{is_defined, reply};
-ghost use Rattle.mls_requests.specs.ReplyWords.{reply_text};
-ghost use Rattle.mls_explain_text.specs.Explained.{explanation, ExplainsDefined, ExplainsRequest, Explains};
-ghost use Rattle.mls_explain_text.specs.Explained.{IsRemedyFor};
+ghost use Rattle.std.specs.Prelude.{◌≡◌, string_bytes, IsTrue, IfOk, OnOk};
+ghost use Rattle.mls_rules.specs.Rules.{is_defined};
+ghost use Rattle.mls_explain_text.specs.Explained.{Adds, GivesReasons, ExplainsDefined, ExplainsRequest, Explains};
 ghost use Rattle.mls_explain_text.specs.Responses.{response_to, is_positive};
 
 use crate::asking::response_text;
 use crate::condition_line::push_conditions;
-use crate::remedy_line::{push_remedy, remedy_of};
+use crate::remedy_line::{push_remedy, remedy_told};
 use crate::response::{Response, answer_to, push_response};
-use crate::undefined::explain_undefined;
-use mls_explain::{Condition, conditions, unknowns};
-use mls_labels::SecLabel;
+use crate::undefined::push_undefined;
+use mls_explain::{conditions, unknowns};
 use mls_lines::Names;
 use mls_requests::{Ask, Request};
 use mls_rules::{State, decide};
 use mls_wording::Answer;
 use std::alloc::{AllocError, Global};
 
-/// Appends the explanation of a request in the domain, with these conditions and this remedy.
-fn push_explanation(
+/// Appends the lines of the conditions of a request in the domain.
+fn push_reasons(
     alloc: Global,
     text: &mut String,
     names: &Names,
     state: &State,
     request: &Request,
-    conditions: &[Condition],
-    remedy: Option<SecLabel>,
 ) -> Result<(), AllocError>
     requires { IsTrue (is_defined state.now request.now) }
-    ensures { OnOk result (string_bytes text.new
-        ≡ string_bytes text.old ++ explanation names.now state.now request.now conditions.now remedy) }
+    ensures { OnOk result (Adds (GivesReasons names.now state.now request.now) (string_bytes text.old)
+        (string_bytes text.new)) }
 {
-    let reply = decide(state, request);
-    push_response(text, &Response::Replied(reply))?;
-    push_conditions(alloc, text, names, state, request, conditions)?;
-    push_remedy(text, names, request, &reply, remedy)
+    let conditions = conditions(alloc, state, request)?;
+    let pushed = push_conditions(alloc, text, names, state, request, &conditions);
+    drop(conditions);
+    pushed
 }
 
-/// The explanation of a request in the domain.
-fn explain_defined(
+/// Appends the explanation of a request in the domain.
+fn push_defined(
     alloc: Global,
+    text: &mut String,
     names: &Names,
     state: &State,
     request: &Request,
-) -> Result<String, AllocError>
+) -> Result<(), AllocError>
     requires { IsTrue (is_defined state.now request.now) }
-    ensures { IfOk result (λ text. ExplainsDefined names.now state.now request.now (string_bytes text)) }
+    ensures { OnOk result (Adds (ExplainsDefined names.now state.now request.now) (string_bytes text.old)
+        (string_bytes text.new)) }
 {
-    let mut text = String::new(alloc);
-    let remedy = remedy_of(state, request);
-    let conditions = conditions(alloc, state, request)?;
-    push_explanation(alloc, &mut text, names, state, request, &conditions, remedy)?;
-    Ok(text)
+    let reply = decide(state, request);
+    let remedy = remedy_told(state, request, &reply);
+    push_response(text, &Response::Replied(reply))?;
+    push_reasons(alloc, text, names, state, request)?;
+    push_remedy(text, names, request, &reply, remedy)
+}
+
+/// Appends the explanation of a request.
+///
+/// # Errors
+/// `AllocError` where an allocation failed. The text may then have a part of it.
+pub(crate) fn push_request(
+    alloc: Global,
+    text: &mut String,
+    names: &Names,
+    state: &State,
+    request: &Request,
+) -> Result<(), AllocError>
+    ensures { OnOk result (Adds (ExplainsRequest names.now state.now request.now) (string_bytes text.old)
+        (string_bytes text.new)) }
+{
+    let unknown = unknowns(alloc, state, request)?;
+    let pushed = if unknown.is_empty() {
+        push_defined(alloc, text, names, state, request)
+    } else {
+        push_undefined(text, names, &unknown)
+    };
+    drop(unknown);
+    pushed
 }
 
 /// The explanation of a request.
@@ -65,12 +86,9 @@ fn explain_request(
 ) -> Result<String, AllocError>
     ensures { IfOk result (λ text. ExplainsRequest names.now state.now request.now (string_bytes text)) }
 {
-    let unknown = unknowns(alloc, state, request)?;
-    if unknown.is_empty() {
-        explain_defined(alloc, names, state, request)
-    } else {
-        explain_undefined(alloc, names, &unknown)
-    }
+    let mut text = String::new(alloc);
+    push_request(alloc, &mut text, names, state, request)?;
+    Ok(text)
 }
 
 /// The explanation of what a line asks.

@@ -2,7 +2,8 @@
 ghost use Rattle.std.specs.Prelude.{◌≡◌, ◌++◌, codes, string_bytes, OnOk};
 ghost use Rattle.mls_explain.specs.Remedy.{HasRemedy};
 ghost use Rattle.mls_wording.specs.Wording.{subject_text, security_text};
-ghost use Rattle.mls_explain_text.specs.Explained.{IsRemedyFor, remedy_line, remedy_after, remedy_text};
+ghost use Rattle.mls_explain_text.specs.Explained.{IsRemedyAfter, IsRemedyFor, remedy_line, remedy_after};
+ghost use Rattle.mls_explain_text.specs.Explained.{remedy_text};
 
 use mls_explain::remedy;
 use mls_labels::SecLabel;
@@ -21,11 +22,21 @@ fn get_remedy(state: &State, s: SubjectId, o: ObjectId, x: Mode) -> Option<SecLa
 }
 
 /// The remedy of a request: of a get its own, and of any other none.
-pub(crate) fn remedy_of(state: &State, request: &Request) -> Option<SecLabel>
+fn remedy_of(state: &State, request: &Request) -> Option<SecLabel>
     ensures { IsRemedyFor state.now request.now result }
 {
     match &request.action {
         Action::Get(x, o) => get_remedy(state, request.subject, *o, *x),
+        _ => None,
+    }
+}
+
+/// The remedy that is told of a request with this reply: of one that is denied its own, else none.
+pub(crate) fn remedy_told(state: &State, request: &Request, reply: &Reply) -> Option<SecLabel>
+    ensures { IsRemedyAfter state.now request.now reply.now result }
+{
+    match reply {
+        Reply::No(_) => remedy_of(state, request),
         _ => None,
     }
 }

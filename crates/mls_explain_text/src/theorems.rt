@@ -14,7 +14,7 @@ pub fn words_are_parts()
     ensures { (form : Form) → IsAsked form → parts_by (sorts_in (tokens_in form)) (tokens_in form) ≡ parts_in form }
 {}
 
-/// What [`list_explained`](crate::list_explained) puts under the line of an entry is what
+/// What [`write_explained`](crate::write_explained) puts under the line of an entry is what
 /// [`explain`](crate::explain) tells of the entry of its number over the same files, but for the first line.
 pub fn entries_are_explained_alike()
     ensures { (bytes journal : List ℕ) (r : Replayed) (e : Entry) (under : List ℕ) → ReplaysAt bytes journal None r

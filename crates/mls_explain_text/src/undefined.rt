@@ -1,5 +1,5 @@
 //! What a request names and isn't there.
-ghost use Rattle.std.specs.Prelude.{◌≡◌, ◌++◌, codes, string_bytes, IfOk, OnOk};
+ghost use Rattle.std.specs.Prelude.{◌≡◌, ◌++◌, codes, string_bytes, OnOk};
 ghost use Rattle.mls_explain.specs.Unknowns.{unknowns};
 ghost use Rattle.mls_explain_text.specs.Terms.{worded};
 ghost use Rattle.mls_explain_text.specs.Explained.{unknown_text, unknown_line, unknown_lines, undefined_text};
@@ -9,7 +9,7 @@ use crate::worded::{
 };
 use mls_explain::Unknown;
 use mls_lines::Names;
-use std::alloc::{AllocError, Global};
+use std::alloc::AllocError;
 
 /// Appends what isn't there.
 fn push_unknown(text: &mut String, names: &Names, unknown: &Unknown) -> Result<(), AllocError>
@@ -45,16 +45,14 @@ fn push_lines(text: &mut String, names: &Names, unknown: &[Unknown]) -> Result<(
     Ok(())
 }
 
-/// The explanation of a request outside the domain, which names these things that aren't there.
-pub(crate) fn explain_undefined(
-    alloc: Global,
+/// Appends the explanation of a request outside the domain, which names these things that aren't there.
+pub(crate) fn push_undefined(
+    text: &mut String,
     names: &Names,
     unknown: &[Unknown],
-) -> Result<String, AllocError>
-    ensures { IfOk result (λ text. string_bytes text ≡ undefined_text names.now unknown.now) }
+) -> Result<(), AllocError>
+    ensures { OnOk result (string_bytes text.new ≡ string_bytes text.old ++ undefined_text names.now unknown.now) }
 {
-    let mut text = String::new(alloc);
     text.push_str("undefined\n")?;
-    push_lines(&mut text, names, unknown)?;
-    Ok(text)
+    push_lines(text, names, unknown)
 }

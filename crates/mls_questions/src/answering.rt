@@ -82,15 +82,24 @@ pub(crate) fn question_refused(
     }
 }
 
+/// The status of a command whose answer is printed, which is a positive one or a negative one.
+pub(crate) fn status_of(is_positive: bool) -> ExitCode {
+    if is_positive {
+        ExitCode::SUCCESS
+    } else {
+        ExitCode::from(NEGATIVE)
+    }
+}
+
 /// Prints an answer.
 pub(crate) fn answered(progress: &mut Progress<'_>, answer: Answer) -> ExitCode {
     let Answer { text, is_positive } = answer;
     let printed = progress.print(text.as_bytes());
     drop(text);
-    if is_positive || printed != ExitCode::SUCCESS {
-        printed
+    if printed == ExitCode::SUCCESS {
+        status_of(is_positive)
     } else {
-        ExitCode::from(NEGATIVE)
+        printed
     }
 }
 

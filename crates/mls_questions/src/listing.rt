@@ -1,14 +1,13 @@
 //! The commands that list what a journal has, and the state that it leads to.
-use crate::answering::{answered, ended, name_refused, question_refused};
+use crate::answering::{answered, ended, name_refused, question_refused, status_of};
 use crate::named::Named;
 use crate::renaming::journal_after;
 use crate::sources::Bytes;
-use mls_explain_text::{Sort, list_explained};
+use mls_explain_text::{Sort, WriteFault, write_explained};
 use mls_marks::Marks;
 use mls_reports::{Filter, ListFault, Words, list_journal, list_state};
-use mls_terminal::{JournalWords, Progress, Source};
-use mls_wording::Answer;
-use std::alloc::Global;
+use mls_terminal::{JournalWords, NOT_WRITTEN, Progress, Source, refused};
+use std::io::Write;
 use std::process::ExitCode;
 
 /// Tells why the entries of a journal aren't listed, by the bytes of the start file.
@@ -85,19 +84,48 @@ fn marked_filter<'a>(words: &JournalWords<'a>, marks: Option<&Marks>) -> Words<'
     }
 }
 
-/// The entries of a journal that are asked for, each explained or each as it is.
-fn listed(
-    alloc: Global,
+/// Prints the entries of a journal that a filter asks for, each with why it has its reply, as they are explained.
+fn journal_explained(
+    progress: &mut Progress<'_>,
     words: &JournalWords<'_>,
     bytes: &Bytes,
     filter: &Words<'_>,
-) -> Result<Answer, ListFault> {
+) -> ExitCode {
+    progress.end();
+    let rt = progress.rt();
     let journal = bytes.journal();
     let marks = bytes.marks.as_ref();
-    if words.is_explained {
-        list_explained(alloc, &bytes.start, journal, marks, filter)
-    } else {
-        list_journal(alloc, &bytes.start, journal, marks, filter, words.form)
+    let mut output = rt.stdout();
+    match write_explained(
+        rt.alloc(),
+        &mut output,
+        &bytes.start,
+        journal,
+        marks,
+        filter,
+    ) {
+        Ok(is_any) if output.flush().is_ok() => status_of(is_any),
+        Ok(_) | Err(WriteFault::Write) => refused(rt, NOT_WRITTEN, 1),
+        Err(WriteFault::List(fault)) => list_refused(rt, words, &bytes.start, fault),
+    }
+}
+
+/// Prints the entries of a journal that a filter asks for, once all are listed.
+fn journal_listed(
+    progress: &mut Progress<'_>,
+    words: &JournalWords<'_>,
+    bytes: &Bytes,
+    filter: &Words<'_>,
+) -> ExitCode {
+    let journal = bytes.journal();
+    let marks = bytes.marks.as_ref();
+    progress.begin("listing");
+    let rt = progress.rt();
+    let done = list_journal(rt.alloc(), &bytes.start, journal, marks, filter, words.form);
+    progress.end();
+    match done {
+        Ok(answer) => answered(progress, answer),
+        Err(fault) => list_refused(rt, words, &bytes.start, fault),
     }
 }
 
@@ -109,14 +137,11 @@ pub(crate) fn journal(
 ) -> ExitCode {
     let filter = marked_filter(words, bytes.marks.as_ref());
     if let Some(map) = words.after {
-        return journal_after(progress, words, map, bytes, &filter);
-    }
-    progress.begin("listing");
-    let done = listed(progress.rt().alloc(), words, bytes, &filter);
-    progress.end();
-    match done {
-        Ok(answer) => answered(progress, answer),
-        Err(fault) => list_refused(progress.rt(), words, &bytes.start, fault),
+        journal_after(progress, words, map, bytes, &filter)
+    } else if words.is_explained {
+        journal_explained(progress, words, bytes, &filter)
+    } else {
+        journal_listed(progress, words, bytes, &filter)
     }
 }
 

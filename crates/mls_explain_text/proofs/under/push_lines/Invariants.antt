@@ -1,9 +1,15 @@
-use Rattle.std.proofs.Common.{◌≡◌, ◌++◌, map, take, string_bytes}
+use Rattle.std.proofs.Common.{◌≡◌, ◌++◌, length, string_bytes}
+use denote.Shadow.{shadow}
+use denote.Text.{Utf8}
 use Rattle.std.specs.List.{flat_map}
-use Rattle.mls_explain_text.specs.Under.{indented}
+use Rattle.mls_explain_text.specs.Under.{indented, told_lines}
 use Rattle.mls_explain_text.proofs.under.push_lines.Given as goal
 
--- the lines so far are written
-abbrev pub invariant-loop-line : goal.invariant-loop-line
-invariant-loop-line l =
-    string_bytes l.text ≡ string_bytes l.fn.text ++ flat_map indented (map (λ line. line.now) (take l.line-index l.lines))
+-- what is written and what is left come to the whole
+abbrev pub invariant-loop-rest : goal.invariant-loop-rest
+invariant-loop-rest l =
+    shadow (Utf8 l.rest)
+    × (string_bytes l.text ++ flat_map indented (told_lines l.rest) ≡ string_bytes l.fn.text ++ flat_map indented (told_lines l.told))
+
+abbrev pub decreases-loop-rest : goal.decreases-loop-rest
+decreases-loop-rest l = length l.rest
