@@ -1,4 +1,5 @@
 //! A start file and a journal each single byte of which is changed.
+use crate::seen::sees;
 use crate::standard_file::STANDARD;
 use mls_journal::{next_entry, write_entry};
 use mls_replay::{CommandFault, check_start, replay_journal};
@@ -89,7 +90,7 @@ fn each_is_settled(rt: &impl Abort, alloc: Global, text: &mut [u8], kind: Kind) 
 #[test]
 fn each_changed_byte_of_a_journal_is_found_or_harmless(rt: HostRuntime) -> Result<(), Fail> {
     let mut journal = Vec::from_slice(rt.alloc(), JOURNAL)?;
-    assert!(rt; is_replayed(rt.alloc(), &journal));
+    sees(&rt, is_replayed(rt.alloc(), &journal), "the journal");
     each_is_settled(&rt, rt.alloc(), &mut journal, Kind::Journal);
     drop(journal);
     Ok(())
@@ -100,7 +101,7 @@ fn each_changed_byte_of_a_start_is_refused_or_leaves_it_secure(
     rt: HostRuntime,
 ) -> Result<(), Fail> {
     let mut start = Vec::from_slice(rt.alloc(), STANDARD.as_bytes())?;
-    assert!(rt; is_checked(rt.alloc(), &start));
+    sees(&rt, is_checked(rt.alloc(), &start), "the start");
     each_is_settled(&rt, rt.alloc(), &mut start, Kind::Start);
     drop(start);
     Ok(())

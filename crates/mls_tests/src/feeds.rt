@@ -1,10 +1,10 @@
 //! A script that is fed alone, and told what a monitor answers, has the answers that serving it writes.
-use crate::standard::standard_monitor;
+use crate::seen::sees_at;
+use crate::standard::{ample_monitor, ample_start};
 use mls_lines::Names;
 use mls_monitor::{Answer, Feed, Monitor, Stage};
 use mls_requests::Ask;
 use mls_scripts::{ScriptFeed, serve};
-use mls_start_file::standard_start;
 use std::alloc::{AllocError, Global};
 use std::process::Abort;
 
@@ -80,10 +80,8 @@ fn is_alike(
 /// Asserts that of all scripts, one after the other.
 fn are_alike(rt: &impl Abort, alloc: Global, names: &Names, mut served: Monitor, mut fed: Monitor) {
     for script in &SCRIPTS {
-        assert!(rt;
-            is_alike(alloc, names, &mut served, &mut fed, script),
-            "{script:?}"
-        );
+        let is_right = is_alike(alloc, names, &mut served, &mut fed, script);
+        sees_at(rt, is_right, script.len());
     }
     drop(served);
     drop(fed);
@@ -91,22 +89,14 @@ fn are_alike(rt: &impl Abort, alloc: Global, names: &Names, mut served: Monitor,
 
 /// Opens a monitor to serve over and one to feed.
 fn over_two(rt: &impl Abort, alloc: Global, names: &Names) {
-    let Ok(served) = standard_monitor(alloc) else {
-        panic!(rt; "out of memory")
-    };
-    let Ok(fed) = standard_monitor(alloc) else {
-        panic!(rt; "out of memory")
-    };
+    let served = ample_monitor(rt, alloc);
+    let fed = ample_monitor(rt, alloc);
     are_alike(rt, alloc, names, served, fed);
 }
 
 #[test]
 fn a_feed_alone_writes_what_serve_writes(rt: HostRuntime) {
-    match standard_start(rt.alloc()) {
-        Ok(loaded) => {
-            over_two(&rt, rt.alloc(), loaded.names());
-            drop(loaded);
-        }
-        Err(_) => panic!(rt; "out of memory"),
-    }
+    let loaded = ample_start(&rt, rt.alloc());
+    over_two(&rt, rt.alloc(), loaded.names());
+    drop(loaded);
 }

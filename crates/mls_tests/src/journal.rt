@@ -2,12 +2,16 @@
 //! which shows that the trait can be met, and over one whose journal is cut into files; marks, verified in pieces and
 //! made by a service.
 #[cfg(test)]
+mod calls;
+#[cfg(test)]
 mod entries;
 #[cfg(test)]
 mod files;
 #[cfg(test)]
 mod journals;
 mod keeper;
+#[cfg(test)]
+mod marked;
 #[cfg(test)]
 mod marked_files;
 #[cfg(test)]
@@ -19,8 +23,6 @@ mod memory;
 mod refusals;
 #[cfg(test)]
 mod rows;
-#[cfg(test)]
-mod seen;
 mod shelf;
 #[cfg(test)]
 mod tests;

@@ -12,6 +12,8 @@ mod journal;
 #[cfg(test)]
 mod one_line;
 #[cfg(test)]
+mod seen;
+#[cfg(test)]
 mod serving;
 #[cfg(test)]
 mod sessions;

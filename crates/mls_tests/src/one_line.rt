@@ -1,10 +1,10 @@
 //! A variable is bound to the object that its line made, and to nothing else, whatever allocation is refused.
-use crate::standard::standard_monitor;
+use crate::seen::sees;
+use crate::standard::{ample_start, standard_monitor};
 use mls_lines::Vars;
 use mls_monitor::Monitor;
 use mls_requests::{Reason, Reply};
 use mls_scripts::{Answer, Script};
-use mls_start_file::standard_start;
 use mls_tables::ObjectId;
 use refusing::Refusing;
 use std::alloc::{AllocError, Allocator, Global};
@@ -69,15 +69,15 @@ fn answered<A: Allocator + Copy>(
     reply: Reply,
 ) -> bool {
     let (entries, bound) = (monitor.entries().len(), vars.get("x"));
-    let answer = script.answer(vars, monitor, line);
-    if answer.is_ok() {
-        assert!(rt; is_reply(answer, reply));
-        return false;
+    let mut answer = script.answer(vars, monitor, line);
+    let refused = answer.is_err();
+    if refused {
+        sees(rt, monitor.entries().len() == entries, "no entry");
+        sees(rt, vars.get("x") == bound, "nothing bound");
+        answer = script.answer(vars, monitor, line);
     }
-    assert!(rt; monitor.entries().len() == entries && vars.get("x") == bound);
-    let again = script.answer(vars, monitor, line);
-    assert!(rt; is_reply(again, reply));
-    true
+    sees(rt, is_reply(answer, reply), "a reply");
+    refused
 }
 
 /// Answers the lines, and says how often an allocation failed.
@@ -92,7 +92,7 @@ fn all_answered<A: Allocator + Copy>(
         if answered(rt, script, vars, monitor, line, *reply) {
             refusals = refusals.saturating_add(1);
         }
-        assert!(rt; vars.get("x") == *bound);
+        sees(rt, vars.get("x") == *bound, "what is bound");
     }
     refusals
 }
@@ -134,16 +134,12 @@ fn refusals_in_turn(rt: &impl Abort, alloc: Global, script: &Script<'_, Global>)
 
 #[test]
 fn binds_what_was_made_whatever_allocation_is_refused(rt: HostRuntime) {
-    match standard_start(rt.alloc()) {
-        Ok(loaded) => {
-            let script = Script {
-                names: loaded.names(),
-                session: 7,
-            };
-            let refusals = refusals_in_turn(&rt, rt.alloc(), &script);
-            drop(loaded);
-            assert!(rt; refusals >= Some(12));
-        }
-        Err(_) => panic!(rt; "out of memory"),
-    }
+    let loaded = ample_start(&rt, rt.alloc());
+    let script = Script {
+        names: loaded.names(),
+        session: 7,
+    };
+    let refusals = refusals_in_turn(&rt, rt.alloc(), &script);
+    drop(loaded);
+    sees(&rt, refusals >= Some(12), "how many refusals");
 }

@@ -5,12 +5,11 @@ mod refusals;
 mod streams;
 mod whole;
 
-use crate::standard::standard_monitor;
+use crate::standard::{ample_start, standard_monitor};
 use failing::{reader_fails_in_turn, stuck_writer_leaves_what_was_read, writer_fails_in_turn};
 use mls_lines::Names;
 use mls_monitor::Entry;
 use mls_scripts::{ServeFault, serve};
-use mls_start_file::standard_start;
 use refusals::allocations_are_refused;
 use std::alloc::Global;
 use std::cell::Cell;
@@ -50,13 +49,9 @@ fn assert_over(rt: &impl Abort, alloc: Global, names: &Names<Global>, test: Test
 
 /// Makes the standard names, and lends them to a test.
 fn over_names(rt: &impl Abort, alloc: Global, test: Test) {
-    match standard_start(alloc) {
-        Ok(loaded) => {
-            assert_over(rt, alloc, loaded.names(), test);
-            drop(loaded);
-        }
-        Err(_) => panic!(rt; "out of memory"),
-    }
+    let loaded = ample_start(rt, alloc);
+    assert_over(rt, alloc, loaded.names(), test);
+    drop(loaded);
 }
 
 /// What serving as session 7 left: its result, and how many entries of the session.

@@ -1,4 +1,5 @@
 //! The standard start and the standard file: each read of what they open with, beside the tables of the format.
+use crate::seen::{sees, sees_at};
 use crate::standard_file::STANDARD;
 use mls_labels::{Label, Scheme};
 use mls_lines::Names;
@@ -184,8 +185,8 @@ fn is_cell<A: Allocator>(state: &State<A>, s: SubjectId, o: ObjectId, listed: &[
 fn has_rows(rt: &impl Abort, names: &Names<Global>, state: &State<Global>) {
     for n in 0..4usize {
         let (s, o) = (SubjectId(n as u16), ObjectId(n as u16));
-        assert!(rt; is_subject(names, state, s, &SUBJECTS[n]), "subject {n}");
-        assert!(rt; is_object(names, state, o, &OBJECTS[n]), "object {n}");
+        sees_at(rt, is_subject(names, state, s, &SUBJECTS[n]), n);
+        sees_at(rt, is_object(names, state, o, &OBJECTS[n]), n);
     }
 }
 
@@ -193,7 +194,7 @@ fn has_rows(rt: &impl Abort, names: &Names<Global>, state: &State<Global>) {
 fn has_matrix<A: Allocator>(rt: &impl Abort, state: &State<A>) {
     for n in 0..16usize {
         let (s, o) = (SubjectId((n / 4) as u16), ObjectId((n % 4) as u16));
-        assert!(rt; is_cell(state, s, o, MATRIX[n / 4][n % 4]), "cell {n}");
+        sees_at(rt, is_cell(state, s, o, MATRIX[n / 4][n % 4]), n);
     }
 }
 
@@ -210,20 +211,24 @@ fn is_idle<A: Allocator>(state: &State<A>) -> bool {
 
 /// Asserts that a state has the tables and nothing beside them.
 fn has_tables(rt: &impl Abort, names: &Names<Global>, state: &State<Global>) {
-    assert!(rt; state.subject_count() == 4 && state.next() == 4);
-    assert!(rt; is_idle(state) && is_secure(state));
-    assert!(rt; state.security() == names.security().bounds());
-    assert!(rt; state.integrity() == names.integrity().bounds());
+    sees(rt, state.subject_count() == 4, "how many subjects");
+    sees(rt, state.next() == 4, "the next number");
+    sees(rt, is_idle(state) && is_secure(state), "no accesses");
+    let (security, integrity) = (state.security(), state.integrity());
+    sees(rt, security == names.security().bounds(), "the bounds");
+    sees(rt, integrity == names.integrity().bounds(), "the bounds");
     has_rows(rt, names, state);
     has_matrix(rt, state);
 }
 
 /// Asserts what a start counts, and that its opening has the tables.
 fn opens_with_tables(rt: &impl Abort, alloc: Global, names: &Names<Global>, start: &Start<Global>) {
-    assert!(rt; start.subject_count() == 4 && start.object_count() == 4);
-    assert!(rt; start.cell_count() == 12);
-    assert!(rt; start.security() == names.security().bounds());
-    assert!(rt; start.integrity() == names.integrity().bounds());
+    sees(rt, start.subject_count() == 4, "how many subjects");
+    sees(rt, start.object_count() == 4, "how many objects");
+    sees(rt, start.cell_count() == 12, "how many cells");
+    let (security, integrity) = (start.security(), start.integrity());
+    sees(rt, security == names.security().bounds(), "the bounds");
+    sees(rt, integrity == names.integrity().bounds(), "the bounds");
     match start.opening(alloc) {
         Ok(state) => {
             has_tables(rt, names, &state);

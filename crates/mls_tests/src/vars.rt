@@ -1,4 +1,5 @@
 //! Variables that are bound, bound again, and the allocations that they need.
+use crate::seen::sees;
 use mls_lines::Vars;
 use mls_tables::ObjectId;
 use refusing::Refusing;
@@ -42,11 +43,18 @@ fn bind<A: Allocator + Copy>(
     let before = vars.get(name);
     let refused = vars.bind(name, object).is_err();
     if refused {
-        assert!(rt; vars.get(name) == before, "{name} was {before:?}");
-        assert!(rt; vars.bind(name, object).is_ok());
+        sees(rt, vars.get(name) == before, name);
+        sees(rt, vars.bind(name, object).is_ok(), name);
     }
-    assert!(rt; vars.get(name) == Some(object), "{name} is {object:?}");
+    sees(rt, vars.get(name) == Some(object), name);
     refused
+}
+
+/// Asserts what variables stand for in the end.
+fn are_bound<A: Allocator>(rt: &impl Abort, vars: &Vars<A>) {
+    for (name, object) in &BOUND {
+        sees(rt, vars.get(name) == *object, name);
+    }
 }
 
 /// Binds the variables in their order, and says how often an allocation failed.
@@ -57,9 +65,7 @@ fn bind_all<A: Allocator + Copy>(rt: &impl Abort, vars: &mut Vars<A>) -> u32 {
             refusals = refusals.saturating_add(1);
         }
     }
-    for (name, object) in &BOUND {
-        assert!(rt; vars.get(name) == *object, "{name} in the end");
-    }
+    are_bound(rt, vars);
     refusals
 }
 
@@ -80,8 +86,8 @@ fn reserves(vars: &mut Vars<Global>, name: &str) -> bool {
 fn reserve_binds_nothing(rt: HostRuntime) {
     let mut vars = Vars::new(rt.alloc());
     let _ = bind_all(&rt, &mut vars);
-    assert!(rt; reserves(&mut vars, "a"), "a bound variable");
-    assert!(rt; reserves(&mut vars, "i"), "a new variable");
+    sees(&rt, reserves(&mut vars, "a"), "a bound variable");
+    sees(&rt, reserves(&mut vars, "i"), "a new variable");
     drop(vars);
 }
 
@@ -98,14 +104,10 @@ fn bound_in_two_steps(vars: &mut Vars<Global>, name: &str, object: ObjectId) -> 
 fn all_bound_in_two_steps(rt: &impl Abort, vars: &mut Vars<Global>) {
     for (name, object) in &BINDS {
         let object = ObjectId(*object);
-        assert!(rt;
-            bound_in_two_steps(vars, name, object) == Some(object),
-            "{name}"
-        );
+        let bound = bound_in_two_steps(vars, name, object);
+        sees(rt, bound == Some(object), name);
     }
-    for (name, object) in &BOUND {
-        assert!(rt; vars.get(name) == *object, "{name} in the end");
-    }
+    are_bound(rt, vars);
 }
 
 #[test]
@@ -130,9 +132,9 @@ fn binds_and_binds_again_whatever_allocation_is_refused(rt: HostRuntime) {
         let heap = Refusing::new(rt.alloc(), number);
         refusals = refusals.saturating_add(run(&rt, &heap));
         if !heap.has_refused() {
-            assert!(rt; refusals >= 13);
+            sees(&rt, refusals >= 13, "how many refusals");
             return;
         }
     }
-    assert!(rt; false, "an allocation was refused in each run");
+    sees(&rt, false, "a run without a refusal");
 }

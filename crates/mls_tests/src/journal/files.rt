@@ -1,10 +1,10 @@
 //! A service whose journal is cut into files.
 use super::Shelf;
-use mls_durable::{
-    Asker, AttendFault, Options, Protocol, RecoverFault, ServiceFault, TornEnd, serve_durably,
-};
+use crate::seen::{sees_bytes, sees_outcome};
+use crate::standard::{ample_start, resumed_monitor};
+use mls_durable::{Asker, Options, Protocol, ServiceFault, TornEnd, serve_durably};
+use mls_lines::Names;
 use mls_monitor::Monitor;
-use mls_start_file::standard_start;
 use std::alloc::Global;
 use std::process::Abort;
 
@@ -35,15 +35,14 @@ struct Wanted<'a> {
     told: &'a [u8],
 }
 
-/// Runs a service over files in memory.
-fn run(alloc: Global, setting: &Setting<'_>, shelf: &mut Shelf) -> Result<(), ServiceFault> {
-    let Ok(loaded) = standard_start(alloc) else {
-        return Err(ServiceFault::Attend(AttendFault::Memory));
-    };
-    let (names, start) = loaded.into_parts();
-    let Ok(monitor) = Monitor::resume(alloc, start, setting.earlier) else {
-        return Err(ServiceFault::Recover(RecoverFault::Memory));
-    };
+/// Runs a service over files in memory, by these names and over this monitor.
+fn serve(
+    alloc: Global,
+    names: &Names,
+    setting: &Setting<'_>,
+    monitor: Monitor,
+    shelf: &mut Shelf,
+) -> Result<(), ServiceFault> {
     let mut reader = setting.script;
     let options = Options {
         protocol: Protocol {
@@ -54,9 +53,28 @@ fn run(alloc: Global, setting: &Setting<'_>, shelf: &mut Shelf) -> Result<(), Se
         names: false,
         torn: TornEnd::Refuse,
     };
-    let served = serve_durably(alloc, &names, options, monitor, &mut reader, shelf);
-    drop(names);
+    serve_durably(alloc, names, options, monitor, &mut reader, shelf)
+}
+
+/// Runs a service over files in memory.
+fn run(
+    rt: &impl Abort,
+    alloc: Global,
+    setting: &Setting<'_>,
+    shelf: &mut Shelf,
+) -> Result<(), ServiceFault> {
+    let loaded = ample_start(rt, alloc);
+    let monitor = resumed_monitor(rt, alloc, setting.earlier);
+    let served = serve(alloc, loaded.names(), setting, monitor, shelf);
+    drop(loaded);
     served
+}
+
+/// Asserts what the files of a service hold.
+fn assert_holds(rt: &impl Abort, shelf: &Shelf, wanted: &Wanted<'_>) {
+    sees_bytes(rt, &shelf.bytes, wanted.bytes);
+    sees_bytes(rt, shelf.begun.as_bytes(), wanted.begun.as_bytes());
+    sees_bytes(rt, &shelf.told, wanted.told);
 }
 
 /// Asserts what a service leaves.
@@ -64,12 +82,10 @@ fn assert_leaves(rt: &impl Abort, alloc: Global, setting: &Setting<'_>, wanted: 
     match Vec::from_slice(alloc, setting.found) {
         Ok(found) => {
             let mut shelf = Shelf::new(alloc, found);
-            let result = run(alloc, setting, &mut shelf);
-            assert_eq!(rt; shelf.bytes.as_slice(), wanted.bytes);
-            assert_eq!(rt; shelf.begun.as_str(), wanted.begun);
-            assert_eq!(rt; shelf.told.as_slice(), wanted.told);
+            let result = run(rt, alloc, setting, &mut shelf);
+            assert_holds(rt, &shelf, wanted);
             drop(shelf);
-            assert_eq!(rt; result, Ok(()));
+            sees_outcome(rt, result, Ok(()));
         }
         Err(_) => panic!(rt; "out of memory"),
     }

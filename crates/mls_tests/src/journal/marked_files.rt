@@ -1,10 +1,13 @@
 //! A service whose journal has marks and is cut into files.
+use super::marked::keeper;
 use super::{MemoryMarks, Shelf};
+use crate::seen::{sees, sees_bytes, sees_outcome};
+use crate::standard::{ample_monitor, ample_start};
 use mls_durable::{Asker, AttendFault, Options, Protocol, ServiceFault, TornEnd};
-use mls_marks::{Chain, Digest, Served, Time, Verifier, serve_marked};
+use mls_lines::Names;
+use mls_marks::{Chain, Digest, Served, Verifier, serve_marked};
 use mls_monitor::Monitor;
-use mls_start_file::standard_start;
-use std::alloc::{AllocError, Global};
+use std::alloc::Global;
 use std::process::Abort;
 
 /// Requests whose entries are of 21, 21, 25 and 21 bytes.
@@ -19,21 +22,15 @@ const MARKS: &[u8] =
 /// How many bytes the first of them has.
 const FIRST_MARK: usize = 95;
 
-/// Serves over files of so many bytes, with a keeper of which so many calls go well.
-fn run(
+/// Serves over files of so many bytes, by these names and over this monitor.
+fn serve(
     alloc: Global,
-    script: &[u8],
+    names: &Names,
+    monitor: Monitor,
     segment: u32,
     keeper: MemoryMarks,
-) -> Result<Served<Shelf, MemoryMarks>, AllocError> {
-    let Ok(loaded) = standard_start(alloc) else {
-        return Err(AllocError);
-    };
-    let (names, start) = loaded.into_parts();
-    let Ok(monitor) = Monitor::open(alloc, start) else {
-        return Err(AllocError);
-    };
-    let mut reader = script;
+) -> Served<Shelf, MemoryMarks> {
+    let mut reader = SCRIPT;
     let options = Options {
         protocol: Protocol {
             asker: Asker::Session(0),
@@ -45,18 +42,26 @@ fn run(
     };
     let shelf = Shelf::new(alloc, Vec::new(alloc));
     let chain = Chain::begin(Digest::zeros());
-    let served = serve_marked(
+    serve_marked(
         alloc,
-        &names,
+        names,
         options,
         monitor,
         &mut reader,
         shelf,
         keeper,
         chain,
-    );
-    drop(names);
-    Ok(served)
+    )
+}
+
+/// Serves over files of so many bytes, with a keeper of which so many calls go well.
+fn run(rt: &impl Abort, alloc: Global, segment: u32, good: usize) -> Served<Shelf, MemoryMarks> {
+    let loaded = ample_start(rt, alloc);
+    let monitor = ample_monitor(rt, alloc);
+    let keeper = keeper(rt, alloc, good);
+    let served = serve(alloc, loaded.names(), monitor, segment, keeper);
+    drop(loaded);
+    served
 }
 
 /// What a service leaves.
@@ -71,28 +76,18 @@ struct Wanted<'a> {
 
 /// Asserts what a service leaves.
 fn assert_served(rt: &impl Abort, served: &Served<Shelf, MemoryMarks>, wanted: &Wanted<'_>) {
-    assert_eq!(rt; served.outcome, wanted.outcome);
-    assert_eq!(rt; served.outside.begun.as_str(), wanted.begun);
-    assert_eq!(rt; served.outside.told.as_slice(), wanted.told);
-    assert_eq!(rt; served.keeper.lines.as_slice(), wanted.marks);
+    sees_outcome(rt, served.outcome, wanted.outcome);
+    sees_bytes(rt, served.outside.begun.as_bytes(), wanted.begun.as_bytes());
+    sees_bytes(rt, &served.outside.told, wanted.told);
+    sees_bytes(rt, &served.keeper.lines, wanted.marks);
     assert_eq!(rt; served.keeper.synced.as_slice(), wanted.synced);
 }
 
 /// Asserts what a service leaves over files of so many bytes, where so many calls of the keeper go well.
 fn assert_leaves(rt: &impl Abort, alloc: Global, segment: u32, good: usize, wanted: &Wanted<'_>) {
-    let Some(time) = Time::read(b"2026-11-27T11:12:26.736512Z") else {
-        panic!(rt; "a time");
-    };
-    let keeper = MemoryMarks {
-        lines: Vec::new(alloc),
-        synced: Vec::new(alloc),
-        time,
-        good,
-    };
-    match run(alloc, SCRIPT, segment, keeper) {
-        Ok(served) => assert_served(rt, &served, wanted),
-        Err(_) => panic!(rt; "out of memory"),
-    }
+    let served = run(rt, alloc, segment, good);
+    assert_served(rt, &served, wanted);
+    drop(served);
 }
 
 #[test]
@@ -127,8 +122,9 @@ fn the_marks_of_a_live_file_agree_with_it_from_its_first_on(rt: HostRuntime) {
     };
     let live = b"2 0 0 release read 1 yes\n3 0 0 get-read 1 yes\n";
     let mut verifier = Verifier::within(live, digest, 2, None);
-    assert_eq!(rt; verifier.take(behind), Ok(()));
-    assert_eq!(rt; verifier.end(), Ok(()));
-    assert_eq!(rt; verifier.verified().chain.entries, 4);
-    assert_eq!(rt; verifier.verified().chain.len, live.len());
+    sees(&rt, verifier.take(behind).is_ok(), "marks that agree");
+    sees(&rt, verifier.end().is_ok(), "a whole line");
+    let chain = verifier.verified().chain;
+    sees(&rt, chain.entries == 4, "how many entries");
+    sees(&rt, chain.len == live.len(), "how many bytes");
 }

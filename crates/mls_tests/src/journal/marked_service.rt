@@ -3,12 +3,16 @@ ghost use Rattle.std.specs.Prelude.{◌≡◌, ◌∷◌, [], ℕ, List, Some};
 ghost use Rattle.mls_durable.specs.History.{Found};
 ghost use Rattle.mls_tests.specs.Calls.{memory_history};
 
-use super::{Call, Memory, MemoryMarks};
+use super::calls::sees_calls;
+use super::marked::keeper;
+use super::{Memory, MemoryMarks};
+use crate::seen::{sees_bytes, sees_outcome};
+use crate::standard::{ample_monitor, ample_start};
 use mls_durable::{Asker, AttendFault, Options, Protocol, RecoverFault, ServiceFault, TornEnd};
-use mls_marks::{Chain, Digest, MarkFault, Served, Time, serve_marked};
+use mls_lines::Names;
+use mls_marks::{Chain, Digest, MarkFault, Served, serve_marked};
 use mls_monitor::Monitor;
-use mls_start_file::standard_start;
-use std::alloc::{AllocError, Global};
+use std::alloc::Global;
 use std::process::Abort;
 
 /// A request and a check.
@@ -40,41 +44,18 @@ struct Wanted<'a> {
     marks: &'a [u8],
 }
 
-/// A letter for a call.
-fn letter(call: &Call) -> u8 {
-    match call {
-        Call::Appended(_) => b'A',
-        Call::Synced => b'S',
-        Call::Told(_) => b'T',
-        _ => b'?',
-    }
-}
-
-/// The letters of calls.
-fn letters(alloc: Global, calls: &[Call]) -> Result<Vec<u8>, AllocError> {
-    let mut text = Vec::new(alloc);
-    for call in calls {
-        text.push(letter(call))?;
-    }
-    Ok(text)
-}
-
-/// Runs a service over an outside whose file was just opened.
-fn run(
+/// Runs a service over an outside whose file was just opened, by these names and over this monitor, which is new.
+fn serve(
     alloc: Global,
+    names: &Names,
     setting: &Setting<'_>,
+    monitor: Monitor,
     outside: Memory,
     keeper: MemoryMarks,
-) -> Result<Served<Memory, MemoryMarks>, AllocError>
-    requires { (bytes : List ℕ) × (memory_history outside ≡ Some (Found bytes ∷ [])) }
+) -> Served<Memory, MemoryMarks>
+    requires file { (bytes : List ℕ) × (memory_history outside ≡ Some (Found bytes ∷ [])) }
+    requires empty { monitor.entries ≡ [] }
 {
-    let Ok(loaded) = standard_start(alloc) else {
-        return Err(AllocError);
-    };
-    let (names, start) = loaded.into_parts();
-    let Ok(monitor) = Monitor::open(alloc, start) else {
-        return Err(AllocError);
-    };
     let mut reader = setting.script;
     let options = Options {
         protocol: Protocol {
@@ -85,18 +66,33 @@ fn run(
         names: false,
         torn: TornEnd::Refuse,
     };
-    let served = serve_marked(
+    serve_marked(
         alloc,
-        &names,
+        names,
         options,
         monitor,
         &mut reader,
         outside,
         keeper,
         setting.chain,
-    );
-    drop(names);
-    Ok(served)
+    )
+}
+
+/// Runs a service over an outside whose file was just opened.
+fn run(
+    rt: &impl Abort,
+    alloc: Global,
+    setting: &Setting<'_>,
+    outside: Memory,
+) -> Served<Memory, MemoryMarks>
+    requires { (bytes : List ℕ) × (memory_history outside ≡ Some (Found bytes ∷ [])) }
+{
+    let loaded = ample_start(rt, alloc);
+    let monitor = ample_monitor(rt, alloc);
+    let keeper = keeper(rt, alloc, setting.good);
+    let served = serve(alloc, loaded.names(), setting, monitor, outside, keeper);
+    drop(loaded);
+    served
 }
 
 /// Asserts what a service leaves.
@@ -106,33 +102,19 @@ fn assert_served(
     served: &Served<Memory, MemoryMarks>,
     wanted: &Wanted<'_>,
 ) {
-    assert_eq!(rt; served.outcome, wanted.outcome);
+    sees_outcome(rt, served.outcome, wanted.outcome);
     assert_eq!(rt; served.fault, wanted.fault);
-    assert_eq!(rt; served.keeper.lines.as_slice(), wanted.marks);
-    match letters(alloc, served.outside.calls()) {
-        Ok(text) => assert_eq!(rt; text.as_slice(), wanted.calls),
-        Err(_) => panic!(rt; "out of memory"),
-    }
+    sees_bytes(rt, &served.keeper.lines, wanted.marks);
+    sees_calls(rt, alloc, served.outside.calls(), wanted.calls);
 }
 
 /// Asserts what a service leaves over a setting.
 fn assert_leaves(rt: &impl Abort, alloc: Global, setting: &Setting<'_>, wanted: &Wanted<'_>) {
-    let Some(time) = Time::read(b"2026-11-27T11:12:26.736512Z") else {
-        panic!(rt; "a time");
-    };
     match Vec::from_slice(alloc, setting.found) {
         Ok(found) => {
-            let outside = Memory::new(alloc, found, 100);
-            let keeper = MemoryMarks {
-                lines: Vec::new(alloc),
-                synced: Vec::new(alloc),
-                time,
-                good: setting.good,
-            };
-            match run(alloc, setting, outside, keeper) {
-                Ok(served) => assert_served(rt, alloc, &served, wanted),
-                Err(_) => panic!(rt; "out of memory"),
-            }
+            let served = run(rt, alloc, setting, Memory::new(alloc, found, 100));
+            assert_served(rt, alloc, &served, wanted);
+            drop(served);
         }
         Err(_) => panic!(rt; "out of memory"),
     }

@@ -1,4 +1,5 @@
 //! Marks verified in pieces, and asked for. The digests are those of Python's hashlib.
+use crate::seen::sees;
 use mls_marks::{Digest, MarkFault, Marks, Time, Verifier};
 use std::process::Abort;
 
@@ -104,73 +105,100 @@ fn take_bytes(verifier: &mut Verifier<'_>, piece: &[u8]) {
     }
 }
 
+/// Takes the pieces of a row, whole or a byte at a time.
+fn take_row(verifier: &mut Verifier<'_>, row: &Row, whole: bool) {
+    for piece in row.pieces {
+        if whole {
+            let _ = verifier.take(piece);
+        } else {
+            take_bytes(verifier, piece);
+        }
+    }
+}
+
 /// Asserts what the marks of a row come to.
 fn assert_row(rt: &impl Abort, row: &Row, verifier: &Verifier<'_>) {
     assert_eq!(rt; verifier.end().err(), row.fault);
-    assert_eq!(rt; verifier.verified().marks, row.marks);
+    sees(rt, verifier.verified().marks == row.marks, "how many marks");
+}
+
+/// Asserts what the marks of each row come to, whose pieces are taken whole or a byte at a time.
+fn assert_rows(rt: &impl Abort, whole: bool) {
+    for row in &ROWS {
+        let mut verifier = Verifier::new(JOURNAL, Digest::zeros(), None);
+        take_row(&mut verifier, row, whole);
+        assert_row(rt, row, &verifier);
+        drop(verifier);
+    }
 }
 
 #[test]
 fn marks_are_verified_in_pieces(rt: HostRuntime) {
-    for row in &ROWS {
-        let mut verifier = Verifier::new(JOURNAL, Digest::zeros(), None);
-        for piece in row.pieces {
-            let _ = verifier.take(piece);
-        }
-        assert_row(&rt, row, &verifier);
-    }
+    assert_rows(&rt, true);
 }
 
 #[test]
 fn marks_are_verified_byte_by_byte(rt: HostRuntime) {
-    for row in &ROWS {
-        let mut verifier = Verifier::new(JOURNAL, Digest::zeros(), None);
-        for piece in row.pieces {
-            take_bytes(&mut verifier, piece);
-        }
-        assert_row(&rt, row, &verifier);
-    }
+    assert_rows(&rt, false);
+}
+
+/// The time of the first mark, and that of the second, which is earlier.
+const LATE: &[u8] = b"2026-11-27T11:12:26.736512Z";
+
+const EARLY: &[u8] = b"2026-11-27T11:12:25.000000Z";
+
+/// Asserts that a time is that of a text.
+fn sees_time(rt: &impl Abort, time: Option<Time>, text: &[u8]) {
+    assert_eq!(rt; time, Time::read(text));
 }
 
 /// Asserts what marks that agree say.
 fn assert_verified(rt: &impl Abort, verifier: &Verifier<'_>) {
     let verified = verifier.verified();
-    assert_eq!(rt; Some(verified.chain.digest), Digest::read(SECOND_DIGEST));
-    assert_eq!(rt; verified.chain.entries, 3);
-    assert_eq!(rt; verified.chain.len, JOURNAL.len());
-    assert_eq!(rt; verified.first, Time::read(b"2026-11-27T11:12:26.736512Z"));
-    assert_eq!(rt; verified.last, Time::read(b"2026-11-27T11:12:25.000000Z"));
-    assert!(rt; verified.is_found);
-    assert_eq!(rt; verified.len, 190);
+    let digest = Some(verified.chain.digest);
+    sees(rt, digest == Digest::read(SECOND_DIGEST), "the digest");
+    sees(rt, verified.chain.entries == 3, "how many entries");
+    sees(rt, verified.chain.len == JOURNAL.len(), "how many bytes");
+    sees_time(rt, verified.first, LATE);
+    sees_time(rt, verified.last, EARLY);
+    sees(rt, verified.is_found, "the first digest");
+    sees(rt, verified.len == 190, "how long the marks are");
+}
+
+/// Asserts which entries marks have since a time and until then.
+fn assert_around(rt: &impl Abort, marks: &Marks, text: &[u8]) {
+    let Some(time) = Time::read(text) else {
+        panic!(rt; "a time");
+    };
+    sees(rt, marks.since(&time) == Some(0), "since a time");
+    sees(rt, marks.until(&time) == Some(2), "until a time");
 }
 
 /// Asserts what is told of times.
-fn assert_times(rt: &impl Abort, marks: &Marks, early: &Time, late: &Time) {
-    assert_eq!(rt; marks.time_of(0), Some(*late));
-    assert_eq!(rt; marks.time_of(1), Some(*early));
-    assert_eq!(rt; marks.time_of(2), Some(*early));
-    assert_eq!(rt; marks.time_of(3), None);
-    assert_eq!(rt; marks.since(early), Some(0));
-    assert_eq!(rt; marks.since(late), Some(0));
-    assert_eq!(rt; marks.until(early), Some(2));
-    assert_eq!(rt; marks.until(late), Some(2));
+fn assert_times(rt: &impl Abort, marks: &Marks) {
+    sees_time(rt, marks.time_of(0), LATE);
+    sees_time(rt, marks.time_of(1), EARLY);
+    sees_time(rt, marks.time_of(2), EARLY);
+    sees(rt, marks.time_of(3).is_none(), "no time");
+    assert_around(rt, marks, EARLY);
+    assert_around(rt, marks, LATE);
+}
+
+/// Takes the pieces of the first row, and keeps their rows.
+fn take_first(rt: &impl Abort, verifier: &mut Verifier<'_>, marks: &mut Marks) {
+    for piece in ROWS[0].pieces {
+        let is_taken = verifier.take_rows(piece, marks).is_ok();
+        sees(rt, is_taken, "marks that agree");
+    }
 }
 
 #[test]
 fn marks_say_when_entries_were_made(rt: HostRuntime) {
-    let mut marks = Marks::new(rt.alloc());
     let mut verifier = Verifier::new(JOURNAL, Digest::zeros(), Digest::read(FIRST_DIGEST));
-    for piece in ROWS[0].pieces {
-        if verifier.take_rows(piece, &mut marks).is_err() {
-            panic!(rt; "marks that agree");
-        }
-    }
+    let mut marks = Marks::new(rt.alloc());
+    take_first(&rt, &mut verifier, &mut marks);
     assert_verified(&rt, &verifier);
-    match (
-        Time::read(b"2026-11-27T11:12:25.000000Z"),
-        Time::read(b"2026-11-27T11:12:26.736512Z"),
-    ) {
-        (Some(early), Some(late)) => assert_times(&rt, &marks, &early, &late),
-        _ => panic!(rt; "times"),
-    }
+    assert_times(&rt, &marks);
+    drop(marks);
+    drop(verifier);
 }

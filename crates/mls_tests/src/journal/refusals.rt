@@ -1,6 +1,6 @@
 //! Writing entries where each allocation fails in turn.
 use super::rows::{LONGEST, longest};
-use super::seen::sees;
+use crate::seen::sees;
 use mls_journal::write_entry;
 use refusing::Refusing;
 use std::alloc::{AllocError, Allocator};

@@ -3,13 +3,16 @@ ghost use Rattle.std.specs.Prelude.{◌≡◌, ◌∷◌, [], ℕ, List, Some};
 ghost use Rattle.mls_durable.specs.History.{Found};
 ghost use Rattle.mls_tests.specs.Calls.{memory_history};
 
+use super::calls::{sees_calls, sees_told};
 use super::{Call, Memory};
+use crate::seen::sees_outcome;
+use crate::standard::{ample_monitor, ample_start};
 use mls_durable::{
     Asker, AttendFault, Options, Protocol, RecoverFault, ServiceFault, TornEnd, serve_durably,
 };
+use mls_lines::Names;
 use mls_monitor::{Monitor, ReplayFault};
-use mls_start_file::standard_start;
-use std::alloc::{AllocError, Global};
+use std::alloc::Global;
 use std::process::Abort;
 
 /// A request and a check.
@@ -51,75 +54,46 @@ struct Wanted<'a> {
     told: &'a [u8],
 }
 
-/// A letter for a call: a small one where it failed.
-fn letter(call: &Call) -> u8 {
-    match call {
-        Call::Kept(_) => b'K',
-        Call::KeepFailed(_) => b'k',
-        Call::Cut(_) => b'C',
-        Call::CutFailed(_) => b'c',
-        Call::Appended(_) => b'A',
-        Call::AppendFailed(_) => b'a',
-        Call::Synced => b'S',
-        Call::SyncFailed => b's',
-        Call::Reported(_) => b'R',
-        Call::Told(_) => b'T',
-        Call::TellFailed(_) => b't',
-    }
-}
-
-/// The letters of calls.
-fn letters(alloc: Global, calls: &[Call]) -> Result<Vec<u8>, AllocError> {
-    let mut text = Vec::new(alloc);
-    for call in calls {
-        text.push(letter(call))?;
-    }
-    Ok(text)
-}
-
-/// What was told.
-fn told(alloc: Global, calls: &[Call]) -> Result<Vec<u8>, AllocError> {
-    let mut text = Vec::new(alloc);
-    for call in calls {
-        if let Call::Told(bytes) = call {
-            text.extend_from_slice(bytes)?;
-        }
-    }
-    Ok(text)
-}
-
-/// Runs a service over an outside whose file was just opened.
-fn run(alloc: Global, setting: &Setting<'_>, outside: &mut Memory) -> Result<(), ServiceFault>
-    requires { (bytes : List ℕ) × (memory_history outside.old ≡ Some (Found bytes ∷ [])) }
+/// Runs a service over an outside whose file was just opened, by these names and over this monitor, which is new.
+fn serve(
+    alloc: Global,
+    names: &Names,
+    setting: &Setting<'_>,
+    monitor: Monitor,
+    outside: &mut Memory,
+) -> Result<(), ServiceFault>
+    requires file { (bytes : List ℕ) × (memory_history outside.old ≡ Some (Found bytes ∷ [])) }
+    requires empty { monitor.entries ≡ [] }
 {
-    let Ok(loaded) = standard_start(alloc) else {
-        return Err(ServiceFault::Attend(AttendFault::Memory));
-    };
-    let (names, start) = loaded.into_parts();
-    let Ok(monitor) = Monitor::open(alloc, start) else {
-        return Err(ServiceFault::Recover(RecoverFault::Memory));
-    };
     let mut reader = setting.script;
     let options = Options {
         protocol: setting.protocol,
         names: false,
         torn: setting.torn,
     };
-    let served = serve_durably(alloc, &names, options, monitor, &mut reader, outside);
-    drop(names);
+    serve_durably(alloc, names, options, monitor, &mut reader, outside)
+}
+
+/// Runs a service over an outside whose file was just opened.
+fn run(
+    rt: &impl Abort,
+    alloc: Global,
+    setting: &Setting<'_>,
+    outside: &mut Memory,
+) -> Result<(), ServiceFault>
+    requires { (bytes : List ℕ) × (memory_history outside.old ≡ Some (Found bytes ∷ [])) }
+{
+    let loaded = ample_start(rt, alloc);
+    let monitor = ample_monitor(rt, alloc);
+    let served = serve(alloc, loaded.names(), setting, monitor, outside);
+    drop(loaded);
     served
 }
 
 /// Asserts what the calls of an outside were.
 fn assert_calls(rt: &impl Abort, alloc: Global, calls: &[Call], wanted: &Wanted<'_>) {
-    match letters(alloc, calls) {
-        Ok(text) => assert_eq!(rt; text.as_slice(), wanted.calls),
-        Err(_) => panic!(rt; "out of memory"),
-    }
-    match told(alloc, calls) {
-        Ok(text) => assert_eq!(rt; text.as_slice(), wanted.told),
-        Err(_) => panic!(rt; "out of memory"),
-    }
+    sees_calls(rt, alloc, calls, wanted.calls);
+    sees_told(rt, alloc, calls, wanted.told);
 }
 
 /// Asserts what a service leaves.
@@ -127,10 +101,10 @@ fn assert_leaves(rt: &impl Abort, alloc: Global, setting: &Setting<'_>, wanted: 
     match Vec::from_slice(alloc, setting.found) {
         Ok(found) => {
             let mut outside = Memory::new(alloc, found, setting.good);
-            let result = run(alloc, setting, &mut outside);
+            let result = run(rt, alloc, setting, &mut outside);
             assert_calls(rt, alloc, outside.calls(), wanted);
             drop(outside);
-            assert_eq!(rt; result, wanted.result);
+            sees_outcome(rt, result, wanted.result);
         }
         Err(_) => panic!(rt; "out of memory"),
     }

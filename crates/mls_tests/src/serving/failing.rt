@@ -2,6 +2,7 @@
 use super::lines::{SHORT, SHORT_ANSWERS, count_lines, first_lines};
 use super::streams::{Limits, Pieces, Sink};
 use super::{Left, Setting, WIDE, Wanted, leaves, run};
+use crate::seen::sees_at;
 use mls_lines::Names;
 use mls_scripts::ServeFault;
 use std::alloc::Global;
@@ -35,7 +36,7 @@ fn reader_fails(alloc: Global, names: &Names<Global>, count: usize, most: usize)
 pub fn reader_fails_in_turn(rt: &impl Abort, alloc: Global, names: &Names<Global>) {
     for count in 0..60 {
         for most in &[1, 65_536] {
-            assert!(rt; reader_fails(alloc, names, count, *most), "after {count}");
+            sees_at(rt, reader_fails(alloc, names, count, *most), count);
         }
     }
 }
@@ -74,6 +75,14 @@ fn narrow_takes(
     leaves(alloc, names, &setting, &wanted)
 }
 
+/// Whether bytes are the first so many of the short script's answers.
+fn is_front(room: usize, bytes: &[u8]) -> bool {
+    match SHORT_ANSWERS.get(..room) {
+        Some(front) => front == bytes,
+        None => false,
+    }
+}
+
 /// Whether such a writer takes just the answers that fit when it is buffered.
 fn buffered_takes(alloc: Global, names: &Names<Global>, room: usize) -> bool {
     let flushed = Cell::new(0);
@@ -92,7 +101,7 @@ fn buffered_takes(alloc: Global, names: &Names<Global>, room: usize) -> bool {
         calls: 0,
     };
     let left = run(alloc, names, &mut reader, &mut writer);
-    let is_written = SHORT_ANSWERS.get(..room) == Some(writer.get_ref().taken.as_slice());
+    let is_written = is_front(room, &writer.get_ref().taken);
     drop(writer);
     left == broken_off(room) && is_written
 }
@@ -100,10 +109,10 @@ fn buffered_takes(alloc: Global, names: &Names<Global>, room: usize) -> bool {
 /// Asserts what is left and taken where a writer fails, after each byte of the short script's answers.
 pub fn writer_fails_in_turn(rt: &impl Abort, alloc: Global, names: &Names<Global>) {
     for room in 0..13 {
-        assert!(rt; narrow_takes(alloc, names, room, None), "{room}");
         let interrupted = Some(ErrorKind::Interrupted);
-        assert!(rt; narrow_takes(alloc, names, room, interrupted), "{room}");
-        assert!(rt; buffered_takes(alloc, names, room), "{room}");
+        sees_at(rt, narrow_takes(alloc, names, room, None), room);
+        sees_at(rt, narrow_takes(alloc, names, room, interrupted), room);
+        sees_at(rt, buffered_takes(alloc, names, room), room);
     }
 }
 
@@ -136,9 +145,6 @@ pub fn stuck_writer_leaves_what_was_read(rt: &impl Abort, alloc: Global, names: 
             written,
             flushed: Some(0),
         };
-        assert!(rt;
-            leaves(alloc, names, &setting, &wanted),
-            "in pieces of {most}"
-        );
+        sees_at(rt, leaves(alloc, names, &setting, &wanted), *most);
     }
 }

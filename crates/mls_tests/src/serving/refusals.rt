@@ -2,6 +2,7 @@
 use super::lines::{after_lines, count_lines, first_lines};
 use super::streams::{Pieces, Sink};
 use super::{Left, WIDE, entries_of_seven};
+use crate::seen::{sees, sees_at};
 use crate::standard::standard_monitor;
 use mls_lines::Names;
 use mls_monitor::Monitor;
@@ -98,7 +99,9 @@ fn refuses(alloc: Global, names: &Names<Global>, number: u64) -> (Asked, bool) {
     let heap = Refusing::new(alloc, number);
     let flushed = Cell::new(0);
     let mut writer = Sink::new(alloc, WIDE, &flushed);
-    opens_and_serves(&heap, names, &mut writer)
+    let served = opens_and_serves(&heap, names, &mut writer);
+    drop(writer);
+    served
 }
 
 /// Refuses each allocation in turn, asserts that all is as it must be, and says how often one of serving was refused.
@@ -106,7 +109,7 @@ fn refusals_in_turn(rt: &impl Abort, alloc: Global, names: &Names<Global>) -> Op
     let mut refusals = 0u32;
     for number in 1..1000 {
         let (asked, is_right) = refuses(alloc, names, number);
-        assert!(rt; is_right, "at {number}");
+        sees_at(rt, is_right, number as usize);
         match asked {
             Asked::Opening => {}
             Asked::Serving => refusals = refusals.saturating_add(1),
@@ -118,5 +121,6 @@ fn refusals_in_turn(rt: &impl Abort, alloc: Global, names: &Names<Global>) -> Op
 
 /// Asserts that eight allocations of serving and more were refused.
 pub fn allocations_are_refused(rt: &impl Abort, alloc: Global, names: &Names<Global>) {
-    assert!(rt; refusals_in_turn(rt, alloc, names) >= Some(8));
+    let refusals = refusals_in_turn(rt, alloc, names);
+    sees(rt, refusals >= Some(8), "how many refusals");
 }

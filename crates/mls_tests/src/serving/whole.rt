@@ -2,6 +2,7 @@
 use super::lines::{SHORT, SHORT_ANSWERS};
 use super::streams::{Limits, Pieces, Sink, Waiting};
 use super::{Left, Setting, WIDE, Wanted, leaves, run};
+use crate::seen::{sees, sees_at};
 use mls_lines::Names;
 use mls_scripts::{SCRIPT_LIMIT, ServeFault};
 use std::alloc::{AllocError, Global};
@@ -84,7 +85,7 @@ pub fn scripts_are_answered(rt: &impl Abort, alloc: Global, names: &Names<Global
     for (script, answers, entries) in &SCRIPTS {
         for most in &[1, 7, 65_536] {
             let is_right = is_answered(alloc, names, script, *most, answers, *entries);
-            assert!(rt; is_right, "in pieces of {most}");
+            sees_at(rt, is_right, *most);
         }
     }
 }
@@ -109,7 +110,7 @@ pub fn is_answered_before_it_reads_on(rt: &impl Abort, alloc: Global, names: &Na
         result: Ok(3),
         entries: 3,
     };
-    assert!(rt; left == wanted && flushed.get() == 21);
+    sees(rt, left == wanted && flushed.get() == 21, "what is left");
 }
 
 /// A text, filled up with spaces to so many bytes, and what stands after it.
@@ -151,12 +152,12 @@ pub fn lines_are_bounded(rt: &impl Abort, alloc: Global, names: &Names<Global>) 
     let far_too_long: Case = (b"\nann check read plans\n", b"bad form\nnot held\n", 0);
     for (text, answers, entries) in &LINES {
         let within: Case = (b"", answers, *entries);
-        assert!(rt;
-            is_answered_at(alloc, names, text, 20_000, within),
-            "after {answers:?}"
-        );
-        assert!(rt; is_answered_at(alloc, names, text, 20_001, too_long));
-        assert!(rt; is_answered_at(alloc, names, text, 100_000, far_too_long));
+        let is_right = is_answered_at(alloc, names, text, 20_000, within);
+        sees_at(rt, is_right, 20_000);
+        let is_right = is_answered_at(alloc, names, text, 20_001, too_long);
+        sees_at(rt, is_right, 20_001);
+        let is_right = is_answered_at(alloc, names, text, 100_000, far_too_long);
+        sees_at(rt, is_right, 100_000);
     }
 }
 
@@ -180,18 +181,31 @@ fn newlines(alloc: Global, names: &Names<Global>, script: &[u8]) -> (Left, usize
     (left, reader.calls)
 }
 
+/// Asserts the result of a script of so many newlines.
+fn ends_so(
+    rt: &impl Abort,
+    alloc: Global,
+    names: &Names<Global>,
+    count: usize,
+    ended: Result<u64, ServeFault>,
+) {
+    match Vec::from_elem(alloc, b'\n', count) {
+        Ok(script) => {
+            let (left, calls) = newlines(alloc, names, &script);
+            drop(script);
+            let wanted = Left {
+                result: ended,
+                entries: 0,
+            };
+            sees_at(rt, left == wanted, count);
+            sees_at(rt, calls == SCRIPT_LIMIT + 1, count);
+        }
+        Err(_) => panic!(rt; "out of memory"),
+    }
+}
+
 /// Asserts the results of scripts of the most bytes and of one more.
 pub fn script_is_limited(rt: &impl Abort, alloc: Global, names: &Names<Global>) {
-    for (count, result) in [
-        (SCRIPT_LIMIT, Ok(0)),
-        (SCRIPT_LIMIT + 1, Err(ServeFault::TooLong)),
-    ] {
-        let Ok(script) = Vec::from_elem(alloc, b'\n', count) else {
-            panic!(rt; "out of memory")
-        };
-        let (left, calls) = newlines(alloc, names, &script);
-        drop(script);
-        assert!(rt; left == (Left { result, entries: 0 }), "of {count}");
-        assert!(rt; calls == SCRIPT_LIMIT + 1, "of {count}");
-    }
+    ends_so(rt, alloc, names, SCRIPT_LIMIT, Ok(0));
+    ends_so(rt, alloc, names, SCRIPT_LIMIT + 1, Err(ServeFault::TooLong));
 }

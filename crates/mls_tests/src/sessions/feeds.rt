@@ -2,6 +2,7 @@
 use super::asker::Manner;
 use super::runs::{Left, Plan, run};
 use mls_sessions::{MAX_SESSIONS, RunFaultKind};
+use std::process::Abort;
 use std::sync::atomic::AtomicBool;
 use std::test::Fail;
 
@@ -73,6 +74,11 @@ const PLANS: [(Plan, usize); 6] = [
     ),
 ];
 
+/// Asserts what a test sees of what a run left.
+fn sees_left(rt: &impl Abort, seen: bool, left: &Left) {
+    assert!(rt; seen, "{left:?}");
+}
+
 /// Whether a run had no fault, each of its feeds was told its own, and so many entries were made.
 fn is_done(left: &Left, plan: &Plan, entries: usize) -> bool {
     left.fault.is_none()
@@ -86,7 +92,7 @@ fn each_feed_is_told_its_own_entries_in_their_order(rt: HostRuntime) -> Result<(
     for (plan, entries) in &PLANS {
         let flag = AtomicBool::new(false);
         let left = run(&rt, rt.alloc(), plan, &flag)?;
-        assert!(rt; is_done(&left, plan, *entries), "{left:?}");
+        sees_left(&rt, is_done(&left, plan, *entries), &left);
     }
     Ok(())
 }
@@ -101,28 +107,26 @@ fn asks_ahead_are_answered_in_their_order_and_stand_together(rt: HostRuntime) ->
     };
     let flag = AtomicBool::new(false);
     let left = run(&rt, rt.alloc(), &plan, &flag)?;
-    assert!(rt; is_done(&left, &plan, 4096), "{left:?}");
+    sees_left(&rt, is_done(&left, &plan, 4096), &left);
     // each asked as far ahead as it may, and what was asked in one turn stands together
-    assert!(rt;
-        left.ahead as usize == AHEAD && left.stretches <= 4096 / AHEAD,
-        "{left:?}"
-    );
+    sees_left(&rt, left.ahead as usize == AHEAD, &left);
+    sees_left(&rt, left.stretches <= 4096 / AHEAD, &left);
     Ok(())
 }
 
 #[test]
 fn a_run_has_one_to_sixty_four_feeds(rt: HostRuntime) -> Result<(), Fail> {
-    for feeds in [0, MAX_SESSIONS as usize + 1] {
+    for feeds in &[0, MAX_SESSIONS as usize + 1] {
         let plan = Plan {
-            feeds,
+            feeds: *feeds,
             each: 1,
             last: 1,
             manner: Manner::Single,
         };
         let flag = AtomicBool::new(false);
         let left = run(&rt, rt.alloc(), &plan, &flag)?;
-        assert!(rt; left.fault == Some(RunFaultKind::BadCount), "{left:?}");
-        assert!(rt; left.feeds == feeds && left.entries == 0, "{left:?}");
+        sees_left(&rt, left.fault == Some(RunFaultKind::BadCount), &left);
+        sees_left(&rt, left.feeds == *feeds && left.entries == 0, &left);
     }
     Ok(())
 }

@@ -3,6 +3,7 @@ ghost use Rattle.std.specs.Prelude.{◌≡◌, ◌<◌, ◌∷◌, vec_len};
 ghost use Rattle.mls_sessions.specs.Sessions.{Ascending};
 
 use super::standard::release;
+use crate::seen::sees;
 use mls_monitor::Monitor;
 use mls_requests::Reply;
 use mls_sessions::{CloseFault, Office, Session};
@@ -58,7 +59,7 @@ fn close_whole(rt: &impl Abort, office: Office, sessions: Vec<Session>)
     let count = sessions.len();
     match office.close(sessions) {
         Ok(monitor) => {
-            assert!(rt; is_in_order(&monitor, count));
+            sees(rt, is_in_order(&monitor, count), "an entry of each");
             drop(monitor);
         }
         Err(_) => panic!(rt; "all are there"),
@@ -81,7 +82,8 @@ fn take_first(office: &Office, sessions: &mut Vec<Session>) -> Session
 fn close_after(rt: &impl Abort, office: Office, first: Session, mut rest: Vec<Session>)
     requires { Ascending office 0 (first ∷ rest.items) }
 {
-    assert!(rt; rest.insert(0, first).is_ok());
+    let is_back = rest.insert(0, first).is_ok();
+    sees(rt, is_back, "room for a session");
     close_whole(rt, office, rest);
 }
 
@@ -91,12 +93,13 @@ fn close_all(rt: &impl Abort, office: Office, mut sessions: Vec<Session>)
     requires { Ascending office 0 sessions.items }
 {
     let count = sessions.len();
-    assert!(rt; count > 0);
+    sees(rt, count > 0, "a session");
     let first = take_first(&office, &mut sessions);
     match office.close(sessions) {
         Ok(_) => panic!(rt; "a session is missing"),
         Err(CloseFault { office, sessions }) => {
-            assert!(rt; sessions.len() + 1 == count && are_after_first(&sessions));
+            sees(rt, sessions.len() + 1 == count, "how many");
+            sees(rt, are_after_first(&sessions), "their order");
             close_after(rt, office, first, sessions);
         }
     }
@@ -106,6 +109,7 @@ fn close_all(rt: &impl Abort, office: Office, mut sessions: Vec<Session>)
 pub fn share_one_journal<R: Wait + Abort>(rt: &R, office: Office, mut sessions: Vec<Session>)
     requires { Ascending office 0 sessions.items }
 {
-    assert!(rt; ask_each(rt, &office, &mut sessions));
+    let is_right = ask_each(rt, &office, &mut sessions);
+    sees(rt, is_right, "an entry for each");
     close_all(rt, office, sessions);
 }

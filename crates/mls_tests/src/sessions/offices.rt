@@ -5,7 +5,8 @@ use super::many::share_one_journal;
 use super::pair::{Deeds, over_two};
 use super::single::{Before, over_one};
 use super::standard::{ANN, PLANS, get, replayed_monitor};
-use crate::standard::standard_monitor;
+use crate::seen::sees;
+use crate::standard::ample_monitor;
 use mls_monitor::Monitor;
 use mls_sessions::{MAX_SESSIONS, Office, Session};
 use mls_tables::Mode;
@@ -40,17 +41,20 @@ fn open_over<R: Wait + Abort>(rt: &R, alloc: Global, monitor: Monitor, count: u1
     }
 }
 
-/// Opens an office over a standard monitor to which so many entries of other sessions were added.
-fn open<R: Wait + Abort>(rt: &R, alloc: Global, added: u32, count: u16, test: Test) {
-    let Ok(mut monitor) = standard_monitor(alloc) else {
-        panic!(rt; "out of memory")
-    };
-    for session in 0..added {
+/// Adds so many entries of other sessions.
+fn add(rt: &impl Abort, monitor: &mut Monitor, count: u32) {
+    for session in 0..count {
         let is_added = monitor
             .submit(session.wrapping_add(7), get(ANN, Mode::Read, PLANS))
             .is_ok();
-        assert!(rt; is_added);
+        sees(rt, is_added, "an entry");
     }
+}
+
+/// Opens an office over a standard monitor to which so many entries of other sessions were added.
+fn open<R: Wait + Abort>(rt: &R, alloc: Global, added: u32, count: u16, test: Test) {
+    let mut monitor = ample_monitor(rt, alloc);
+    add(rt, &mut monitor, added);
     open_over(rt, alloc, monitor, count, test);
 }
 

@@ -1,8 +1,10 @@
 //! One session of an office, and offices of no session and of too many.
 ghost use Rattle.mls_sessions.specs.Sessions.{IsOf, Ascending};
 
+use super::pair::knows;
 use super::standard::{ANN, PLANS, get};
-use crate::standard::standard_monitor;
+use crate::seen::sees;
+use crate::standard::ample_monitor;
 use mls_monitor::Monitor;
 use mls_requests::Reply;
 use mls_sessions::{MAX_SESSIONS, Office, OfficeFaultKind, Session};
@@ -28,11 +30,9 @@ fn is_bad_count(alloc: Global, monitor: Monitor, n: u16) -> bool {
 
 #[test]
 fn an_office_has_one_to_sixty_four_sessions(rt: HostRuntime) {
-    for n in [0, MAX_SESSIONS + 1, 65535] {
-        match standard_monitor(rt.alloc()) {
-            Ok(monitor) => assert!(rt; is_bad_count(rt.alloc(), monitor, n)),
-            Err(_) => panic!(rt; "out of memory"),
-        }
+    for n in &[0, MAX_SESSIONS + 1, 65535] {
+        let monitor = ample_monitor(&rt, rt.alloc());
+        sees(&rt, is_bad_count(rt.alloc(), monitor, *n), "a bad count");
     }
 }
 
@@ -71,12 +71,15 @@ fn tries(rt: &impl Abort, office: &Office, session: &mut Session, before: Before
     requires { IsOf office.now session.old }
 {
     let base = before.entries;
-    assert!(rt; (session.seen(), session.made()) == (base, 0));
-    assert!(rt; held(office, session, Mode::Read) == Some(before.is_held));
-    assert!(rt; is_granted(office, session, base));
-    assert!(rt; held(office, session, Mode::Read) == Some(true));
-    assert!(rt; held(office, session, Mode::Write) == Some(false));
-    assert!(rt; (session.seen(), session.made()) == (base.wrapping_add(1), 1));
+    sees(rt, knows(session, base, 0), "what it has seen");
+    let reads = held(office, session, Mode::Read);
+    sees(rt, reads == Some(before.is_held), "what is read");
+    sees(rt, is_granted(office, session, base), "an entry");
+    let reads = held(office, session, Mode::Read);
+    sees(rt, reads == Some(true), "what is read");
+    let writes = held(office, session, Mode::Write);
+    sees(rt, writes == Some(false), "what is written");
+    sees(rt, knows(session, base.wrapping_add(1), 1), "what it made");
 }
 
 /// The only session of an office tries.
@@ -84,7 +87,7 @@ fn tries(rt: &impl Abort, office: &Office, session: &mut Session, before: Before
 pub fn over_one(rt: &impl Abort, office: Office, mut sessions: Vec<Session>, before: Before)
     requires { Ascending office 0 sessions.items }
 {
-    assert!(rt; office.base() == before.entries);
+    sees(rt, office.base() == before.entries, "the base");
     let Some(mut only) = sessions.pop() else {
         panic!(rt; "one session")
     };

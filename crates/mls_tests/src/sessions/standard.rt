@@ -1,9 +1,8 @@
 //! What is asked of a monitor over the standard start, and one that replayed a journal.
-use crate::standard::without_names;
+use crate::standard::standard_alone;
 use mls_labels::{CatSet, Label, SecLabel};
 use mls_monitor::{Monitor, replay};
 use mls_requests::{Action, Entry, Reason, Reply, Request};
-use mls_start_file::standard_start;
 use mls_tables::{Mode, ObjectId, SubjectId};
 use std::alloc::{AllocError, Global};
 
@@ -54,8 +53,11 @@ fn six_entries() -> [Entry; 6] {
 
 /// A monitor that replayed that journal over the standard start.
 pub fn replayed_monitor(alloc: Global) -> Result<Monitor, AllocError> {
-    let Ok(loaded) = standard_start(alloc) else {
-        return Err(AllocError);
-    };
-    replay(alloc, without_names(loaded), &six_entries()).map_err(|_| AllocError)
+    match replay(alloc, standard_alone(alloc)?, &six_entries()) {
+        Ok(monitor) => Ok(monitor),
+        Err(refused) => {
+            drop(refused);
+            Err(AllocError)
+        }
+    }
 }
