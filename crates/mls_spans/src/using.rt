@@ -88,8 +88,8 @@ fn list_permissions(
     })
 }
 
-/// The answer that lists the permissions over entries from a state, by these names; where there are marks, with times. It
-/// is a positive one where each was granted.
+/// The answer that lists the permissions over entries from a state, by these names; where there are marks, with times.
+/// It is a positive one where each was granted.
 ///
 /// # Errors
 /// `AllocError` where an allocation failed.
@@ -109,8 +109,8 @@ pub fn list_usages(
     answer
 }
 
-/// The answer that lists the permissions of some states of a replay, by these names; where there are marks, with times. It
-/// is a positive one where each was granted, also where there is none. The replay looks at the first of the states.
+/// The answer that lists the permissions of some states of a replay, by these names; where there are marks, with times.
+/// It is a positive one where each was granted, also where there is none. The replay looks at the first of the states.
 ///
 /// # Errors
 /// `AllocError` where an allocation failed.

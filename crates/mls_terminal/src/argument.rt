@@ -33,7 +33,7 @@ pub(crate) enum Kind {
     Segment,
     /// An option with the number of an entry.
     Entry,
-    /// An option with the number of an entry that stands beside no option that tells the first or the last of some states.
+    /// An option with the number of an entry that stands beside none that tells the first or the last of some states.
     EntryOrRange,
     /// An option with a time, that stands beside the option `--marks` alone, and beside no other that tells states.
     TimeOrRange,

@@ -296,8 +296,8 @@ pub(crate) const USAGE_ARGUMENTS: [Argument; 8] = [
     Argument {
         name: "until",
         kind: Kind::Time,
-        help: "The permissions of the state after the last batch in MARKS whose time is TIME, or of an earlier one, and \
-            the entries up to it; TIME as for --since",
+        help: "The permissions of the state after the last batch in MARKS whose time is TIME, or of an earlier one, \
+            and the entries up to it; TIME as for --since",
     },
     AFTER,
     START,

@@ -151,8 +151,8 @@ fn mode(matches: &ArgMatches<'_>) -> Option<Mode> {
 /// What `held` was asked for.
 ///
 /// # Errors
-/// `Above` where the number of the first entry is above that of the last, else `Time` where a word is to be a time and is
-/// none.
+/// `Above` where the number of the first entry is above that of the last, else `Time` where a word is to be a time and
+/// is none.
 pub(crate) fn held_words<'a>(matches: &ArgMatches<'a>) -> Result<Job<'a>, WordsFault<'a>> {
     let states = states(matches)?;
     let when = when(matches)?;
@@ -175,8 +175,8 @@ pub(crate) fn held_words<'a>(matches: &ArgMatches<'a>) -> Result<Job<'a>, WordsF
 /// What `usage` was asked for.
 ///
 /// # Errors
-/// `Above` where the number of the first entry is above that of the last, else `Time` where a word is to be a time and is
-/// none.
+/// `Above` where the number of the first entry is above that of the last, else `Time` where a word is to be a time and
+/// is none.
 pub(crate) fn usage_words<'a>(matches: &ArgMatches<'a>) -> Result<Job<'a>, WordsFault<'a>> {
     let (from, to) = range(matches)?;
     let times = times(matches, None)?;

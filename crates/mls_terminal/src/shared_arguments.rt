@@ -55,5 +55,6 @@ pub(crate) const WHEN: Argument = Argument {
 pub(crate) const AFTER: Argument = Argument {
     name: "after",
     kind: Kind::Text("MAP"),
-    help: "The map that START was made with, by mls state --start --map: its objects are told by the names that they had",
+    help: "The map that START was made with, by mls state --start --map: its objects are told by the names that they \
+        had",
 };
