@@ -43,7 +43,8 @@ pub(crate) struct CommandRow {
     pub arguments: &'static [Argument],
 }
 
-/// The commands, in the order of help.
+/// The commands, in the order of help. One function names them, and lends them to others: each that names them is proved
+/// over all of these rows.
 pub(crate) const COMMANDS: [CommandRow; 18] = [
     CommandRow {
         command: CommandName::Check,

@@ -11,6 +11,16 @@ pub struct Held {
     is_holding: bool,
 }
 
+/// Whether a file is known to be no regular one.
+fn is_special(file: &File) -> bool {
+    let Ok(found) = file.metadata() else {
+        return false;
+    };
+    let is_special = !found.is_file();
+    drop(found);
+    is_special
+}
+
 impl Held {
     /// No files yet; `is_holding` says whether those that are read stay open.
     pub fn new(alloc: Global, is_holding: bool) -> Held {
@@ -23,7 +33,7 @@ impl Held {
     /// Takes the shared lock of a file, where files are held. What is no regular file can't be a journal's that is
     /// locked.
     pub(crate) fn lock(&self, file: &File) -> Result<(), FileFault> {
-        if !self.is_holding || file.metadata().is_ok_and(|found| !found.is_file()) {
+        if !self.is_holding || is_special(file) {
             return Ok(());
         }
         match file.try_lock_shared() {

@@ -3,6 +3,7 @@
 #![tactic(auto)]
 
 mod argument;
+mod command_line;
 mod command_rows;
 mod files;
 mod held;

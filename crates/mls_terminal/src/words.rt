@@ -1,8 +1,8 @@
 //! The words of a command line.
-use crate::argument::Argument;
+use crate::command_line::command;
 use crate::command_rows::{COMMANDS, CommandName, CommandRow};
 use crate::job::{Asked, Job, RunWords, ServeWords};
-use crate::json_words::{asked_lines, json_argument};
+use crate::json_words::asked_lines;
 use crate::output::{NOT_WRITTEN, refused};
 use crate::question::Question;
 use crate::question_words::{
@@ -11,74 +11,9 @@ use crate::question_words::{
 };
 use crate::verify_words::verify_words;
 use crate::words_fault::{WordsFault, words_refused};
-use clap::{ArgMatches, Command, Error};
+use clap::{ArgMatches, Error};
 use std::alloc::{AllocError, Global};
 use std::process::ExitCode;
-
-/// The version, and the toolchain's line.
-const VERSION: &str = "0.2.0, proved with rattle-kit-13b logic dac8208d650f15bf";
-
-const ABOUT: &str =
-    "A reference monitor for multilevel security. Without a command it answers the script on \
-     standard input over the standard start.";
-
-const EXAMPLE: &str = "Example: printf 'ann get-read plans\\n' | mls";
-
-/// A command with an argument, too.
-fn with_argument<'a>(
-    alloc: Global,
-    command: Command<'a>,
-    argument: &Argument,
-) -> Result<Command<'a>, AllocError> {
-    match argument.built(alloc) {
-        Ok(arg) => command.arg(arg),
-        Err(AllocError) => {
-            drop(command);
-            Err(AllocError)
-        }
-    }
-}
-
-/// The command of a row.
-fn command_of<'a>(alloc: Global, row: &CommandRow) -> Result<Command<'a>, AllocError> {
-    let mut command = Command::new(alloc, row.name)
-        .about(row.about)
-        .after_help(row.example);
-    for argument in row.arguments {
-        command = with_argument(alloc, command, argument)?;
-    }
-    match json_argument(row.command) {
-        Some(argument) => with_argument(alloc, command, &argument),
-        None => Ok(command),
-    }
-}
-
-/// A command line with the command of a row, too.
-fn with_row<'a>(
-    alloc: Global,
-    line: Command<'a>,
-    row: &CommandRow,
-) -> Result<Command<'a>, AllocError> {
-    match command_of(alloc, row) {
-        Ok(command) => line.subcommand(command),
-        Err(AllocError) => {
-            drop(line);
-            Err(AllocError)
-        }
-    }
-}
-
-/// The program's command line.
-fn command<'a>(alloc: Global) -> Result<Command<'a>, AllocError> {
-    let mut line = Command::new(alloc, "mls")
-        .version(VERSION)
-        .about(ABOUT)
-        .after_help(EXAMPLE);
-    for row in &COMMANDS {
-        line = with_row(alloc, line, row)?;
-    }
-    Ok(line)
-}
 
 /// What a run was asked for.
 fn run_words<'a>(alloc: Global, matches: &ArgMatches<'a>) -> Result<RunWords<'a>, AllocError> {
@@ -109,12 +44,12 @@ fn serve_words<'a>(matches: &ArgMatches<'a>) -> ServeWords<'a> {
     }
 }
 
-/// The command of a name.
+/// The command of a name among these rows.
 ///
 /// # Errors
 /// `Command` where there is none.
-fn command_named<'a>(name: &'a str) -> Result<CommandName, WordsFault<'a>> {
-    for row in &COMMANDS {
+fn command_named<'a>(rows: &[CommandRow], name: &'a str) -> Result<CommandName, WordsFault<'a>> {
+    for row in rows {
         if row.name == name {
             return Ok(row.command);
         }
@@ -176,22 +111,30 @@ fn command_job<'a>(
 }
 
 /// What was asked for: without a command, to answer standard input.
-fn asked<'a>(alloc: Global, matches: &ArgMatches<'a>) -> Result<Asked<'a>, WordsFault<'a>> {
+fn asked<'a>(
+    alloc: Global,
+    rows: &[CommandRow],
+    matches: &ArgMatches<'a>,
+) -> Result<Asked<'a>, WordsFault<'a>> {
     let Some((name, words)) = matches.subcommand() else {
         return Ok(Asked {
             job: Job::Answer,
             lines: None,
         });
     };
-    let command = command_named(name)?;
+    let command = command_named(rows, name)?;
     let lines = asked_lines(command, words);
     let job = command_job(alloc, command, words)?;
     Ok(Asked { job, lines })
 }
 
 /// The words of a command line by the arguments that they are.
-fn parse<'a>(alloc: Global, words: &'a [String]) -> Result<ArgMatches<'a>, Error> {
-    command(alloc)?.try_get_matches_from(words)
+fn parse<'a>(
+    alloc: Global,
+    rows: &[CommandRow],
+    words: &'a [String],
+) -> Result<ArgMatches<'a>, Error> {
+    command(alloc, rows)?.try_get_matches_from(words)
 }
 
 /// Prints help, the version, or why the words aren't understood.
@@ -206,20 +149,29 @@ fn explained(rt: &HostRuntime, error: Error) -> ExitCode {
     }
 }
 
+/// Reads the words of a command line by the commands of these rows.
+fn read_by<'a>(
+    rt: &HostRuntime,
+    rows: &[CommandRow],
+    words: &'a [String],
+) -> Result<Asked<'a>, ExitCode> {
+    let matches = match parse(rt.alloc(), rows, words) {
+        Ok(matches) => matches,
+        Err(error) => return Err(explained(rt, error)),
+    };
+    let asked = asked(rt.alloc(), rows, &matches);
+    drop(matches);
+    match asked {
+        Ok(asked) => Ok(asked),
+        Err(fault) => Err(words_refused(rt, fault)),
+    }
+}
+
 /// Reads the words of a command line, the program's name first.
 ///
 /// # Errors
 /// The status to end with where there is nothing to do: help or the version was asked for and is printed, or the words
 /// aren't understood and it is said why.
 pub fn read_words<'a>(rt: &HostRuntime, words: &'a [String]) -> Result<Asked<'a>, ExitCode> {
-    let matches = match parse(rt.alloc(), words) {
-        Ok(matches) => matches,
-        Err(error) => return Err(explained(rt, error)),
-    };
-    let asked = asked(rt.alloc(), &matches);
-    drop(matches);
-    match asked {
-        Ok(asked) => Ok(asked),
-        Err(fault) => Err(words_refused(rt, fault)),
-    }
+    read_by(rt, &COMMANDS, words)
 }
