@@ -23,6 +23,17 @@ fn held_files<'a>(words: &HeldWords<'a>) -> Source<'a> {
     }
 }
 
+/// The same files.
+fn same<'a>(source: &Source<'a>) -> Source<'a> {
+    Source {
+        start: source.start,
+        journal: source.journal,
+        at: source.at,
+        marks: source.marks,
+        when: source.when,
+    }
+}
+
 /// The files of a question; of a comparison that of the first start.
 pub(crate) fn source_of<'a>(question: &Question<'a>) -> Source<'a> {
     match question {
@@ -31,7 +42,7 @@ pub(crate) fn source_of<'a>(question: &Question<'a>) -> Source<'a> {
         | Question::Who { source, .. }
         | Question::Powers { source, .. }
         | Question::About { source, .. }
-        | Question::State { source, .. } => *source,
+        | Question::State { source, .. } => same(source),
         Question::WhoEver(words) => files(words.start, Some(words.journal), words.marks),
         Question::Lint { start } | Question::Lattice { start } => files(start, None, None),
         Question::Journal(words) => files(words.start, Some(words.journal), words.marks),
