@@ -1,6 +1,6 @@
 use Rattle.std.proofs.Common.{◌≡◌, ℕ, List, [], ◌∷◌, Option, Some, refl, sym, ◌∙◌, subst}
 use Rattle.mls_durable.specs.History.{Event, Found, IsAtRest}
-use Rattle.mls_marks.specs.Serving.{IsQuiet}
+use Rattle.mls_marked.specs.Serving.{IsQuiet}
 use Rattle.mls_tests.proofs.Pushed.{first_file}
 use Rattle.mls_tests.proofs.journal.marked_service.serve.Goals as goal
 
