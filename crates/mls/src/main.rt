@@ -10,15 +10,14 @@ use crate::commands::{
     RunJournal, check, discard, ended_run, lent, open_run_journal, read_scripts, replay,
     serve_standard, verify,
 };
-use mls_cli::{run_serial, run_threads};
+use mls_command_line::{Asked, Job, RunWords, read_words};
 use mls_files::start_file;
 use mls_questions::answer;
 use mls_replay::MAX_SCRIPTS;
+use mls_runs::{run_serial, run_threads};
 use mls_scripts::SCRIPT_LIMIT;
 use mls_service::serve_journal;
-use mls_terminal::{
-    Asked, Held, Job, NO_MEMORY, Progress, RunWords, file_refused, read_words, refused,
-};
+use mls_terminal::{Held, NO_MEMORY, Progress, file_refused, refused};
 use std::env;
 use std::env::FillError;
 use std::io::ErrorKind;

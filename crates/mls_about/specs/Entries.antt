@@ -4,8 +4,8 @@ use Rattle.std.specs.List.{flat_map}
 use Rattle.mls_explain_text.specs.Responses.{is_granted}
 use Rattle.mls_lines.specs.Names.{Names}
 use Rattle.mls_marks.specs.declared.row.Row.{Row}
-use Rattle.mls_reports.specs.Listings.{stamped_line}
-use Rattle.mls_reports.specs.Matching.{is_permitted}
+use Rattle.mls_listings.specs.Listings.{stamped_line}
+use Rattle.mls_listings.specs.Matching.{is_permitted}
 use Rattle.mls_requests.specs.declared.action.Action.{Action}
 use Rattle.mls_requests.specs.declared.action.Action.TheVariants.{Get, Release, Give, Rescind, Create, Delete}
 use Rattle.mls_requests.specs.declared.action.Action.TheVariants.{SubjectLevel, ObjectLevel}

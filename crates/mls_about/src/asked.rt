@@ -1,6 +1,6 @@
 //! How many entries a subject asked.
 ghost use Rattle.std.specs.Prelude.{◌≡◌, ◌++◌, length, filter, string_bytes, None, OnOk};
-ghost use Rattle.mls_reports.specs.Stamps.{rows_lent};
+ghost use Rattle.mls_listings.specs.Stamps.{rows_lent};
 ghost use Rattle.mls_about.specs.Counting.{is_asked as is_asked_by, is_denial, is_denied as is_denied_to, last_of};
 ghost use Rattle.mls_about.specs.Counting.{entries_words, last_text, counts_line, asked_line};
 

@@ -1,14 +1,14 @@
 //! The entries that changed an object.
 ghost use Rattle.std.specs.Prelude.{◌≡◌, ◌++◌, string_bytes, OnOk};
-ghost use Rattle.mls_reports.specs.Stamps.{rows_lent};
+ghost use Rattle.mls_listings.specs.Stamps.{rows_lent};
 ghost use Rattle.mls_rules.specs.Rules.{after};
 ghost use Rattle.mls_about.specs.Entries.{is_on as is_on_object, differ, changed_line, changed_lines};
 
 use mls_explain_text::is_granted;
 use mls_lines::Names;
+use mls_listings::{Stamp, push_line};
 use mls_marks::Marks;
 use mls_monitor::Start;
-use mls_reports::{Stamp, push_line};
 use mls_requests::{Action, Entry};
 use mls_rules::{State, apply};
 use mls_tables::ObjectId;

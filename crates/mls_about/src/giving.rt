@@ -1,11 +1,11 @@
 //! The entries that ask for permissions for a subject.
 ghost use Rattle.std.specs.Prelude.{◌≡◌, ◌++◌, string_bytes, OnOk};
-ghost use Rattle.mls_reports.specs.Stamps.{rows_lent};
+ghost use Rattle.mls_listings.specs.Stamps.{rows_lent};
 ghost use Rattle.mls_about.specs.Entries.{given_line, given_lines};
 
 use mls_lines::Names;
+use mls_listings::{Stamp, is_permitted, push_line};
 use mls_marks::Marks;
-use mls_reports::{Stamp, is_permitted, push_line};
 use mls_requests::Entry;
 use mls_tables::SubjectId;
 use std::alloc::AllocError;

@@ -1,7 +1,7 @@
 //! What is told of an object.
 ghost use Rattle.std.specs.Prelude.{◌≡◌, ◌++◌, None, string_bytes, option_map, IfOk, OnOk};
 ghost use Rattle.mls_explain_text.specs.Files.{modes_asked};
-ghost use Rattle.mls_reports.specs.Stamps.{rows_lent};
+ghost use Rattle.mls_listings.specs.Stamps.{rows_lent};
 ghost use Rattle.mls_snapshots.specs.States.{object_line};
 ghost use Rattle.mls_tables.specs.declared.limits.TheConstants.{MAX_SUBJECTS, MAX_OBJECTS};
 ghost use Rattle.mls_about.specs.Objects.{is_this, is_child, child_line, children_text, access_lines, column_text};

@@ -1,6 +1,6 @@
 //! What is told of a subject.
 ghost use Rattle.std.specs.Prelude.{◌≡◌, ◌++◌, codes, string_bytes, option_map, IfOk, OnOk};
-ghost use Rattle.mls_reports.specs.Stamps.{rows_lent};
+ghost use Rattle.mls_listings.specs.Stamps.{rows_lent};
 ghost use Rattle.mls_review.specs.Powers.{powers_text};
 ghost use Rattle.mls_snapshots.specs.States.{subject_line, row_text};
 ghost use Rattle.mls_tables.specs.declared.limits.TheConstants.{MAX_OBJECTS};

@@ -2,7 +2,7 @@
 ghost use Rattle.std.specs.Prelude.{◌≡◌, is_some, option_map, string_bytes, IfErr, IfOk};
 ghost use Rattle.mls_explain_text.specs.Files.{SeesThat, RefusesThat};
 ghost use Rattle.mls_replay.specs.Replays.{IsWithin, before};
-ghost use Rattle.mls_reports.specs.Stamps.{rows_lent};
+ghost use Rattle.mls_listings.specs.Stamps.{rows_lent};
 ghost use Rattle.mls_about.specs.About.{told_entries, TellsThing, TellsNamed, RefusesNamed};
 
 use crate::object::object_text;

@@ -9,11 +9,11 @@ use Rattle.mls_marks.specs.declared.row.Row.{Row}
 use Rattle.mls_replay.specs.Replays.{Replayed, ReplaysAt}
 use Rattle.mls_replay.specs.declared.command.CommandFault.TheVariants.{Memory}
 use Rattle.mls_replay.specs.declared.question_fault.QuestionFault.TheVariants.{Files}
-use Rattle.mls_reports.specs.Choosing.{IsChosen, Words}
-use Rattle.mls_reports.specs.Listings.{RefusesNames, RefusesListing}
-use Rattle.mls_reports.specs.Matching.{Choice, matches}
-use Rattle.mls_reports.specs.declared.list_fault.ListFault.{ListFault}
-use Rattle.mls_reports.specs.declared.list_fault.ListFault.TheVariants.{Question}
+use Rattle.mls_listings.specs.Choosing.{IsChosen, Words}
+use Rattle.mls_listings.specs.Listings.{RefusesNames, RefusesListing}
+use Rattle.mls_listings.specs.Matching.{Choice, matches}
+use Rattle.mls_listings.specs.declared.list_fault.ListFault.{ListFault}
+use Rattle.mls_listings.specs.declared.list_fault.ListFault.TheVariants.{Question}
 use Rattle.mls_requests.specs.declared.entry.Entry.{Entry}
 use Rattle.mls_state.specs.State.{State}
 use Rattle.mls_explain_text.specs.Entries.{TellsEach, IsExplained, ExplainsOver, ListsExplained, RefusesWriting, Writes}

@@ -9,10 +9,10 @@ use Rattle.mls_lines.specs.Names.{Names}
 use Rattle.mls_marks.specs.declared.row.Row.{Row}
 use Rattle.mls_monitor.specs.Journal.{fold}
 use Rattle.mls_replay.specs.Replays.{Replayed, ReplaysAt}
-use Rattle.mls_reports.specs.Choosing.{IsChosen, Words}
-use Rattle.mls_reports.specs.Listings.{stamped_line}
-use Rattle.mls_reports.specs.Matching.{Choice, matches}
-use Rattle.mls_reports.specs.declared.list_fault.ListFault.{ListFault}
+use Rattle.mls_listings.specs.Choosing.{IsChosen, Words}
+use Rattle.mls_listings.specs.Listings.{stamped_line}
+use Rattle.mls_listings.specs.Matching.{Choice, matches}
+use Rattle.mls_listings.specs.declared.list_fault.ListFault.{ListFault}
 use Rattle.mls_state.specs.State.{State}
 use Rattle.mls_explain_text.specs.Explained.{Explains}
 use Rattle.mls_explain_text.specs.Files.{ExplainsEntry, ExplainsEither, SeesThat}

@@ -1,7 +1,7 @@
 //! Why entries aren't written.
 
+use mls_listings::ListFault;
 use mls_replay::QuestionFault;
-use mls_reports::ListFault;
 use std::alloc::AllocError;
 
 /// Why the entries of a journal aren't written, each with why it has its reply.
@@ -15,7 +15,7 @@ pub enum WriteFault {
 
 impl From<QuestionFault> for WriteFault {
     ghost use Rattle.std.specs.Prelude.{◌≡◌};
-    ghost use Rattle.mls_reports.specs.declared.list_fault.ListFault.TheVariants.{Question};
+    ghost use Rattle.mls_listings.specs.declared.list_fault.ListFault.TheVariants.{Question};
     ghost use Rattle.mls_explain_text.specs.declared.write_fault.WriteFault.TheVariants.{List};
 
     ghost from_gives = { λ cause fault. fault ≡ List (Question cause) };
@@ -29,7 +29,7 @@ impl From<AllocError> for WriteFault {
     ghost use Rattle.std.specs.Prelude.{◌≡◌};
     ghost use Rattle.mls_replay.specs.declared.command.CommandFault.TheVariants.{Memory};
     ghost use Rattle.mls_replay.specs.declared.question_fault.QuestionFault.TheVariants.{Files};
-    ghost use Rattle.mls_reports.specs.declared.list_fault.ListFault.TheVariants.{Question};
+    ghost use Rattle.mls_listings.specs.declared.list_fault.ListFault.TheVariants.{Question};
     ghost use Rattle.mls_explain_text.specs.declared.write_fault.WriteFault.TheVariants.{List};
 
     ghost from_gives = { λ _ fault. fault ≡ List (Question (Files Memory)) };

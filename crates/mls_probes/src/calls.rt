@@ -1,11 +1,11 @@
 //! The calls, each of which prints what it answers, and returns whether it was out of memory.
 ghost use Rattle.std.specs.Prelude.{◌≤◌, length, All};
 
-use mls_cli::{
+use mls_monitor::Start;
+use mls_runs::{
     CommandFault, LoadFault, Loaded, Names, RunText, SCRIPT_LIMIT, check_start, read_start,
     replay_journal, run_serial, run_threads, standard_start, status, write_fault,
 };
-use mls_monitor::Start;
 use std::sync::Wait;
 use std::thread::Threads;
 use std::{io, str};

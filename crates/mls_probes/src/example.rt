@@ -1,7 +1,7 @@
 //! An example of the library in use: opens a monitor over the standard start, asks twice, and goes over the journal.
-use mls_cli::{Names, standard_start};
 use mls_monitor::{Entry, Monitor, Start};
 use mls_requests::{Action, Request};
+use mls_runs::{Names, standard_start};
 use mls_tables::{Mode, ObjectId, SubjectId};
 use std::alloc::AllocError;
 use std::io;

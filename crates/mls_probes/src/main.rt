@@ -20,8 +20,8 @@ mod verdict;
 
 use calls::{ask_check, ask_line, ask_read, ask_replay, ask_run, ask_standard, ask_threads};
 use example::show_example;
-use mls_cli::{CommandFault, LoadFault};
 use mls_monitor::StartFault;
+use mls_runs::{CommandFault, LoadFault};
 use offices::ask_office;
 use script::ask_script;
 use sessions::ask_sessions;

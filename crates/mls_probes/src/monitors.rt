@@ -1,9 +1,9 @@
 //! The monitors that calls are made over: their journal has two entries of another session.
 
-use mls_cli::read_start;
 use mls_labels::{CatSet, IntLabel, Label, SecLabel};
 use mls_monitor::Monitor;
 use mls_requests::{Action, Request};
+use mls_runs::read_start;
 use mls_tables::{Mode, ObjectId, SubjectId};
 use std::io;
 

@@ -3,9 +3,9 @@ ghost use Rattle.std.specs.Prelude.{◌≤◌, ◌<◌, length};
 
 use crate::calls::show_run;
 use crate::monitors::request;
-use mls_cli::{MAX_SCRIPTS, Names, ScriptFeed, done_text, make_feeds, read_start};
 use mls_monitor::{Entry, Monitor};
 use mls_requests::{Ask, Reply};
+use mls_runs::{MAX_SCRIPTS, Names, ScriptFeed, done_text, make_feeds, read_start};
 use mls_sessions::{Answer, Feed};
 use mls_tables::ObjectId;
 use std::io;

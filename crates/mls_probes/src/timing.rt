@@ -1,8 +1,8 @@
 //! Threads that take turns at one monitor, through the gate or under a mutex, to be timed.
 use crate::alone::by_calls;
 use crate::turns::{Job, make_feeds, take_turns};
-use mls_cli::standard_start;
 use mls_monitor::{Monitor, Start};
+use mls_runs::standard_start;
 use mls_sessions::run_sessions;
 use std::alloc::{AllocError, Global};
 use std::sync::{Mutex, Wait};

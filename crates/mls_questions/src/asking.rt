@@ -3,8 +3,9 @@ use crate::answering::ended;
 use crate::named::Named;
 use crate::one_state::mode_of;
 use crate::sources::Bytes;
+use mls_command_line::Source;
 use mls_explain_text::{ask as asked, explain as explained, who as listed};
-use mls_terminal::{Progress, Source};
+use mls_terminal::Progress;
 use std::process::ExitCode;
 
 /// The words that fault lines name.

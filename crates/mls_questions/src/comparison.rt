@@ -1,9 +1,10 @@
 //! The command that compares two starts.
 use crate::answering::answered;
 use crate::sources::{Bytes, read_source};
+use mls_command_line::Source;
 use mls_compare::{CompareFault, compare as compared};
 use mls_files::command_refused;
-use mls_terminal::{Progress, Source};
+use mls_terminal::Progress;
 use mls_wording::Answer;
 use std::process::ExitCode;
 

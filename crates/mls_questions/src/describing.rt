@@ -3,8 +3,9 @@ use crate::answering::{ended, thing_refused};
 use crate::named::Named;
 use crate::sources::Bytes;
 use mls_about::about as told;
+use mls_command_line::Source;
 use mls_replay::QuestionFault;
-use mls_terminal::{Progress, Source};
+use mls_terminal::Progress;
 use mls_wording::Answer;
 use std::process::ExitCode;
 

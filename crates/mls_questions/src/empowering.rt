@@ -2,9 +2,10 @@
 use crate::answering::ended;
 use crate::named::Named;
 use crate::sources::Bytes;
+use mls_command_line::Source;
 use mls_replay::{QuestionFault, Replay, named_subject, replay_at};
 use mls_review::{Asked, powers as listed};
-use mls_terminal::{Progress, Source};
+use mls_terminal::Progress;
 use mls_wording::Answer;
 use std::alloc::Global;
 use std::process::ExitCode;

@@ -3,10 +3,11 @@ use crate::answering::{answered, ended, name_refused, question_refused, status_o
 use crate::named::Named;
 use crate::renaming::journal_after;
 use crate::sources::Bytes;
+use mls_command_line::{JournalWords, Source};
 use mls_explain_text::{Sort, WriteFault, write_explained};
+use mls_listings::{Filter, ListFault, Words, list_journal, list_state};
 use mls_marks::Marks;
-use mls_reports::{Filter, ListFault, Words, list_journal, list_state};
-use mls_terminal::{JournalWords, NOT_WRITTEN, Progress, Source, refused};
+use mls_terminal::{NOT_WRITTEN, Progress, refused};
 use std::io::Write;
 use std::process::ExitCode;
 

@@ -2,20 +2,19 @@
 use crate::answering::{answered, bare_refused, ended, question_refused};
 use crate::named::Named;
 use crate::sources::Bytes;
+use mls_command_line::{HeldWords, JournalWords, UsageWords};
 use mls_compare::{MapFault, names_after};
 use mls_explain_text::explain_chosen;
 use mls_files::{judge_start, start_file};
 use mls_lines::Names;
+use mls_listings::{Choice, Filter, ListFault, Words, choose, list_chosen};
 use mls_marks::Marks;
 use mls_replay::{QuestionFault, Replay, replay_at};
-use mls_reports::{Choice, Filter, ListFault, Words, choose, list_chosen};
 use mls_spans::{
     Filter as SpanFilter, States, Words as SpanWords, choose as choose_spans, list_spans,
     list_usages_of,
 };
-use mls_terminal::{
-    HeldWords, JournalWords, NO_MEMORY, Progress, UsageWords, file_refused, refused,
-};
+use mls_terminal::{NO_MEMORY, Progress, file_refused, refused};
 use mls_wording::{Answer, push_number};
 use std::alloc::{AllocError, Global};
 use std::process::ExitCode;

@@ -3,9 +3,10 @@ use crate::answering::question_refused;
 use crate::named::Named;
 use crate::report_parts::add_sections;
 use crate::sources::Bytes;
+use mls_command_line::ReportWords;
 use mls_page::Page;
 use mls_replay::{QuestionFault, replay_at};
-use mls_terminal::{Progress, ReportWords, print};
+use mls_terminal::{Progress, print};
 use std::alloc::Global;
 use std::process::ExitCode;
 

@@ -1,10 +1,10 @@
 //! The sections of a page about a journal that was replayed, each of what another question prints.
 use mls_explain_text::{Answer, explain_chosen};
+use mls_listings::{Choice, Filter, ListFault, ReplyFront, summarize};
 use mls_marks::{Marks, Verified};
 use mls_monitor::Entry;
 use mls_page::{Found, Page, SHOWN};
 use mls_replay::{QuestionFault, Replay};
-use mls_reports::{Choice, Filter, ListFault, ReplyFront, summarize};
 use mls_requests::{Reply, ReplyWord};
 use mls_review::{Asked, lattice, powers};
 use mls_spans::{Choice as HeldChoice, Filter as HeldFilter, States, list_spans, list_usages};

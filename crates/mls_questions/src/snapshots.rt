@@ -2,12 +2,13 @@
 use crate::answering::question_refused;
 use crate::named::Named;
 use crate::sources::Bytes;
+use mls_command_line::Source;
 use mls_compare::{SnapshotFault, map_text, snapshot};
 use mls_lines::Names;
 use mls_replay::{CommandFault, QuestionFault, START_LIMIT, replay_at};
 use mls_rules::State;
 use mls_snapshots::{StateStart, StateStartFault, start_of_state as start_in};
-use mls_terminal::{FileFault, Progress, Source, file_refused, make_file, print, refused};
+use mls_terminal::{FileFault, Progress, file_refused, make_file, print, refused};
 use std::alloc::{AllocError, Global};
 use std::process::ExitCode;
 

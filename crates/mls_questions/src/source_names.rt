@@ -1,5 +1,5 @@
 //! Which files a question is about.
-use mls_terminal::{HeldWords, Question, Source};
+use mls_command_line::{HeldWords, Question, Source};
 
 /// The files of a start, and of a journal where there is one, with its marks where there are such.
 fn files<'a>(start: &'a str, journal: Option<&'a str>, marks: Option<&'a str>) -> Source<'a> {

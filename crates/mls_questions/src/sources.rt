@@ -1,7 +1,8 @@
 //! The files of a question, read.
+use mls_command_line::Source;
 use mls_files::{MarksInput, marks_refused, read_journal, read_marks, start_file};
 use mls_marks::{Marks, Verified};
-use mls_terminal::{FileFault, Progress, Source, file_refused};
+use mls_terminal::{FileFault, Progress, file_refused};
 use std::process::ExitCode;
 
 /// The bytes of a start file, and those of a journal where there is one, with its marks where these are read.

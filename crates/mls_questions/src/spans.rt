@@ -4,9 +4,10 @@ use crate::listing::earlier;
 use crate::named::Named;
 use crate::renaming::{held_after, usage_after};
 use crate::sources::Bytes;
+use mls_command_line::{EverWords, HeldWords, Times, UsageWords};
 use mls_marks::{Marks, Time};
 use mls_spans::{Filter, States, Words, list_ever, list_held, list_usage};
-use mls_terminal::{EverWords, HeldWords, Progress, Times, UsageWords};
+use mls_terminal::Progress;
 use std::process::ExitCode;
 
 /// The number of the first state at a time or behind it: the one before the first entry of the first batch whose time

@@ -2,7 +2,7 @@
 ghost use Rattle.std.specs.Prelude.{◌≡◌, ◌≢◌, ◌++◌, ◌==◌, length, string_bytes, IfOk, Some};
 ghost use Rattle.std.specs.Str.{IsUtf8};
 ghost use Rattle.json.specs.Json.{Json, document};
-ghost use Rattle.mls_places.specs.Repeated.{repeated_text};
+ghost use Rattle.mls_start_faults.specs.Repeated.{repeated_text};
 ghost use Rattle.mls_review.specs.LintText.{lint_text};
 ghost use Rattle.mls_start_file.specs.Says.{RefusesStart};
 
@@ -10,9 +10,9 @@ use crate::answering::ended;
 use crate::named::Named;
 use crate::sources::Bytes;
 use mls_files::{command_refused, judge_start};
-use mls_places::{places, repeated_members};
 use mls_replay::{CommandFault, QuestionFault};
 use mls_review::{lattice as drawn, lint as linted};
+use mls_start_faults::{places, repeated_members};
 use mls_start_file::{LoadFault, Loaded, read_start};
 use mls_terminal::{NO_MEMORY, Progress, refused};
 use mls_wording::Answer;

@@ -1,10 +1,11 @@
 //! The lines that tell why a service ended, or what it did with a torn end, and the statuses.
+use mls_command_line::ServeWords;
 use mls_durable::{AttendFault, RecoverFault, ServiceFault};
 use mls_files::{
     CallFault, FileCall, OpenFault, command_refused, list_beside, list_files, tell_call, tell_end,
 };
 use mls_replay::CommandFault;
-use mls_terminal::{NO_MEMORY, NOT_WRITTEN, ServeWords, refused};
+use mls_terminal::{NO_MEMORY, NOT_WRITTEN, refused};
 use std::fs;
 use std::process::ExitCode;
 

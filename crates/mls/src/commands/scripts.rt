@@ -2,10 +2,11 @@
 ghost use Rattle.std.specs.Prelude.{◌≡◌, ◌≤◌, length, vec_len, All, IfOk};
 
 use crate::commands::run_journal::RunJournal;
+use mls_command_line::RunWords;
 use mls_files::command_refused;
 use mls_replay::{CommandFault, RunText};
 use mls_scripts::SCRIPT_LIMIT;
-use mls_terminal::{FileFault, Held, Input, Progress, RunWords, file_refused, print};
+use mls_terminal::{FileFault, Held, Input, Progress, file_refused, print};
 use std::alloc::{AllocError, Global};
 use std::process::ExitCode;
 

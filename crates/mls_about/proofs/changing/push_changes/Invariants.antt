@@ -1,5 +1,5 @@
 use Rattle.std.proofs.Common.{◌≡◌, ◌++◌, drop, string_bytes}
-use Rattle.mls_reports.specs.Stamps.{rows_lent}
+use Rattle.mls_listings.specs.Stamps.{rows_lent}
 use Rattle.mls_about.specs.Entries.{changed_lines}
 use Rattle.mls_about.proofs.changing.push_changes.Given as goal
 

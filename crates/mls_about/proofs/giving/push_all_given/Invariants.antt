@@ -1,5 +1,5 @@
 use Rattle.std.proofs.Common.{◌≡◌, ◌++◌, take, string_bytes}
-use Rattle.mls_reports.specs.Stamps.{rows_lent}
+use Rattle.mls_listings.specs.Stamps.{rows_lent}
 use Rattle.mls_about.specs.Entries.{given_lines}
 use Rattle.mls_about.proofs.giving.push_all_given.Given as goal
 

@@ -2,7 +2,7 @@ use Rattle.std.proofs.Common.{subst, string_bytes}
 use Rattle.std.specs.Prelude.{option_map, IfOk}
 use Rattle.mls_explain_text.proofs.Laws.{seen_ok, seen_err}
 use Rattle.mls_explain_text.specs.Files.{SeesThat}
-use Rattle.mls_reports.specs.Stamps.{rows_lent}
+use Rattle.mls_listings.specs.Stamps.{rows_lent}
 use Rattle.mls_about.specs.About.{TellsNamed, RefusesNamed}
 use Rattle.mls_about.proofs.telling.about.Goals as goal
 

@@ -1,0 +1,24 @@
+//! The words of the command line, and what they ask for.
+#![tactic(auto)]
+
+mod argument;
+mod command_line;
+mod command_rows;
+mod job;
+mod json_words;
+mod question;
+mod question_arguments;
+mod question_words;
+mod run_arguments;
+mod shared_arguments;
+mod times;
+mod verify_words;
+mod words;
+mod words_fault;
+
+pub use job::{Asked, Job, RunWords, ServeWords, VerifyWords};
+pub use question::{
+    EverWords, HeldWords, JournalWords, Question, ReportWords, Source, Times, UsageWords,
+};
+pub use times::now;
+pub use words::read_words;

@@ -1,0 +1,173 @@
+//! What the commands are asked for that answer questions about start files and journals.
+use mls_listings::{Form, Words};
+use mls_marks::Time;
+use mls_spans::{States, Words as HeldFilter};
+use mls_tables::Mode;
+
+/// The files of a question about a state: that of a start, or the one that a journal leads to.
+#[derive(Clone, Copy)]
+pub struct Source<'a> {
+    pub start: &'a str,
+    /// The file of a journal of the start, where one is replayed.
+    pub journal: Option<&'a str>,
+    /// The number of the entry before which the state is looked at; without it, after the last.
+    pub at: Option<u64>,
+    /// The file of the journal's marks, where there is one.
+    pub marks: Option<&'a str>,
+    /// The time of the last batch after which the state is looked at, in place of a number.
+    pub when: Option<Time>,
+}
+
+/// What `journal` is asked for.
+#[derive(Clone, Copy)]
+pub struct JournalWords<'a> {
+    pub start: &'a str,
+    pub journal: &'a str,
+    pub filter: Words<'a>,
+    pub form: Form,
+    /// Whether each entry is explained, which is listed in lines.
+    pub is_explained: bool,
+    /// The file of the journal's marks, where there is one.
+    pub marks: Option<&'a str>,
+    /// The time of the first batch of which entries are asked for.
+    pub since: Option<Time>,
+    /// The time of the last batch of which entries are asked for.
+    pub until: Option<Time>,
+    /// The file of the map that the start was made with, where objects are told by the names that it has.
+    pub after: Option<&'a str>,
+}
+
+/// The times of marks by which states of a journal are asked about, beside the numbers of entries.
+#[derive(Clone, Copy)]
+pub struct Times {
+    /// The time from which on states are asked about.
+    pub since: Option<Time>,
+    /// The time of the last batch after which one is.
+    pub until: Option<Time>,
+    /// The time of the last batch after which the only state is that is asked about.
+    pub when: Option<Time>,
+}
+
+/// What `held` is asked for.
+#[derive(Clone, Copy)]
+pub struct HeldWords<'a> {
+    pub start: &'a str,
+    pub journal: &'a str,
+    /// The file of the journal's marks, where there is one.
+    pub marks: Option<&'a str>,
+    /// Which spans are asked for: of which accesses, and by number of which states.
+    pub filter: HeldFilter<'a>,
+    /// Of which states by time.
+    pub times: Times,
+    /// The file of the map that the start was made with, where objects are told by the names that it has.
+    pub after: Option<&'a str>,
+}
+
+/// What `who --ever` is asked for.
+#[derive(Clone, Copy)]
+pub struct EverWords<'a> {
+    pub start: &'a str,
+    pub journal: &'a str,
+    /// The file of the journal's marks, where there is one.
+    pub marks: Option<&'a str>,
+    pub object: &'a str,
+    pub mode: Option<Mode>,
+    /// The states that are asked about by number.
+    pub states: States,
+    /// Those that are asked about by time.
+    pub times: Times,
+}
+
+/// What `usage` is asked for.
+#[derive(Clone, Copy)]
+pub struct UsageWords<'a> {
+    pub start: &'a str,
+    pub journal: &'a str,
+    /// The file of the journal's marks, where there is one.
+    pub marks: Option<&'a str>,
+    /// The states whose permissions are asked for by number.
+    pub states: States,
+    /// Those whose permissions are asked for by time.
+    pub times: Times,
+    /// The file of the map that the start was made with, where objects are told by the names that it has.
+    pub after: Option<&'a str>,
+}
+
+/// What `report` is asked for.
+#[derive(Clone, Copy)]
+pub struct ReportWords<'a> {
+    pub start: &'a str,
+    pub journal: &'a str,
+    /// The file of the journal's marks, where there is one.
+    pub marks: Option<&'a str>,
+}
+
+/// A question about start files or journals.
+#[derive(Clone, Copy)]
+pub enum Question<'a> {
+    /// What a line would be answered.
+    Ask {
+        source: Source<'a>,
+        line: &'a str,
+    },
+    /// Why a line, or an entry of the journal, is answered as it is.
+    Explain {
+        source: Source<'a>,
+        line: Option<&'a str>,
+    },
+    /// Who may get an object, in all modes or in this one.
+    Who {
+        source: Source<'a>,
+        object: &'a str,
+        mode: Option<&'a str>,
+    },
+    /// Who could ever get an object over a journal.
+    WhoEver(EverWords<'a>),
+    /// What subjects may change.
+    Powers {
+        source: Source<'a>,
+        /// The subject that is asked for; without it, all.
+        subject: Option<&'a str>,
+        /// Whether only labels of objects are asked for that don't dominate the present ones.
+        downgrades: bool,
+    },
+    /// All that there is to tell of a subject or of an object.
+    About {
+        source: Source<'a>,
+        /// The word that names it.
+        name: &'a str,
+        /// Whether it is to name an object.
+        is_object: bool,
+    },
+    /// What is wrong with a start file, or suspicious in it.
+    Lint {
+        start: &'a str,
+    },
+    /// The labels of a start and their order.
+    Lattice {
+        start: &'a str,
+    },
+    /// Entries of a journal.
+    Journal(JournalWords<'a>),
+    /// The state that a journal leads to.
+    State {
+        source: Source<'a>,
+        /// Whether it is written as a start file.
+        is_start: bool,
+        /// The file that is then made, which tells the old numbers of its objects, where one is.
+        map: Option<&'a str>,
+    },
+    /// Who held what over a journal.
+    Held(HeldWords<'a>),
+    /// How the permissions over a journal were used.
+    Usage(UsageWords<'a>),
+    /// How a second start differs from a first one, or from its journal's replies.
+    Compare {
+        first: &'a str,
+        second: &'a str,
+        /// The file of a journal of the first start, where its requests are asked of both.
+        journal: Option<&'a str>,
+    },
+    /// A page about a journal.
+    Report(ReportWords<'a>),
+}
