@@ -13,20 +13,23 @@ import time
 from outside import EXAMPLES, IS_PROVED, PROGRAM, SECONDS, TOP, Started, needs_proof, put, ran, same, shown
 
 SECONDS_OF_A_TRIAL = 900
+VERSION = b"mls 0.2.0, a checked trial, not proved\n"
 SECONDS_OF_NOTHING = 30
 FOUR = b"ann get-read plans\nbob get-read memo\nann release read plans\nann check read plans\n"
 ANSWERS = b"yes\nno star\nyes\nnot held\n"
 TOLD = b"mls: a checked trial of the program runs, not a proved one: bin/prove proves it\n"
-MAKING = b"mls: making a checked trial of the program, once: two or three minutes\n"
+MAKING = b"mls: making a checked trial of the program, once: two minutes\n"
+MAKING_FIRST = b"mls: making a checked trial, once: an answer in half a minute, all other commands in two\n"
 # What plays rt: it notes each try, and compiles the program that is named into a folder below TMPDIR, where it runs it.
+# It knows no folder of the toolchain, so nothing is compiled without it.
 PLAYED = """#!/bin/sh
-echo "$*" >>tries
+[ "$1" != doc ] || exit 1
+echo "$*" >>%s/tries
 %s
 mkdir -p "$TMPDIR/rt-try/native"
 cp %s "$TMPDIR/rt-try/native/program"
-while [ "$1" != -- ]; do shift; done
-shift
-exec "$TMPDIR/rt-try/native/program" "$@"
+for it; do last=$it; done
+exec "$TMPDIR/rt-try/native/program" check "$last"
 """
 
 
@@ -42,13 +45,13 @@ class Copy:
     def plays(self, does="", program=PROGRAM):
         """Has rt played from now on: it does something before it compiles that program."""
         os.makedirs(f"{self.top}/played", exist_ok=True)
-        put(f"{self.top}/played/rt", (PLAYED % (does, program)).encode())
+        put(f"{self.top}/played/rt", (PLAYED % (self.top, does, program)).encode())
         os.chmod(f"{self.top}/played/rt", 0o755)
         self.env["PATH"] = f"{self.top}/played:{os.environ['PATH']}"
 
     def tries(self):
         """How often rt was asked for a trial."""
-        name = f"{self.top}/crates/mls/tries"
+        name = f"{self.top}/tries"
         return open(name, encoding="utf-8").read().count("\n") if os.path.exists(name) else 0
 
     def start(self, *words, **how):
@@ -78,7 +81,7 @@ def with_a_trial(name):
     """A copy with a trial: the one that this checkout keeps, or else one that is made here."""
     copy = Copy(name)
     if IS_PROVED and not os.path.isdir("made"):
-        same(copy.ran(seconds=SECONDS_OF_A_TRIAL), (0, ANSWERS, MAKING + TOLD))
+        same(copy.ran("--version", seconds=SECONDS_OF_A_TRIAL), (0, VERSION, MAKING + TOLD))
         shutil.copytree(f"{copy.out}/trial", "made")
     else:
         shutil.copytree("made" if IS_PROVED else f"{TOP}/crates/mls/out/trial", f"{copy.out}/trial")
@@ -139,39 +142,85 @@ def service_that_is_killed():
     same(copy.ran("serve", "--recover", *words), (0, b"ready 1\n" + ANSWERS, b""))
 
 
+def told_of(program):
+    """The line of a program's version."""
+    return subprocess.run([program, "--version"], check=True, stdout=subprocess.PIPE).stdout
+
+
 def two_first_runs_at_once():
     """They make the trial once; each says that it is one, and answers."""
     copy = Copy("race")
     copy.plays("sleep 2")
+    first, second = copy.start("--version"), copy.start("--version")
+    for run in (first, second):
+        output, error = run.communicate(timeout=SECONDS)
+        same((run.returncode, output, error), (0, told_of(PROGRAM), MAKING + TOLD))
+    same(copy.tries(), 1)
+    same((copy.ran(), copy.tries()), ((0, ANSWERS, b""), 1))
+
+
+def until(deed):
+    """Waits until something holds."""
+    ends = time.monotonic() + SECONDS_OF_A_TRIAL
+    while not deed() and time.monotonic() < ends:
+        time.sleep(0.1)
+    assert deed(), "it doesn't hold"
+
+
+def first_answer():
+    """Without words a program that answers just that is made, and the whole one behind it, each once; after that the
+    whole one answers. Two such runs at once make each once, too."""
+    copy = Copy("first")
+    copy.plays("sleep 2")
     first, second = copy.start(), copy.start()
     for run in (first, second):
         output, error = run.communicate(FOUR, timeout=SECONDS)
-        same((run.returncode, output, error), (0, ANSWERS, MAKING + TOLD))
-    same(copy.tries(), 1)
-    same((copy.ran(), copy.tries()), ((0, ANSWERS, b""), 1))
+        same((run.returncode, output, error), (0, ANSWERS, MAKING_FIRST + TOLD))
+    until(lambda: os.path.exists(f"{copy.out}/trial/sources"))
+    same((copy.ran("--version"), copy.tries()), ((0, told_of(PROGRAM), b""), 2))
+
+
+@needs_proof
+def first_program():
+    """What the toolchain makes first answers scripts over the standard start as the whole program does."""
+    copy = Copy("answers")
+    done = subprocess.run([f"{copy.top}/bin/trial", "first"], capture_output=True, timeout=SECONDS_OF_A_TRIAL)
+    same((done.returncode, done.stdout, done.stderr), (0, b"", b""))
+    scripts = [FOUR, b"", b"\n\xff\nann get-read\n", b"a" * 600 + b"\n", FOUR * 40 + b"ann get-read plans"]
+    scripts += [put_together(it) for it in sorted(os.listdir(EXAMPLES)) if it.endswith(".script")]
+    for script in scripts:
+        first, whole = (subprocess.run([it], input=script, capture_output=True, timeout=SECONDS)
+                        for it in (f"{copy.out}/first/mls", PROGRAM))
+        same((first.returncode, first.stdout, first.stderr), (whole.returncode, whole.stdout, whole.stderr))
+
+
+def put_together(name):
+    """The bytes of a file of the examples."""
+    with open(os.path.join(EXAMPLES, name), "rb") as file:
+        return file.read()
 
 
 def source_that_changes():
     """It ends the use of a trial, and of a proved program; and a trial isn't kept of sources that changed while it was
     made."""
-    copy = Copy("changed")
+    copy, told = Copy("changed"), told_of(PROGRAM)
     copy.plays()
     copy.env["MLS_TRIAL"] = "quiet"
-    same((copy.ran(), copy.ran(), copy.tries()), ((0, ANSWERS, b""), (0, ANSWERS, b""), 1))
+    same((copy.ran("--version"), copy.ran(), copy.tries()), ((0, told, b""), (0, ANSWERS, b""), 1))
     copy.change()
-    same((copy.ran(), copy.tries()), ((0, ANSWERS, b""), 2))
+    same((copy.ran("--version"), copy.tries()), ((0, told, b""), 2))
     copy.built("keep", "proved", PROGRAM, copy.built("sum"))
     same((copy.ran("--proved"), copy.ran(), copy.tries()), ((0, ANSWERS, b""), (0, ANSWERS, b""), 2))
     copy.change()
     same(copy.ran("--proved")[:2], (126, b""))
-    same((copy.ran(), copy.tries()), ((0, ANSWERS, b""), 3))
+    same((copy.ran("--version"), copy.tries()), ((0, told, b""), 3))
     copy.change()
-    copy.plays("echo >>src/main.rt")
-    status, output, error = copy.ran()
+    copy.plays(f"echo >>{copy.top}/crates/mls/src/main.rt")
+    status, output, error = copy.ran("--version")
     same((status, output), (126, b""))
     assert b"a source changed while the program was built" in error, shown(error)
     copy.plays()
-    same((copy.ran(), copy.tries()), ((0, ANSWERS, b""), 5))
+    same((copy.ran("--version"), copy.tries()), ((0, told, b""), 5))
 
 
 def proved_program_alone():
@@ -194,35 +243,39 @@ def toolchain_that_fails():
             ("echo it was killed; kill -9 $$", b"it was killed\n"), ("exit 0", b"")]
     for does, told in rows:
         copy.plays(does)
-        status, output, error = copy.ran()
+        status, output, error = copy.ran("--version")
         same((does, status, output), (does, 126, b""))
         assert told in error and error.endswith(b"mls: no trial of the program was made\n"), shown(error)
     copy.plays(program="/no/such/program")
-    same(copy.ran()[:2], (126, b""))
+    same(copy.ran("--version")[:2], (126, b""))
     copy.plays()
-    same(copy.ran(), (0, ANSWERS, MAKING + TOLD))
+    same(copy.ran("--version"), (0, told_of(PROGRAM), MAKING + TOLD))
 
 
 def trial_that_is_interrupted():
     """Where its making is interrupted, nothing of it goes on and nothing is left; a later run makes it."""
     copy = Copy("interrupted")
-    os.mkdir("temporary")
-    copy.env["TMPDIR"] = os.path.abspath("temporary")
     for number in (signal.SIGINT, signal.SIGTERM):
-        copy.plays('exec sleep 1000')
+        copy.plays(f"echo $$ >{copy.top}/number; exec sleep 1000")
         before = copy.tries()
-        with copy.start() as run:
-            ends = time.monotonic() + SECONDS
-            while copy.tries() == before and time.monotonic() < ends:
-                time.sleep(0.1)
+        with copy.start("--version") as run:
+            until(lambda: copy.tries() > before and os.path.exists(f"{copy.top}/number"))
             run.send_signal(number)
             try:
                 same((number, run.wait(SECONDS), run.stdout.read()), (number, 130, b""))
             finally:
                 run.kill()
-        same((number, os.listdir("temporary")), (number, []))
+        until(lambda: is_over(copy))
+        os.remove(f"{copy.top}/number")
+        same((number, os.path.exists(f"{copy.top}/out/trial.making")), (number, False))
     copy.plays()
-    same(copy.ran(), (0, ANSWERS, MAKING + TOLD))
+    same(copy.ran("--version"), (0, told_of(PROGRAM), MAKING + TOLD))
+
+
+def is_over(copy):
+    """Whether the process that noted its number has ended."""
+    number = put_together(f"{copy.top}/number").strip()
+    return number != b"" and not os.path.exists(b"/proc/" + number)
 
 
 @needs_proof
@@ -241,6 +294,8 @@ CHECKS = [
     lines_that_are_typed,
     service_that_is_killed,
     two_first_runs_at_once,
+    first_answer,
+    first_program,
     source_that_changes,
     proved_program_alone,
     toolchain_that_fails,

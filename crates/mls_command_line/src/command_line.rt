@@ -2,11 +2,9 @@
 use crate::argument::Argument;
 use crate::command_rows::CommandRow;
 use crate::json_words::json_argument;
+use crate::version::VERSION;
 use clap::Command;
 use std::alloc::{AllocError, Global};
-
-/// The version, and the toolchain's line.
-const VERSION: &str = "0.2.0, proved with rattle-kit-13b logic dac8208d650f15bf";
 
 const ABOUT: &str =
     "A reference monitor for multilevel security. Without a command it answers the script on \

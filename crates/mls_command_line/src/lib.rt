@@ -13,6 +13,7 @@ mod run_arguments;
 mod shared_arguments;
 mod times;
 mod verify_words;
+mod version;
 mod words;
 mod words_fault;
 

@@ -1,0 +1,71 @@
+//! The script on standard input, answered as session 0 over the standard start.
+use mls_lines::Names;
+use mls_monitor::{Monitor, Start};
+use mls_scripts::{ServeFault, serve};
+use mls_start_file::standard_start;
+use std::alloc::Global;
+use std::io::BufWriter;
+
+/// The line on standard error where an allocation failed.
+const NO_MEMORY: &str = "mls: memory";
+
+/// The line on standard error where serving the script ended before the script did.
+fn serve_line(fault: ServeFault) -> &'static str {
+    match fault {
+        ServeFault::Read => "mls: input: read",
+        ServeFault::Write => "mls: output: write",
+        ServeFault::Memory => NO_MEMORY,
+        ServeFault::TooLong => "mls: input: too long",
+    }
+}
+
+/// Answers the script over a monitor.
+fn serve_input(
+    rt: &HostRuntime,
+    names: &Names<Global>,
+    monitor: &mut Monitor<Global>,
+) -> Result<u64, &'static str> {
+    let Ok(mut writer) = BufWriter::new(rt.alloc(), rt.stdout()) else {
+        return Err(NO_MEMORY);
+    };
+    let mut reader = rt.stdin();
+    let served = serve(rt.alloc(), names, monitor, 0, &mut reader, &mut writer);
+    drop(writer);
+    match served {
+        Ok(entries) => Ok(entries),
+        Err(fault) => Err(serve_line(fault)),
+    }
+}
+
+/// Opens a monitor over a start; there is none where memory ran out.
+fn open(rt: &HostRuntime, start: Start<Global>) -> Option<Monitor<Global>> {
+    Monitor::open(rt.alloc(), start).ok()
+}
+
+/// Answers the script over a start.
+fn serve_start(
+    rt: &HostRuntime,
+    names: &Names<Global>,
+    start: Start<Global>,
+) -> Result<u64, &'static str> {
+    let Some(mut monitor) = open(rt, start) else {
+        return Err(NO_MEMORY);
+    };
+    let served = serve_input(rt, names, &mut monitor);
+    drop(monitor);
+    served
+}
+
+/// Answers the script on standard input over the standard start, and gives the number of entries.
+///
+/// # Errors
+/// The line for standard error, without its newline.
+pub(crate) fn serve_standard(rt: &HostRuntime) -> Result<u64, &'static str> {
+    let Ok(loaded) = standard_start(rt.alloc()) else {
+        return Err(NO_MEMORY);
+    };
+    let (names, start) = loaded.into_parts();
+    let served = serve_start(rt, &names, start);
+    drop(names);
+    served
+}
