@@ -1,7 +1,13 @@
 """The checks of this repository, in one list. bin/test and .ci/run run them: each is a command that ends with a line
-'N passed, M failed', or 'N passed, M failed, K skipped' where a line says of each that was skipped why."""
+'N passed, M failed', or 'N passed, M failed, K skipped' where a line says of each that was skipped why.
+
+    python3 .ci/checks.py --list [NAME ..]     prints what there is, and runs nothing: of each check its command, what
+                                               it does, and its rows; of each crate its tests, by their files
+"""
+import ast
 import collections
 import concurrent.futures
+import glob
 import os
 import re
 import signal
@@ -11,7 +17,7 @@ import time
 
 sys.dont_write_bytecode = True
 sys.path.insert(1, f"{os.path.dirname(os.path.dirname(os.path.realpath(__file__)))}/bin")
-from rooms import TOP, draw, minutes, processors
+from rooms import TOP, draw, listed, minutes, processors
 
 # What a check needs: the files of the repository; a program of the sources; the proved one; or many minutes.
 FILES, PROGRAM, PROOF, MINUTES = range(4)
@@ -149,3 +155,71 @@ def ended(main):
         return main()
     except KeyboardInterrupt:
         return 130
+
+
+def sentence(text):
+    """The first sentence of what is written of something."""
+    return re.split(r"(?<=[.]) ", " ".join((text or "").split()))[0]
+
+
+def tests_in(file):
+    """The tests of a file in Python, each with the first sentence that is written of it."""
+    with open(file, encoding="utf-8") as source:
+        tree = ast.parse(source.read())
+    for it in tree.body:
+        if isinstance(it, ast.FunctionDef) and it.name.startswith("test_"):
+            said = sentence(ast.get_docstring(it))
+            yield it.name[5:].replace("_", " ") + (f": {said}" if said else "")
+
+
+def rows_of(check):
+    """The rows of a check, a line each: it prints them itself, or they are the tests of its folder."""
+    script = f"{TOP}/{check.words[0]}"
+    with open(script, encoding="utf-8") as source:
+        text = source.read()
+    if "IS_LISTED" in text or "run_checks(" in text:
+        words = [script, *check.words[1:]]
+        return subprocess.run(words, env={**os.environ, "MLS_LISTED": "1"}, stdout=subprocess.PIPE, text=True).stdout
+    files = sorted(glob.glob(f"{os.path.dirname(script)}/tests/rows_*.py"))
+    return "".join(f"    {it}\n" for file in files for it in tests_in(file))
+
+
+def list_check(check):
+    """Prints what a check does, and its rows."""
+    with open(f"{TOP}/{check.words[0]}", encoding="utf-8") as source:
+        said = sentence(ast.get_docstring(ast.parse(source.read())))
+    print(f"{check.name} ({' '.join(check.words)}): {said}\n{rows_of(check)}")
+
+
+RATTLE_TEST = re.compile(r"((?:^ *///.*\n)*)^ *#\[test\]\n *fn (\w+)", re.M)
+
+
+def list_tests(crate):
+    """Prints the tests of a crate, by their files."""
+    found = []
+    for file in sorted(glob.glob(f"{TOP}/crates/{crate}/src/**/*.rt", recursive=True)):
+        with open(file, encoding="utf-8") as source:
+            for said, name in RATTLE_TEST.findall(source.read()):
+                words = sentence(said.replace("///", ""))
+                place = os.path.relpath(file, f"{TOP}/crates/{crate}/src")
+                found.append(f"    {place}: {name.replace('_', ' ')}" + (f": {words}" if words else ""))
+    if found:
+        print(f"{crate} (bin/test {crate}):", *found, "", sep="\n")
+
+
+def main(words):
+    """Lists the checks of these names, and the tests of the crates of these names; without names all."""
+    if words[:1] != ["--list"]:
+        print("usage: .ci/checks.py --list [NAME ..]", file=sys.stderr)
+        return 2
+    for it in CHECKS:
+        if it.name in words[1:] or not words[1:]:
+            list_check(it)
+    for it in listed():
+        if it in words[1:] or not words[1:]:
+            list_tests(it)
+    return 0
+
+
+if __name__ == "__main__":
+    sys.exit(main(sys.argv[1:]))

@@ -1,6 +1,7 @@
 """What checks of the program mls from outside share: how it is run, and how the checks are counted."""
 import functools
 import os
+import re
 import subprocess
 import tempfile
 
@@ -9,9 +10,15 @@ MLS = f"{TOP}/bin/mls"
 EXAMPLES = f"{TOP}/examples"
 
 
+# Whether checks are only listed: .ci/checks.py --list says so.
+IS_LISTED = "MLS_LISTED" in os.environ
+
+
 def built():
     """The program that MLS_PROGRAM names; or else that which bin/mls runs: the proved one, or the trial, which it makes
     where there is none."""
+    if IS_LISTED:
+        return ""
     if given := os.environ.get("MLS_PROGRAM"):
         return os.path.realpath(given)
     kinds = ["proved"] if os.environ.get("MLS_PROVED", "0") != "0" else ["proved", "trial"]
@@ -131,9 +138,19 @@ def outcome_of(check):
     return ""
 
 
+def list_checks(checks):
+    """Prints the names of checks, each with the first sentence that is written of it."""
+    for check in checks:
+        words = " ".join((check.__doc__ or "").split())
+        print(f"    {check.__name__.replace('_', ' ')}" + (f": {re.split(r'(?<=[.]) ', words)[0]}" if words else ""))
+    return 0
+
+
 def run_checks(what, checks, unfit={}):
     """Runs checks in a folder that is removed after, but for those that are unfit here, each with the reason. Prints a
     line for each, and last 'N passed, M failed', or 'N passed, M failed, K skipped'; returns the status."""
+    if IS_LISTED:
+        return list_checks(checks)
     if not PROGRAM:
         print(f"{what}: NOT BUILT\n0 passed, 1 failed")
         return 1
