@@ -35,7 +35,14 @@ pub struct Budgets {
 
 impl Budgets {
     fn of(&mut self, uid: u32, now: Instant) -> &mut Budget {
-        self.of_uids.entry(uid).or_insert(Budget { clients: 0, lines: f64::INFINITY, at: now, day: 0, today: 0, pending: 0 })
+        self.of_uids.entry(uid).or_insert(Budget {
+            clients: 0,
+            lines: f64::INFINITY,
+            at: now,
+            day: 0,
+            today: 0,
+            pending: 0,
+        })
     }
 
     /// Takes one line of so many a second; 0 is no limit.

@@ -25,6 +25,11 @@ impl Words {
                 return Err(End::words(&format!("the core's words lack {flag}")));
             }
         }
+        if words.core.iter().any(|word| word == "--segment" || word.starts_with("--segment=")) {
+            return Err(End::words(
+                "--segment: what clients hold who are gone could not be told from what START opens with",
+            ));
+        }
         Ok(words)
     }
 
@@ -104,6 +109,7 @@ mod tests {
             "--users u --frob -- mls serve --sessions --names --journal j START",
             "--users u -- mls serve --names --journal j START",
             "--users u -- mls serve --sessions --journal j START",
+            "--users u -- mls serve --sessions --names --segment 4096 --journal j START",
         ];
         for text in rows {
             assert_eq!(parsed(text).err().map(|end| end.status), Some(2), "{text}");
