@@ -222,9 +222,10 @@ def users_are_read_anew():
 
 
 def quotas_of_a_day():
-    """`busy` beyond the entries and notes of a day of a user; what has no entry is not counted, and nobody else is."""
+    """`busy` beyond the entries, notes and connections of a day of a user; what has no entry is not counted, and nobody
+    else is."""
     fresh()
-    with Front("--release-on-close", users=b"%d = ann rate=0 day=6\n%d = bob rate=0\n" % (ANN, BOB)) as front:
+    with Front("--release-on-close", users=b"%d = ann rate=0 day=8\n%d = bob rate=0\n" % (ANN, BOB)) as front:
         one, two, bob = front.client(ANN), front.client(ANN), front.client(BOB)
         free = ["ann check read plans", "ann frob", "ann get-read none", "? ann get-read plans", "ann level Q"]
         free.append("bob level U")
@@ -270,7 +271,8 @@ def what_root_is_told():
         same(sorted(found["latency_us"]), ["50", "90", "99", "99.9", "count", "most"])
         assert 1 <= found["syncs"]["core"] <= 6 and found["syncs"]["sessions"] >= 2, found
         assert found["core"]["memory_kib"] > 100, found
-    names = "core entries journal_bytes latency_us lines pools segments sessions syncs"
+    names = "core entries journal_bytes journal_limit latency_us lines pools segments"
+    names += " sessions sessions_bytes sessions_files syncs"
     same(sorted(found), names.split())
 
 

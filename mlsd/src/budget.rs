@@ -27,11 +27,22 @@ pub enum Day {
 }
 
 #[derive(Default, Debug)]
-pub struct Budgets(HashMap<u32, Budget>);
+pub struct Budgets {
+    of_uids: HashMap<u32, Budget>,
+    /// The latest day that the clock has said.
+    day: u64,
+}
 
 impl Budgets {
     fn of(&mut self, uid: u32, now: Instant) -> &mut Budget {
-        self.0.entry(uid).or_insert(Budget { clients: 0, lines: f64::INFINITY, at: now, day: 0, today: 0, pending: 0 })
+        self.of_uids.entry(uid).or_insert(Budget {
+            clients: 0,
+            lines: f64::INFINITY,
+            at: now,
+            day: 0,
+            today: 0,
+            pending: 0,
+        })
     }
 
     /// Takes one line of so many a second; 0 is no limit.
@@ -61,12 +72,15 @@ impl Budgets {
     }
 
     pub fn disconnect(&mut self, uid: u32) {
-        if let Some(budget) = self.0.get_mut(&uid) {
+        if let Some(budget) = self.of_uids.get_mut(&uid) {
             budget.clients = budget.clients.saturating_sub(1);
         }
     }
 
+    /// A clock that is set back begins no day: a day begins once the clock says one that is later than all before.
     fn of_day(&mut self, uid: u32, day: u64, now: Instant) -> &mut Budget {
+        self.day = self.day.max(day);
+        let day = self.day;
         let budget = self.of(uid, now);
         if budget.day != day {
             budget.day = day;
@@ -90,13 +104,13 @@ impl Budgets {
 
     /// One that was pending has made an entry, or none.
     pub fn answered(&mut self, uid: u32, is_made: bool) {
-        if let Some(budget) = self.0.get_mut(&uid) {
+        if let Some(budget) = self.of_uids.get_mut(&uid) {
             budget.pending = budget.pending.saturating_sub(1);
             budget.today = budget.today.saturating_add(u32::from(is_made));
         }
     }
 
-    /// A note, which takes room on the disk as an entry does.
+    /// A note or a connection, which take room on the disk as an entry does.
     pub fn note(&mut self, uid: u32, most: u32, day: u64, now: Instant) -> bool {
         let budget = self.of_day(uid, day, now);
         let may = budget.today < most;
@@ -143,5 +157,14 @@ mod tests {
         assert_eq!((entry(&mut budgets, 7, 20_000), budgets.note(7, 2, 20_000, now)), (Day::Over, false));
         assert_eq!((entry(&mut budgets, 7, 20_001), budgets.note(7, 2, 20_001, now)), (Day::Ask, true));
         assert_eq!(entry(&mut budgets, 7, 20_001), Day::Wait);
+    }
+
+    #[test]
+    fn a_clock_that_is_set_back_begins_no_day() {
+        let (mut budgets, now) = (Budgets::default(), Instant::now());
+        let mut notes = |uid, day| (0..9).filter(|_| budgets.note(uid, 2, day, now)).count();
+        assert_eq!([20_000, 20_001, 20_000, 19_998, 20_001, 20_002].map(|day| notes(7, day)), [2, 2, 0, 0, 0, 2]);
+        // (nor for who comes while it is set back)
+        assert_eq!([20_001, 20_000, 20_002, 20_003].map(|day| notes(8, day)), [2, 0, 0, 2]);
     }
 }

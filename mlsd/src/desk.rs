@@ -7,6 +7,7 @@ use crate::due::{Asked, Due, What};
 use crate::ending::End;
 use crate::files::Files;
 use crate::holders::{Get, Holders};
+use crate::journal::Journal;
 use crate::line::{Ask, Change, Judged, Verdict, LINE_MAX};
 use crate::names::{Names, Opening, Triple};
 use crate::pools::Pools;
@@ -27,6 +28,7 @@ pub struct Desk {
     pub holders: Holders,
     pub budgets: Budgets,
     pub sessions: Sessions,
+    pub journal: Journal,
     pub stats: Stats,
     /// The number of the next entry.
     pub entries: u64,
@@ -47,11 +49,12 @@ enum Outcome {
 impl Desk {
     pub fn new(words: Words, core: Core, opening: Opening, files: Files, most: usize) -> Desk {
         let Opening { names, held, entries } = opening;
-        let Files { users, pools, sessions } = files;
+        let Files { users, pools, sessions, journal, .. } = files;
         let of_start = held.iter().filter(|(_, is_of_start)| *is_of_start).map(|(triple, _)| *triple).collect();
         let (holders, budgets, stats) = (Holders::new(of_start), Budgets::default(), Stats::default());
         let now = Instant::now();
-        Desk { words, core, names, users, pools, holders, budgets, sessions, stats, entries, most, open: 0, now }
+        let open = 0;
+        Desk { words, core, names, users, pools, holders, budgets, sessions, journal, stats, entries, most, open, now }
     }
 
     /// Takes a line of a client; false where it has to wait.
@@ -94,10 +97,15 @@ impl Desk {
 
     fn note(&mut self, session: u32, client: &Client, text: &str) {
         let most = client.who.day();
-        if most == 0 || self.budgets.note(client.uid, most, clock::day(), self.now) {
+        if self.may_write(client.uid, most) {
             self.stats.notes += 1;
             self.sessions.tell(session, "note", self.entries, text);
         }
+    }
+
+    /// Whether a uid that has so many a day may have a line more in the sessions file. It is counted.
+    pub fn may_write(&mut self, uid: u32, most: u32) -> bool {
+        most == 0 || self.budgets.note(uid, most, clock::day(), self.now)
     }
 
     fn outcome(&mut self, session: u32, client: &mut Client, ask: &Ask) -> Outcome {
@@ -168,7 +176,9 @@ impl Desk {
             open: self.open,
             entries: self.entries,
             syncs: self.sessions.syncs,
-            journal: &self.words.journal,
+            journal: self.journal.size(),
+            limit: self.journal.limit(),
+            sessions: self.sessions.size(),
             core: self.core.pid(),
             pools: self.pools.counts(),
         })
@@ -176,6 +186,13 @@ impl Desk {
 
     /// Writes the sessions file, which the disk has before anything more is said or asked.
     pub fn flush(&mut self) -> Result<(), End> {
-        self.sessions.flush().map_err(|error| End::own(&self.words.sessions, error))
+        self.sessions.flush()
+    }
+
+    /// How many entries there are, and how full the journal is.
+    pub fn status(&self) -> String {
+        let bytes = self.journal.bytes;
+        let limit = self.journal.limit().map_or(String::new(), |limit| format!(" of {limit}"));
+        format!("{} entries, {bytes}{limit} bytes in the journal's file", self.entries)
     }
 }

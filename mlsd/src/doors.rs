@@ -28,9 +28,11 @@ impl Desk {
         if self.open >= most || !self.budgets.connect(peer.uid, who.clients(), who.rate(), self.now) {
             return Err("busy");
         }
+        // (its lines in the sessions file take room on the disk as an entry does)
+        let may = self.may_write(peer.uid, who.day());
         let session = match self.sessions.next() {
-            Some(session) => session,
-            None => {
+            Some(session) if may => session,
+            _ => {
                 self.budgets.disconnect(peer.uid);
                 return Err("busy");
             }

@@ -6,6 +6,8 @@ const OWN: i32 = 1;
 const WORDS: i32 = 2;
 const REFUSED: i32 = 3;
 const CORE: i32 = 4;
+const FAILED: i32 = 5;
+const FULL: i32 = 6;
 /// Statuses of the core that are the front's too: a failed append or sync; the journal is in use.
 const PASSED_ON: [i32; 2] = [5, 75];
 
@@ -21,6 +23,16 @@ impl End {
         End { status: OWN, told: format!("{what}: {why}") }
     }
 
+    /// A file of the front's own wasn't synced: what is read of it now need not be on the disk.
+    pub fn failed(what: &str, why: impl Display) -> End {
+        End { status: FAILED, told: format!("{what}: sync: {why}") }
+    }
+
+    /// The journal takes no entry more.
+    pub fn full(journal: &str, bytes: u64, limit: u64) -> End {
+        End { status: FULL, told: format!("{journal}: full, {bytes} of {limit} bytes: a new journal is to be begun") }
+    }
+
     pub fn words(told: &str) -> End {
         End { status: WORDS, told: told.to_string() }
     }
@@ -32,9 +44,14 @@ impl End {
         End { status: status.code().filter(|code| PASSED_ON.contains(code)).unwrap_or(own), told }
     }
 
+    /// Whether it is the core's.
+    pub fn is_core(&self) -> bool {
+        self.status == CORE
+    }
+
     /// What the core's own end adds, where it is the cause.
     pub fn with_core(self, status: ExitStatus) -> End {
-        if self.status == CORE {
+        if self.is_core() {
             End { status: End::core(true, status).status, told: format!("{}: {status}", self.told) }
         } else {
             self

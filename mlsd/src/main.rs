@@ -3,6 +3,7 @@
 //! Nothing of it is proved. What is proved stands behind it, in the core; what this front is trusted with is who asks.
 mod answers;
 mod budget;
+mod changes;
 mod client;
 mod clock;
 mod core;
@@ -14,6 +15,7 @@ mod files;
 mod hall;
 mod holders;
 mod inbox;
+mod journal;
 mod line;
 mod listen;
 mod names;
@@ -39,6 +41,8 @@ use words::Words;
 /// Descriptors that are not clients', and the most connections that there may be.
 const RESERVED: u64 = 64;
 const CLIENTS_MAX: u64 = 1_024;
+/// The core's status where its journal is full, among other faults.
+const CORE_REFUSED: i32 = 1;
 
 /// The ends of the pipe by which signals wake the loop.
 fn wake() -> Result<(UnixStream, UnixStream), End> {
@@ -63,14 +67,17 @@ fn serve(
     let more = format!("pid {} core {}", std::process::id(), desk.core.pid());
     desk.sessions.tell_front("started", desk.entries, &more);
     desk.flush()?;
+    desk.begin_files()?;
     desk.settle(held)?;
     let (listener, own) = listen::listener(passed, desk.words.socket.as_deref())?;
-    listen::notify(&format!("READY=1\nSTATUS={} entries\n", desk.entries));
+    listen::notify(&format!("READY=1\nSTATUS={}\n", desk.status()));
     let clients = returns::Clients::new();
     let mut hall = Hall { desk, clients, listener: Some(listener), wake, drains: None, is_ending: false, turn: 0 };
     let ended = hall.run();
-    // (what the core answered before it ended)
-    hall.clients.values_mut().for_each(client::Client::send);
+    if ended.as_ref().err().map_or(true, End::is_core) {
+        // (what the core answered before it ended; else who asks may not be on the disk)
+        hall.clients.values_mut().for_each(client::Client::send);
+    }
     if let Some(path) = own {
         let _ = std::fs::remove_file(path);
     }
@@ -81,8 +88,7 @@ fn run() -> Result<(), End> {
     let words = Words::parse(std::env::args().skip(1))?;
     let passed = listen::passed();
     let (wake, _waker) = wake()?;
-    let (core, opening) = Core::start(&words.core)?;
-    let held = opening.held.clone();
+    let (core, mut opening) = Core::start(&words.core)?;
     let files = match Files::open(&words, &opening.names) {
         Ok(files) => files,
         Err(end) => {
@@ -90,15 +96,25 @@ fn run() -> Result<(), End> {
             return Err(end);
         }
     };
+    if let Some(of_start) = &files.of_start {
+        opening.held.iter_mut().for_each(|(triple, is_of_start)| *is_of_start = of_start.contains(triple));
+    }
+    let held = opening.held.clone();
     let mut desk = Desk::new(words, core, opening, files, most_clients());
     let ended = serve(&mut desk, &held, wake, passed);
-    let Desk { core, mut sessions, words, entries, .. } = desk;
+    let Desk { core, mut sessions, mut journal, entries, .. } = desk;
     let status = core.end().map_err(|error| End::own("wait", error))?;
-    sessions.tell_front("ended", entries, &format!("core {status}"));
-    sessions.flush().map_err(|error| End::own(&words.sessions, error))?;
+    if ended.as_ref().err().map_or(true, End::is_core) {
+        sessions.tell_front("ended", entries, &format!("core {status}"));
+        sessions.flush()?;
+    }
+    journal.look();
+    let is_full = status.code() == Some(CORE_REFUSED) && journal.is_full();
     match ended {
         Ok(()) if status.success() => Ok(()),
+        Ok(()) if is_full => Err(journal.full()),
         Ok(()) => Err(End::core(true, status)),
+        Err(end) if end.is_core() && is_full => Err(journal.full()),
         Err(end) => Err(end.with_core(status)),
     }
 }

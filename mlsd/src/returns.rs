@@ -32,7 +32,10 @@ impl Desk {
             self.answered(clients, line, now)?;
             self.answer_own(clients);
         }
-        self.stats.batches += u64::from(self.entries > before);
+        if self.entries > before {
+            self.stats.batches += 1;
+            self.has_grown()?;
+        }
         Ok(is_there)
     }
 

@@ -1,20 +1,30 @@
 //! The sessions file: `SESSION WHAT TIME entry N ..` for what begins, ends or is noted; session 0 is the front itself,
 //! and N the next entry's number then. A session's number is used once, over all starts: the file has it on the disk
 //! before anything of that session is said or asked.
+//!
+//! Where the journal is in segments, the file is closed with the journal's, and another begins with the next number.
 use crate::clock;
-use std::fs::{File, OpenOptions};
+use crate::ending::End;
+use crate::journal::{folder, node, numbered, numbers};
+use std::fs::{self, File, OpenOptions, Permissions};
 use std::io::{self, BufRead, BufReader, Read, Seek, SeekFrom, Write};
-use std::os::unix::fs::OpenOptionsExt;
-use std::path::Path;
+use std::os::unix::fs::{OpenOptionsExt, PermissionsExt};
+use std::path::{Path, PathBuf};
 
 /// The core takes none above it.
 const LAST: u32 = u32::MAX - 1;
+/// The mode of a file, and of one that was closed.
+const PRIVATE: u32 = 0o600;
+const CLOSED: u32 = 0o400;
 
 #[derive(Debug)]
 pub struct Sessions {
+    path: PathBuf,
     file: File,
     lines: String,
     last: u32,
+    /// The next entry's number when its first line was written; the greatest number where it has none.
+    since: u64,
     must_sync: bool,
     pub syncs: u64,
 }
@@ -27,28 +37,43 @@ fn used(line: &[u8]) -> u32 {
     };
     match words[..] {
         [session, "opened", ..] => session.parse().unwrap_or(0),
-        ["0", "started" | "ended", _, "entry", _, "next", next, ..] => next.parse().unwrap_or(0u32).saturating_sub(1),
+        ["0", "started" | "ended" | "begun", _, "entry", _, "next", next, ..] => {
+            next.parse().unwrap_or(0u32).saturating_sub(1)
+        }
         _ => 0,
     }
 }
 
+/// The next entry's number when a line was written.
+fn entry(line: &[u8]) -> Option<u64> {
+    let mut words = std::str::from_utf8(line).ok()?.split(' ').skip(3);
+    let is_one = words.next() == Some("entry");
+    words.next()?.parse().ok().filter(|_| is_one)
+}
+
+/// Syncs the folder of a file.
+fn sync_folder(path: &Path) -> io::Result<()> {
+    File::open(folder(path))?.sync_all()
+}
+
 impl Sessions {
-    pub fn open(path: &str) -> io::Result<Sessions> {
-        let mut file = OpenOptions::new().read(true).append(true).create(true).mode(0o600).open(path)?;
-        let folder = Path::new(path).parent().filter(|folder| !folder.as_os_str().is_empty());
-        File::open(folder.unwrap_or_else(|| Path::new(".")))?.sync_all()?;
-        let mut last = 0;
+    pub fn open(name: &str) -> Result<Sessions, End> {
+        let own = |error| End::own(name, error);
+        let path = PathBuf::from(name);
+        let mut options = OpenOptions::new();
+        let mut file = options.read(true).append(true).create(true).mode(PRIVATE).open(&path).map_err(own)?;
+        sync_folder(&path).map_err(|error| End::failed(name, error))?;
+        let (mut last, mut since) = (0, None);
         for line in BufReader::new(&file).split(b'\n') {
-            last = last.max(used(&line?));
+            let line = line.map_err(own)?;
+            last = last.max(used(&line));
+            since = since.or_else(|| entry(&line));
         }
-        let mut end = [b'\n'];
-        if file.metadata()?.len() > 0 {
-            file.seek(SeekFrom::End(-1))?;
-            file.read_exact(&mut end)?;
-        }
+        let end = last_byte(&mut file).map_err(own)?;
         // (an end that a crash has torn becomes a line of its own)
-        let lines = String::from(if end == [b'\n'] { "" } else { "\n" });
-        Ok(Sessions { file, lines, last, must_sync: true, syncs: 0 })
+        let lines = String::from(if end == b'\n' { "" } else { "\n" });
+        mend(&path);
+        Ok(Sessions { path, file, lines, last, since: since.unwrap_or(u64::MAX), must_sync: true, syncs: 0 })
     }
 
     /// A number that was never used, where there is one.
@@ -65,6 +90,7 @@ impl Sessions {
     }
 
     pub fn tell(&mut self, session: u32, what: &str, entries: u64, more: &str) {
+        self.since = self.since.min(entries);
         let space = if more.is_empty() { "" } else { " " };
         self.lines.push_str(&format!("{session} {what} {} entry {entries}{space}{more}\n", clock::now()));
     }
@@ -72,20 +98,93 @@ impl Sessions {
     /// A line on the front itself, which says what number comes next: a file may begin with it.
     pub fn tell_front(&mut self, what: &str, entries: u64, more: &str) {
         let next = u64::from(self.last) + 1;
-        self.tell_first(0, what, entries, &format!("next {next} {more}"));
+        let space = if more.is_empty() { "" } else { " " };
+        self.tell_first(0, what, entries, &format!("next {next}{space}{more}"));
     }
 
-    pub fn flush(&mut self) -> io::Result<()> {
+    fn name(&self) -> String {
+        self.path.to_string_lossy().into_owned()
+    }
+
+    pub fn flush(&mut self) -> Result<(), End> {
         if !self.lines.is_empty() {
-            self.file.write_all(self.lines.as_bytes())?;
+            self.file.write_all(self.lines.as_bytes()).map_err(|error| End::own(&self.name(), error))?;
             self.lines.clear();
         }
         if self.must_sync {
-            self.file.sync_data()?;
+            // (what is read of it now need not be on the disk, and numbers of sessions rest on it)
+            self.file.sync_data().map_err(|error| End::failed(&self.name(), error))?;
             self.syncs += 1;
         }
         self.must_sync = false;
         Ok(())
+    }
+
+    /// Whether it has lines from before an entry.
+    pub fn is_before(&self, entry: u64) -> bool {
+        self.since < entry
+    }
+
+    /// How many files there are, and their bytes.
+    pub fn size(&self) -> (u64, u64) {
+        crate::journal::size(&self.path)
+    }
+
+    /// Closes the file with the journal's file that begins with an entry, and begins another before the next entry. The
+    /// name is never missing: what is left of a step is used again.
+    pub fn close(&mut self, closed: u64, entries: u64) -> Result<(), End> {
+        self.must_sync = true;
+        self.flush()?;
+        let own = |error| End::own(&self.path.to_string_lossy(), error);
+        let kept = numbered(&self.path, closed);
+        match fs::hard_link(&self.path, &kept) {
+            Err(error) if error.kind() == io::ErrorKind::AlreadyExists && node(&kept) != node(&self.path) => {
+                eprintln!("mlsd: {}: is there already: the sessions file goes on", kept.display());
+                return Ok(());
+            }
+            Err(error) if error.kind() != io::ErrorKind::AlreadyExists => return Err(own(error)),
+            _ => (),
+        }
+        let beside = beside(&self.path);
+        let _ = fs::remove_file(&beside);
+        let mut options = OpenOptions::new();
+        let file = options.read(true).append(true).create_new(true).mode(PRIVATE).open(&beside).map_err(own)?;
+        self.file = file;
+        self.since = entries;
+        self.tell_front("begun", entries, "");
+        self.flush()?;
+        fs::rename(&beside, &self.path).map_err(|error| End::own(&self.name(), error))?;
+        sync_folder(&self.path).map_err(|error| End::failed(&self.name(), error))?;
+        let _ = fs::set_permissions(&kept, Permissions::from_mode(CLOSED));
+        Ok(())
+    }
+}
+
+/// The file that is begun, as long as it hasn't its name.
+fn beside(path: &Path) -> PathBuf {
+    let mut name = path.as_os_str().to_os_string();
+    name.push(".new");
+    name.into()
+}
+
+fn last_byte(file: &mut File) -> io::Result<u8> {
+    let mut end = [b'\n'];
+    if file.metadata()?.len() > 0 {
+        file.seek(SeekFrom::End(-1))?;
+        file.read_exact(&mut end)?;
+    }
+    Ok(end[0])
+}
+
+/// Does what a kill has left undone: nobody writes a file that was closed, and what was being begun goes.
+fn mend(path: &Path) {
+    let _ = fs::remove_file(beside(path));
+    let closed = numbers(path).into_iter().map(|number| numbered(path, number));
+    for file in closed.filter(|file| node(file) != node(path)) {
+        let mode = fs::metadata(&file).map_or(0, |meta| meta.permissions().mode());
+        if mode & 0o222 != 0 {
+            let _ = fs::set_permissions(&file, Permissions::from_mode(CLOSED));
+        }
     }
 }
 
@@ -115,17 +214,49 @@ mod tests {
 
     #[test]
     fn a_line_tells_what_was_used() {
-        let rows: [(&[u8], u32); 7] = [
+        let rows: [(&[u8], u32); 8] = [
             (b"31 opened 2026-11-27T11:12:31.101Z entry 176 uid 101 pid 28287 as ann", 31),
             (b"31 closed 2026-11-27T11:12:31.101Z entry 176", 0),
             (b"31 note 2026-11-27T11:12:31.101Z entry 176 next 99", 0),
             (b"0 ended 2026-11-27T11:12:31.101Z entry 176 next 45 core exit status: 0", 44),
             (b"0 started 2026-11-27T11:12:31.101Z entry 176 next 1 pid 7 core 8", 0),
+            (b"0 begun 2026-11-27T11:12:31.101Z entry 176 next 45", 44),
             (b"4294967295 opened", 4_294_967_295),
             (b"\0\0\0 opened", 0),
         ];
         for (line, wanted) in rows {
             assert_eq!(used(line), wanted);
         }
+    }
+
+    #[test]
+    fn a_file_is_closed_and_another_goes_on() {
+        let folder = std::env::temp_dir().join(format!("mlsd-closed-{}", std::process::id()));
+        let _ = fs::remove_dir_all(&folder);
+        fs::create_dir(&folder).unwrap();
+        let path = folder.join("s");
+        let name = path.to_str().unwrap();
+        let mut sessions = Sessions::open(name).unwrap();
+        sessions.tell_front("started", 3, "pid 1 core 2");
+        for (closed, entries) in [(0, 40), (40, 80)] {
+            let next = sessions.next().unwrap();
+            sessions.tell_first(next, "opened", entries - 1, "uid 0 pid 1 as ann");
+            sessions.flush().unwrap();
+            assert!(sessions.is_before(entries) && !sessions.is_before(closed));
+            sessions.close(closed, entries).unwrap();
+        }
+        assert_eq!((numbers(&path), sessions.size().0), (vec![0, 40], 3));
+        // (a kill behind the link, and one before the mode is set)
+        fs::hard_link(&path, numbered(&path, 80)).unwrap();
+        fs::set_permissions(numbered(&path, 40), Permissions::from_mode(0o600)).unwrap();
+        fs::write(folder.join("s.new"), "x").unwrap();
+        let mut sessions = Sessions::open(name).unwrap();
+        assert_eq!((sessions.next(), sessions.since), (Some(3), 80));
+        sessions.close(80, 90).unwrap();
+        sessions.close(80, 90).unwrap();
+        let mode = |number| fs::metadata(numbered(&path, number)).unwrap().permissions().mode() & 0o777;
+        assert_eq!([0, 40, 80].map(mode), [0o400; 3]);
+        assert_eq!((Sessions::open(name).unwrap().next(), folder.join("s.new").exists()), (Some(4), false));
+        fs::remove_dir_all(&folder).unwrap();
     }
 }

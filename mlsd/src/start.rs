@@ -1,6 +1,8 @@
-//! What START says of its subjects, as `mls state START /dev/null` prints it: whether those of a pool are alike.
+//! What START says of its subjects, as `mls state START /dev/null` prints it: whether those of a pool are alike, and what
+//! is held at first.
+use crate::names::{Names, Triple, MODES};
 use crate::users::Pool;
-use std::collections::{BTreeSet, HashMap};
+use std::collections::{BTreeSet, HashMap, HashSet};
 
 #[derive(Default, Debug, PartialEq, Eq)]
 struct Facts {
@@ -17,6 +19,8 @@ struct Facts {
 pub struct Start {
     subjects: Vec<Facts>,
     numbers: HashMap<String, u16>,
+    /// Subject, mode and object of each access that it opens with.
+    accesses: Vec<[String; 3]>,
 }
 
 impl Start {
@@ -34,7 +38,10 @@ impl Start {
                 ["permit", subject, mode, object] => {
                     start.of(subject)?.permits.insert((mode.to_string(), object.to_string()));
                 }
-                ["access", subject, _, _] => start.of(subject)?.has_access = true,
+                ["access", subject, mode, object] => {
+                    start.of(subject)?.has_access = true;
+                    start.accesses.push([subject, mode, object].map(str::to_string));
+                }
                 _ => (),
             }
         }
@@ -44,6 +51,15 @@ impl Start {
     fn of(&mut self, name: &str) -> Option<&mut Facts> {
         let number = *self.numbers.get(name)?;
         self.subjects.get_mut(usize::from(number))
+    }
+
+    /// What it opens with, by the names that the core has told.
+    pub fn accesses(&self, names: &Names) -> HashSet<Triple> {
+        let triple = |[subject, mode, object]: &[String; 3]| {
+            let mode = MODES.iter().position(|it| it == mode)? as u8;
+            Some(Triple { subject: names.subject_named(subject)?, object: names.object(object)?, mode })
+        };
+        self.accesses.iter().filter_map(triple).collect()
     }
 
     /// Whether the subjects are those that the core has told.
@@ -104,6 +120,13 @@ mod tests {
             (fault(&[0, 5]), fault(&[5])),
             (Some("has accesses in the start"), Some("has accesses in the start"))
         );
+    }
+
+    #[test]
+    fn what_it_opens_with() {
+        let text = "subject ann maximum S current U integrity hi\naccess ann read plans\n";
+        let held = Start::read(text).unwrap().accesses(&crate::names::tests::standard());
+        assert_eq!(held, [Triple { subject: 0, object: 1, mode: 1 }].into());
     }
 
     #[test]

@@ -100,7 +100,11 @@ pub struct Now<'a> {
     pub open: usize,
     pub entries: u64,
     pub syncs: u64,
-    pub journal: &'a str,
+    /// The files of the journal and their bytes, and how many bytes it may have.
+    pub journal: (u64, u64),
+    pub limit: Option<u64>,
+    /// The same of the sessions files.
+    pub sessions: (u64, u64),
     pub core: u32,
     pub pools: Vec<(&'a str, [usize; 4])>,
 }
@@ -112,37 +116,20 @@ fn memory(pid: u32) -> u64 {
     line.split_whitespace().next().and_then(|word| word.parse().ok()).unwrap_or(0)
 }
 
-/// How many files the journal has, FILE or FILE and a dot and a number, and their bytes.
-fn segments(journal: &str) -> (u64, u64) {
-    let mut found = (0, 0);
-    let path = std::path::Path::new(journal);
-    let folder = path.parent().filter(|folder| !folder.as_os_str().is_empty()).unwrap_or_else(|| ".".as_ref());
-    let name = path.file_name().unwrap_or_default().to_string_lossy().into_owned();
-    for entry in std::fs::read_dir(folder).into_iter().flatten().flatten() {
-        let is_one = match entry.file_name().to_string_lossy().strip_prefix(&name[..]) {
-            Some("") => true,
-            Some(rest) => rest.len() > 1 && rest.starts_with('.') && rest[1..].bytes().all(|b| b.is_ascii_digit()),
-            None => false,
-        };
-        if let (true, Ok(meta)) = (is_one, entry.metadata()) {
-            found = (found.0 + 1, found.1 + meta.len());
-        }
-    }
-    found
-}
-
 impl Stats {
     pub fn json(&self, now: &Now) -> String {
         let pool = |(name, [free, leased, returning, kept]): &(&str, [usize; 4])| {
             format!(r#""{name}":{{"free":{free},"leased":{leased},"returning":{returning},"kept":{kept}}}"#)
         };
         let pools = now.pools.iter().map(pool).collect::<Vec<_>>().join(",");
-        let (segments, bytes) = segments(now.journal);
+        let ((segments, bytes), (files, of_sessions)) = (now.journal, now.sessions);
+        let limit = now.limit.map_or("null".to_string(), |limit| limit.to_string());
         format!(
             concat!(
                 r#"{{"sessions":{{"open":{},"opened":{},"refused":{}}},"lines":{{"core":{},"own":{},"notes":{}}},"#,
                 r#""entries":{},"syncs":{{"core":{},"sessions":{}}},"latency_us":{},"#,
-                r#""segments":{},"journal_bytes":{},"core":{{"pid":{},"memory_kib":{}}},"pools":{{{}}}}}"#
+                r#""segments":{},"journal_bytes":{},"journal_limit":{},"sessions_files":{},"sessions_bytes":{},"#,
+                r#""core":{{"pid":{},"memory_kib":{}}},"pools":{{{}}}}}"#
             ),
             now.open,
             self.opened,
@@ -156,6 +143,9 @@ impl Stats {
             self.latencies.json(),
             segments,
             bytes,
+            limit,
+            files,
+            of_sessions,
             now.core,
             memory(now.core),
             pools

@@ -14,6 +14,8 @@ pub struct Words {
     pub linger: u64,
     pub sessions: String,
     pub journal: String,
+    /// Whether the journal is in segments.
+    pub in_segments: bool,
     pub core: Vec<String>,
 }
 
@@ -42,6 +44,7 @@ impl Words {
             }
         }
         words.journal = journal(&words.core)?;
+        words.in_segments = words.core.iter().any(|word| word == "--segment" || word.starts_with("--segment="));
         if words.sessions.is_empty() {
             words.sessions = format!("{}.sessions", words.journal);
         }
@@ -89,7 +92,9 @@ mod tests {
         let text =
             "--linger 5 --users u --release-on-close --sessions k -- mls serve --names --journal=j --sessions START";
         let words = parsed(text).unwrap();
-        assert_eq!((words.socket, words.releases, words.linger), (None, true, 5));
+        assert_eq!((words.socket, words.releases, words.linger, words.in_segments), (None, true, 5, false));
+        let segments = "--users u -- mls serve --sessions --names --segment 4096 --journal j START";
+        assert!(parsed(segments).unwrap().in_segments);
         assert_eq!((&words.journal[..], &words.sessions[..]), ("j", "k"));
     }
 
