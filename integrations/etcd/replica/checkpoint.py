@@ -8,6 +8,24 @@ from .ending import REFUSED, stop
 from .sessions import Sessions
 
 EMPTY = hashlib.sha256(b"").hexdigest()
+# What stands between all other fields and the last, which is the SHA-256 of the text without it.
+SUM = ', "sum": "'
+
+
+def sum_of(text):
+    return hashlib.sha256(text.encode()).hexdigest()
+
+
+def with_sum(text):
+    return f'{text[:-1]}{SUM}{sum_of(text)}"}}'
+
+
+def without_sum(text):
+    """The text of the fields. ValueError where it isn't what its sum says."""
+    fields, _, digest = text.rpartition(SUM)
+    if digest != f'{sum_of(fields + "}")}"}}':
+        raise ValueError("it was changed, or is of a version before this one; without it all is made again")
+    return fields + "}"
 
 
 @dataclasses.dataclass
@@ -27,7 +45,7 @@ class Checkpoint:
 
     def write(self, name):
         fields = {it.name: getattr(self, it.name) for it in dataclasses.fields(self)}
-        files.put(name, json.dumps({**fields, "sessions": self.sessions.as_json()}).encode())
+        files.put(name, with_sum(json.dumps({**fields, "sessions": self.sessions.as_json()})).encode())
 
     @classmethod
     def read(cls, name, log):
@@ -36,10 +54,10 @@ class Checkpoint:
         if not text:
             return cls(log)
         try:
-            found = cls(**json.loads(text))
+            found = cls(**json.loads(without_sum(text.decode())))
             found.sessions = Sessions.of_json(found.sessions)
         except (ValueError, TypeError, KeyError, AttributeError) as fault:
-            stop(REFUSED, f"{name}: is no checkpoint: {fault!r}")
+            stop(REFUSED, f"{name}: is no checkpoint: {fault}")
         if found.log != log:
             stop(REFUSED, f"{name}: is of another log: it has {found.log}, and the log is {log}")
         return found

@@ -6,8 +6,8 @@ import subprocess
 from .ending import CORE_DIED, DISK, FILES, REFUSED, stop
 
 PIECE = 1 << 17
-# What an answer must begin with, whose it is, and the client that reads; None where the log asks.
-Due = collections.namedtuple("Due", "front session seq client")
+# What an answer must begin with, whose it is and of which line, and the client that reads; None where the log asks.
+Due = collections.namedtuple("Due", "front session seq line client")
 
 
 def version(program):
@@ -21,16 +21,16 @@ def version(program):
 class Core:
     """`mls serve` behind two pipes."""
 
-    def __init__(self, program, journal, start):
-        self.words, self.start = [program, "serve", "--sessions", "--numbers", "--recover", "--journal", journal], start
+    def __init__(self, program, start):
+        self.words, self.start = [program, "serve", "--sessions", "--numbers", "--recover", "--journal"], start
         self.child, self.lines, self.due = None, [], collections.deque()
         # (how many answers it owes to the log)
         self.owed, self.is_even = 0, asyncio.Event()
         self.is_even.set()
 
-    async def begin(self, entries, *more):
+    async def begin(self, journal, entries, *more):
         """Starts it over a journal of so many entries, with more words or without."""
-        words, pipe = [*self.words, *more, self.start], asyncio.subprocess.PIPE
+        words, pipe = [*self.words, journal, *more, self.start], asyncio.subprocess.PIPE
         self.child = await asyncio.create_subprocess_exec(*words, stdin=pipe, stdout=pipe, limit=PIECE)
         ready = await self.child.stdout.readline()
         if not ready:
@@ -40,14 +40,14 @@ class Core:
 
     def ask(self, session, seq, line):
         """Asks a line of the log."""
-        self.due.append(Due(b"%d " % session, session, seq, None))
+        self.due.append(Due(b"%d " % session, session, seq, line, None))
         self.lines.append(b"%d %s\n" % (session, line))
         self.owed += 1
         self.is_even.clear()
 
     def question(self, client, session, tag, line):
         """Asks, for a client, what a line would be answered, which changes nothing."""
-        self.due.append(Due(b"%d ? " % session, session, tag, client))
+        self.due.append(Due(b"%d ? " % session, session, tag, line, client))
         self.lines.append(b"%d ? %s\n" % (session, line))
 
     def flush(self):
@@ -58,7 +58,11 @@ class Core:
 
     async def room(self):
         """Waits while it has much to read."""
-        await self.child.stdin.drain()
+        try:
+            await self.child.stdin.drain()
+        except ConnectionError:
+            # (its status says why)
+            await self.end()
 
     async def answers(self, take):
         """Hears its answers, in order, until it ends."""

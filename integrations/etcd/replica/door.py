@@ -3,7 +3,7 @@ import asyncio
 import json
 import os
 
-from . import lines
+from . import files, lines
 from .client import Client
 
 
@@ -14,16 +14,17 @@ class Door:
         self.appender, self.stats = appender, stats
         self.reads = self.order = None
         self.is_closed = False
-        # (by session and number, and by the name of a session that is to be opened)
+        # (by session, number and line, and by the name of a session that is to be opened)
         self.waiting, self.opening = {}, {}
 
     async def begin(self, path, reads, order):
         self.reads, self.order = reads, order
-        if os.path.exists(path):
-            os.remove(path)
-        before = os.umask(0o177)
-        await asyncio.get_running_loop().create_unix_server(lambda: Client(self), path)
-        os.umask(before)
+        with files.at(path):
+            if os.path.exists(path):
+                os.remove(path)
+            before = os.umask(0o177)
+            await asyncio.get_running_loop().create_unix_server(lambda: Client(self), path)
+            os.umask(before)
 
     def close(self):
         """From now on nobody is answered."""
@@ -49,9 +50,10 @@ class Door:
 
     def request(self, client, session, seq, line):
         """Has a line asked once, whoever asked it before."""
-        self.waiting[session, seq] = client
+        line = lines.as_fed(line)
+        self.waiting[session, seq, line] = client
         if self.order.sessions.is_fed(session, seq):
-            self.order.answer_again(session, seq)
+            self.order.answer_again(session, seq, line)
         else:
             self.appender.add(lines.request(session, seq, line))
 
@@ -72,8 +74,8 @@ class Door:
                 client.sessions.add(session)
                 client.tell(b"hello %s %d\n" % (name, session))
 
-    def answered(self, session, seq, answer):
+    def answered(self, session, seq, line, answer):
         """Tells an answer to who waits for it here, if anybody does."""
-        client = self.waiting.pop((session, seq), None)
+        client = self.waiting.pop((session, seq, line), None)
         if client:
             client.tell(b"%d %d %s\n" % (session, seq, answer))

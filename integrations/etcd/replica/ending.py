@@ -17,6 +17,10 @@ def stop(status, why):
     os._exit(status)
 
 
+class WentBack(Exception):
+    """The log isn't what it was: it lacks what this machine has fed, so that no machine may go on with it."""
+
+
 class Complaints:
     """Tells of a fault that comes again and again once a second at most."""
 

@@ -43,9 +43,14 @@ def pair_of(ranged):
     return ranged.get("kvs", [None])[0]
 
 
+def value_in(pair):
+    """The value of a key. (A reply has no field for an empty one.)"""
+    return decoded(pair.get("value", ""))
+
+
 def value_of(ranged):
     pair = pair_of(ranged)
-    return decoded(pair.get("value", "")) if pair else None
+    return value_in(pair) if pair else None
 
 
 class Etcd:

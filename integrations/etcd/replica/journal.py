@@ -1,17 +1,22 @@
-"""The journal of this machine, which is computed from the log: `mls serve` writes it. Here it is read, and at a start
-cut to the last checkpoint. What stood behind that is kept until it has come out of the log again, byte for byte."""
+"""The journal of this machine, which is computed from the log: `mls serve` writes it. Here it is read. What it has
+behind its checkpoint at a start is made again from the log, in JOURNAL.again, and takes its place once all of it has
+come out again, byte for byte: until then, and where it doesn't, the journal is as it was."""
 import fcntl
 import hashlib
 import os
+import re
 import time
 
 from . import files
-from .ending import FILES, REFUSED, stop, tell
+from .ending import FILES, REFUSED, WentBack, stop, tell
 
 # Seconds that the core of a replica that was killed may take to its end.
 ORPHAN = 20
 # Digests are kept, and told to the other machines, at each so many entries.
 EVERY = 1_000
+NEWLINE = b"\n"
+# What stands behind the request of an entry.
+REPLY = re.compile(rb" (yes|no|created|undefined)\b.*", re.S)
 
 
 def whole_lines(text, entries):
@@ -24,21 +29,30 @@ def whole_lines(text, entries):
     return text[:place]
 
 
+def request_of(line):
+    """An entry without its reply."""
+    return REPLY.sub(b"", line)
+
+
 class Journal:
-    """As far as it was read: so many entries, in so many bytes, with their digest."""
+    """As far as it was read: so many entries, in so many bytes, with their digest. `live` is the file that the core
+    writes."""
 
     def __init__(self, name):
-        self.name, self.redo = name, f"{name}.redo"
+        self.name, self.again, self.live = name, f"{name}.again", name
+        # (where versions before this one kept what they had cut off the journal)
+        self.redo = f"{name}.redo"
         self.entries, self.place, self.sum = 0, 0, hashlib.sha256()
         # (the digest of the first N entries, of each N that is told to the others)
         self.digests = {}
-        # (what was cut off, from which place on)
-        self.cut, self.cut_at = b"", 0
+        # (what the journal had behind its checkpoint, and from which place on)
+        self.had, self.had_at = b"", 0
         self.own_lock = None
 
     def lock(self):
         """One replica has the journal, from here to its end; the core of one before it may still be ending."""
-        self.own_lock = open(f"{self.name}.lock", "wb")
+        with files.at(f"{self.name}.lock"):
+            self.own_lock = open(f"{self.name}.lock", "wb")
         try:
             fcntl.flock(self.own_lock, fcntl.LOCK_EX | fcntl.LOCK_NB)
         except OSError:
@@ -55,27 +69,32 @@ class Journal:
                 time.sleep(0.05)
 
     def recover(self, entries, digest):
-        """Goes on from a checkpoint, of so many entries with this digest: cuts off what stands behind them."""
-        with open(os.open(self.name, os.O_RDWR | os.O_CREAT, 0o600), "r+b") as file:
+        """Goes on from a checkpoint, of so many entries with this digest. What stands behind them is made again."""
+        with files.at(self.name), open(os.open(self.name, os.O_RDWR | os.O_CREAT, 0o600), "r+b") as file:
             self.wait_for_core(file)
             self.read(file, entries)
             if self.entries < entries:
                 stop(REFUSED, f"{self.name}: has {self.entries} entries, and its checkpoint has {entries}")
             if self.digest() != digest:
                 stop(REFUSED, f"{self.name}: differs from its checkpoint within the first {entries} entries")
-            self.keep_aside(file.read())
-            file.truncate(self.place)
-            os.fsync(file.fileno())
+            rest = file.read()
+            # (the journal has nothing that was cut off and isn't made again yet)
+            self.had, self.had_at = whole_lines(files.content(self.redo) or rest, self.entries), self.place
+            if rest:
+                files.write(self.again, files.pieces(file, self.place))
+                self.live = self.again
         files.sync_folder(self.name)
+        tell(f"going on from entry {self.entries}, {self.had.count(NEWLINE)} entries behind it are made again")
 
-    def keep_aside(self, rest):
-        """Keeps what is cut off, but where an earlier start did so and hadn't all of it again: since then the journal
-        has nothing that it lacks."""
-        before = files.content(self.redo)
-        if rest and not before:
-            files.put(self.redo, rest)
-        self.cut, self.cut_at = whole_lines(before or rest, self.entries), self.place
-        tell(f"going on from entry {self.entries}, {self.cut.count(NEWLINE)} entries behind it are made again")
+    def settle(self):
+        """What was made again is the journal from now on, and has all that the journal had."""
+        if not self.is_made_again():
+            raise WentBack(f"the journal has more than the log gives, from entry {self.entries} on: the log went back")
+        if self.live != self.name:
+            files.rename(self.again, self.name)
+            self.live = self.name
+        files.remove(self.redo)
+        self.had = b""
 
     def read(self, file, entries):
         """Reads on to so many entries, or to the end."""
@@ -92,29 +111,26 @@ class Journal:
 
     def read_to(self, entries):
         """Reads the entries that the core has answered, so they are there."""
-        with open(self.name, "rb") as file:
+        with files.at(self.live), open(self.live, "rb") as file:
             self.read(file, entries)
         if self.entries != entries:
-            stop(REFUSED, f"{self.name}: has no entry {self.entries}, which was answered")
-        # (also where only a torn end was cut off)
-        if self.is_made_again():
-            self.cut = b""
-            files.remove(self.redo)
+            stop(REFUSED, f"{self.live}: has no entry {self.entries}, which was answered")
 
     def compare(self, line):
-        """A line that stands where another was cut off must be the same."""
-        at = self.place - self.cut_at
-        if self.cut and at < len(self.cut) and self.cut[at : at + len(line)] != line:
-            had = self.cut[at:].partition(b"\n")[0]
-            stop(REFUSED, f"{self.name}: differs from the log at entry {self.entries}: it had {had!r}, and the log "
-                          f"gives {line[:-1]!r}; what it had is in {self.redo}")
+        """A line must be the same as the one that the journal had at its place. Another request there is another
+        history; the same with another reply is a fault of this machine alone."""
+        at = self.place - self.had_at
+        if not self.had or at >= len(self.had) or self.had[at : at + len(line)] == line:
+            return
+        had = self.had[at:].partition(NEWLINE)[0]
+        why = f"differs from the log at entry {self.entries}: it has {had!r}, and the log gives {line[:-1]!r}"
+        if request_of(had) != request_of(line[:-1]):
+            raise WentBack(f"the journal {why}: the log went back")
+        stop(REFUSED, f"{self.name}: {why}")
 
     def is_made_again(self):
-        """Whether all that was cut off has come out of the log."""
-        return self.place - self.cut_at >= len(self.cut)
+        """Whether all that the journal had has come out of the log."""
+        return self.place - self.had_at >= len(self.had)
 
     def digest(self):
         return self.sum.hexdigest()
-
-
-NEWLINE = b"\n"

@@ -5,12 +5,19 @@ import secrets
 import time
 
 from . import etcd, keys
-from .ending import REFUSED, Complaints, stop
+from .ending import REFUSED, Complaints, stop, tell
 from .member import Unavailable
 
 # A change of a key: at what revision of etcd, and which version of the key it made.
 Event = collections.namedtuple("Event", "key value revision version is_gone")
 FENCED = "fenced off: this machine's key was deleted, or taken by a later start of it"
+# Seconds for which a halt is tried before this replica ends without one.
+HALTING = 10
+
+
+def text_of(value):
+    """A value as text, whoever wrote it."""
+    return value.decode(errors="backslashreplace")
 
 
 def events_of(message):
@@ -18,9 +25,9 @@ def events_of(message):
     found = []
     for event in message["result"].get("events", []):
         pair = event["kv"]
-        value = etcd.decoded(pair.get("value", ""))
         version, is_gone = int(pair.get("version", 0)), event.get("type") == "DELETE"
-        found.append(Event(etcd.decoded(pair["key"]), value, int(pair["mod_revision"]), version, is_gone))
+        revision = int(pair["mod_revision"])
+        found.append(Event(etcd.decoded(pair["key"]), etcd.value_in(pair), revision, version, is_gone))
     return found
 
 
@@ -66,10 +73,14 @@ class Log:
         log = etcd.pair_of(await self.etcd.get(keys.LOG, keys_only=True))
         if pair is None:
             raise Unavailable("the log is being replaced")
-        self.config, self.first = etcd.decoded(pair["value"]), int((log or pair)["create_revision"])
+        self.config, self.first = etcd.value_in(pair), int((log or pair)["create_revision"])
         if self.config.partition(b" ")[2] != self.agreed:
-            stop(REFUSED, f"the log is of another start or program: it has {self.config.decode()}, "
-                          f"and this is {self.agreed.decode()}")
+            stop(REFUSED, f"the log is of another start or program: it has {self.name()}, and this is "
+                          f"{self.agreed.decode()}")
+
+    def name(self):
+        """What the machines have agreed on."""
+        return text_of(self.config)
 
     async def take_key(self):
         """Puts a word of its own, if nobody did meanwhile: a put that is asked for twice is done once."""
@@ -80,9 +91,9 @@ class Log:
         await self.etcd.transact(compare, [etcd.put(self.member, nonce)])
         halt = etcd.value_of(await self.etcd.get(keys.HALT))
         if halt is not None:
-            stop(REFUSED, f"halted: {halt.decode()}")
+            stop(REFUSED, f"halted: {text_of(halt)}")
         pair = etcd.pair_of(await self.etcd.get(self.member))
-        if pair and etcd.decoded(pair["value"]) == nonce:
+        if pair and etcd.value_in(pair) == nonce:
             self.nonce, self.joined = nonce, int(pair["mod_revision"])
 
     def conditions(self):
@@ -107,7 +118,7 @@ class Log:
     def stop_for(self, halt, config, nonce):
         """Ends this replica, by what it found instead of its conditions."""
         if halt is not None:
-            stop(REFUSED, f"halted: {halt.decode()}")
+            stop(REFUSED, f"halted: {text_of(halt)}")
         if config != self.config:
             stop(REFUSED, "the log was replaced by another")
         stop(REFUSED, FENCED if nonce != self.nonce else "a transaction failed without a reason")
@@ -117,10 +128,36 @@ class Log:
         pair = etcd.pair_of(await self.etcd.get(keys.LOG, keys_only=True))
         return int(pair["version"]) if pair else 0
 
+    async def head_at_last(self):
+        """The same, however long it takes."""
+        while True:
+            try:
+                return await self.head()
+            except Unavailable as fault:
+                await self.wait(fault)
+
+    async def halt(self, why):
+        """Sees to it that no machine appends to this log any more, and ends this replica. (Another log that is there
+        by now isn't halted.)"""
+        tell(f"{why}: halting all")
+        try:
+            async with asyncio.timeout(HALTING):
+                await self.put_halt(why.encode())
+        finally:
+            stop(REFUSED, f"halted: {why}")
+
+    async def put_halt(self, why):
+        while True:
+            try:
+                compare = [etcd.is_absent(keys.HALT), etcd.has_value(keys.CONFIG, self.config)]
+                return await self.etcd.transact(compare, [etcd.put(keys.HALT, why)])
+            except Unavailable as fault:
+                await self.wait(fault)
+
     async def digests(self):
         """The digest that each machine published last."""
         reply = await self.etcd.get(keys.DIGEST, range_end=etcd.encoded(keys.DIGEST[:-1] + b"0"))
-        return [(etcd.decoded(it["key"]), etcd.decoded(it["value"])) for it in reply.get("kvs", [])]
+        return [(etcd.decoded(it["key"]), etcd.value_in(it)) for it in reply.get("kvs", [])]
 
     async def put(self, key, value):
         """Puts a key, however long it takes."""
@@ -151,7 +188,7 @@ class Log:
     def take(self, event):
         """Takes a change that came after this machine had joined: some of them end it."""
         if event.key == keys.HALT and not event.is_gone:
-            stop(REFUSED, f"halted: {event.value.decode()}")
+            stop(REFUSED, f"halted: {text_of(event.value)}")
         if event.key == keys.CONFIG:
             stop(REFUSED, "the log was replaced by another")
         if event.key == self.member and event.value != self.nonce:

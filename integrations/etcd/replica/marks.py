@@ -4,7 +4,8 @@ looks at them. A checkpoint has the digest of all that they were by then, so tha
 import hashlib
 import os
 
-from .ending import DISK, REFUSED, stop
+from . import files
+from .ending import REFUSED, stop
 
 
 class Marks:
@@ -28,15 +29,14 @@ class Marks:
 
     def read(self, size):
         """Reads on, what is on the disk by then."""
-        try:
-            with open(self.name, "rb") as file:
-                os.fsync(file.fileno())
-                file.seek(self.place)
-                piece = file.read(size)
-        except FileNotFoundError:
-            return
-        except OSError as fault:
-            stop(DISK, f"{self.name}: {fault}")
+        with files.at(self.name):
+            try:
+                with open(self.name, "rb") as file:
+                    os.fsync(file.fileno())
+                    file.seek(self.place)
+                    piece = file.read(size)
+            except FileNotFoundError:
+                return
         self.sum.update(piece)
         self.place += len(piece)
 

@@ -1,11 +1,12 @@
 """The other machines, whose journals must be the same as this one's."""
 import asyncio
+import re
 
 from . import keys
-from .ending import REFUSED, stop, tell
+from .ending import REFUSED, stop
+from .log import text_of
 
-# Seconds for which a halt is tried before this replica ends without one.
-HALTING = 10
+DIGEST = re.compile(rb"([1-9][0-9]{0,17}) ([0-9a-f]{64})")
 
 
 class Peers:
@@ -37,8 +38,11 @@ class Peers:
             self.heard(event.key, event.value)
 
     def heard(self, key, value):
-        name, (entries, digest) = key[len(keys.DIGEST) :].decode(), value.decode().split(" ")
-        self.published[name] = int(entries), digest
+        found = DIGEST.fullmatch(value)
+        if not found:
+            stop(REFUSED, f"{text_of(key)}: is no digest: {text_of(value)[:200]!r}")
+        name = text_of(key[len(keys.DIGEST) :])
+        self.published[name] = int(found[1]), found[2].decode()
         self.compare(name)
 
     def compare(self, name):
@@ -47,12 +51,4 @@ class Peers:
         if own and own != digest and not self.halting:
             self.close_door()
             why = f"{self.name} and {name} differ in the first {entries} entries"
-            self.halting = asyncio.create_task(self.halt(why))
-
-    async def halt(self, why):
-        """Sees to it that no machine appends any more."""
-        tell(f"{why}: halting all")
-        try:
-            await asyncio.wait_for(self.log.put(keys.HALT, why.encode()), HALTING)
-        finally:
-            stop(REFUSED, f"halted: {why}")
+            self.halting = asyncio.create_task(self.log.halt(why))

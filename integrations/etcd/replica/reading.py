@@ -4,7 +4,7 @@ import asyncio
 import sys
 
 from . import etcd, keys, lines, sessions, words
-from .ending import FILES, stop
+from .ending import FILES, REFUSED, stop
 from .log import check_watch, events_of
 from .member import Unavailable
 
@@ -25,7 +25,7 @@ class Reader:
             config = etcd.pair_of(await self.etcd.get(keys.CONFIG))
             if not config:
                 stop(FILES, "etcd has no log")
-            say(b"0 ; log " + etcd.decoded(config["value"]))
+            say(b"0 ; log " + etcd.value_in(config))
             if pair:
                 await self.read(int(pair["create_revision"]), int(pair["version"]))
         except Unavailable as fault:
@@ -44,10 +44,14 @@ class Reader:
                 self.show(event.value)
 
     def show(self, batch):
-        for record in lines.records(batch):
+        try:
+            records = lines.records(batch)
+        except ValueError:
+            stop(REFUSED, f"mls/log: batch {self.number} is none that a replica writes")
+        for record in records:
             if len(record) == 1:
                 say(b"0 ; session %d %s" % (self.sessions.open(record[0]), record[0]))
-            elif self.sessions.judge(*record[:2]) == sessions.FEED and lines.has_answer(record[2]):
+            elif self.sessions.judge(*record) == sessions.FEED and lines.has_answer(record[2]):
                 say(b"%d %s" % (record[0], record[2]))
 
 

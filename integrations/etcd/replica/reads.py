@@ -2,7 +2,6 @@
 import asyncio
 import time
 
-from .ending import REFUSED, stop
 from .member import Unavailable
 
 # How many seconds behind the log a local answer may be, by this machine's own clock; how often the log is looked at.
@@ -42,7 +41,7 @@ class Reads:
         began, before = now(), self.order.number
         head = await self.log.head()
         if head < before:
-            stop(REFUSED, f"the log went back: it ends with batch {head}, and batch {before} was fed")
+            self.order.has_reached(head)
         await self.order.until(head)
         self.fresh = max(self.fresh, began)
 

@@ -8,7 +8,7 @@ from . import files
 from .appender import Appender
 from .core import Core
 from .door import Door
-from .ending import CORE_DIED, FILES, REFUSED, stop, tell
+from .ending import CORE_DIED, FILES, WentBack, stop, tell
 from .etcd import Etcd
 from .journal import Journal
 from .log import Log
@@ -34,7 +34,7 @@ class Replica:
 
     def __init__(self, words):
         self.words, self.journal, self.marks = words, Journal(words.journal), Marks(words.journal)
-        self.log, self.core = log_of(words), Core(words.program, words.journal, words.start)
+        self.log, self.core = log_of(words), Core(words.program, words.start)
         self.appender = Appender(self.log)
         self.door = Door(self.appender, self.stats)
         self.peers = Peers(self.log, self.journal, words.name, self.door.close)
@@ -44,7 +44,7 @@ class Replica:
     def stats(self):
         """What an operator may ask."""
         order = self.order
-        return {"name": self.words.name, "log": self.log.config.decode(), "batch": order.number,
+        return {"name": self.words.name, "log": self.log.name(), "batch": order.number,
                 "entries": order.entries, "checkpoint": order.saved, "sessions": len(order.sessions.known),
                 "batches of this machine": self.appender.batches, "waiting": len(self.appender.waiting),
                 "bytes under way": self.appender.under_way, "owed": self.core.owed}
@@ -54,24 +54,30 @@ class Replica:
             asyncio.get_running_loop().add_signal_handler(number, lambda: stop(0, "told to end"))
         self.journal.lock()
         await self.log.join()
-        self.order.begin()
-        await self.core.begin(self.order.entries)
-        await beside(self.make_again(), self.core.answers(self.order.answered))
-        await self.core.relieve()
-        await self.core.begin(self.order.entries, "--marks", self.marks.name)
-        self.marks.are_kept = True
-        await beside(self.serve(), self.core.answers(self.order.answered), self.follow())
+        try:
+            await self.go_on()
+            await self.core.begin(self.journal.name, self.order.entries, "--marks", self.marks.name)
+            self.marks.are_kept = True
+            await beside(self.serve(), self.core.answers(self.order.answered), self.follow())
+        except WentBack as fault:
+            await self.log.halt(str(fault))
 
     def follow(self):
         return self.log.follow(self.order.place, self.order.take)
 
-    async def make_again(self):
-        """Feeds what the log has now, to a core without marks, and sees that all came out which the journal had."""
-        await beside(self.reach_head(), self.follow(), self.reads.look())
+    async def go_on(self):
+        """Goes on from the checkpoint with what the log has now, by a core without marks. The journal is another file
+        only once all has come out again that it had."""
+        await self.order.begin()
+        await self.core.begin(self.journal.live, self.order.entries)
+        await beside(self.make_again(), self.core.answers(self.order.answered))
+        await self.core.relieve()
+        self.journal.settle()
         await self.order.save()
-        if self.journal.cut:
-            stop(REFUSED, f"the journal had more than the log gives, from entry {self.order.entries} on: what it had "
-                          f"is in {self.journal.redo}")
+
+    async def make_again(self):
+        await beside(self.reach_head(), self.follow(), self.reads.look())
+        await self.order.even()
 
     async def reach_head(self):
         while True:
@@ -94,6 +100,8 @@ async def beside(deed, *parts):
     tasks = [asyncio.create_task(it) for it in (deed, *parts)]
     done, running = await asyncio.wait(tasks, return_when=asyncio.FIRST_COMPLETED)
     for task in done:
+        if isinstance(task.exception(), WentBack):
+            raise task.exception()
         if task.exception() or task is not tasks[0]:
             task.print_stack()
             stop(CORE_DIED, f"a part has ended: {task.exception()!r}")

@@ -39,6 +39,15 @@ def comes(what, seconds=SECONDS, why=""):
     return found
 
 
+def child_of(pid):
+    """The first child of a process; 0 where there is none."""
+    try:
+        with open(f"/proc/{pid}/task/{pid}/children", encoding="ascii") as file:
+            return int((file.read().split() or ["0"])[0])
+    except OSError:
+        return 0
+
+
 class Machine:
     """Machine K."""
 
@@ -114,11 +123,7 @@ class Machine:
 
     def core(self):
         """The process of mls serve; 0 where there is none."""
-        try:
-            with open(f"/proc/{self.replica.pid}/task/{self.replica.pid}/children", encoding="ascii") as file:
-                return int((file.read().split() or ["0"])[0])
-        except OSError:
-            return 0
+        return child_of(self.replica.pid)
 
     def kill(self, what):
         run = getattr(self, what)

@@ -1,6 +1,7 @@
 """The machines' network: a namespace for each, with a bridge between them, where that can be made; else ports of the
 loopback, where no machine can be cut off."""
 import os
+import socket
 import subprocess
 import tempfile
 
@@ -80,6 +81,13 @@ class Loopback:
 
     def peers(self, k):
         return f"127.0.0.1:{self.base + 2 * k + 1}"
+
+
+def free_port():
+    """A port of the loopback that nobody has."""
+    with socket.socket() as sock:
+        sock.bind(("127.0.0.1", 0))
+        return sock.getsockname()[1]
 
 
 def network():

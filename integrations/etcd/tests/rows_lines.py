@@ -1,4 +1,7 @@
 """What a client writes and is answered."""
+import os
+import signal
+
 from mls_replica_client import Session
 from world import exchange
 
@@ -38,7 +41,36 @@ def test_a_request_is_asked_once(world):
         answered = exchange(third, "hello once", f"{{0}} {number} sec release write root")[1]
         assert answered.startswith(f"{session} {number} yes "), answered
     assert exchange(first, "hello once", "{0} 2 sec get-write root")[1] == f"{session} 2 too old"
-    assert exchange(first, "hello once", "{0} 10 sec get-write root")[1] == answered
+    assert exchange(first, "hello once", "{0} 10 sec release write root")[1] == answered
+
+
+def test_another_line_under_a_used_number(world):
+    """It is refused, on each machine: while the first is still owed, when it is answered, and after a start."""
+    machine = world.machines[0]
+    session = exchange(machine.socket, "hello other")[0].split()[2]
+    core = machine.core()
+    with machine.connected() as one, machine.connected() as two:
+        texts = [it.makefile() for it in (one, two)]
+        for it, text in zip((one, two), texts):
+            it.sendall(b"hello other\n")
+            assert text.readline().split()[2] == session
+        os.kill(core, signal.SIGSTOP)
+        try:
+            one.sendall(f"{session} 1 aud get-read plans\n".encode())
+            two.sendall(f"{session} 1 ann frob\n".encode())
+            two.settimeout(30)
+            assert texts[1].readline() == f"{session} 1 another line\n"
+        finally:
+            os.kill(core, signal.SIGCONT)
+        answered = texts[0].readline().rstrip("\n")
+    assert answered.startswith(f"{session} 1 ") and "line" not in answered, answered
+    machine.end_replica()
+    machine.begin_replica()
+    machine.serves()
+    for at in world.sockets():
+        asked = ["hello other", "{0} 1 ann frob", "{0} 1 ; aud get-read plans", "{0} 1 aud get-read plans"]
+        found = exchange(at, *asked)[1:]
+        assert found == [f"{session} 1 another line", f"{session} 1 another line", answered], found
 
 
 def test_many_at_once(world):

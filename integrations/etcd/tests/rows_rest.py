@@ -8,6 +8,7 @@ from machine import MLS, TOP, comes
 from mls_replica_client import Session
 
 CHANGED = "aud get-read #77"
+NEWLINE = b"\n"
 OTHER_START = f"{TOP}/examples/reused.json"
 
 
@@ -59,14 +60,26 @@ def test_a_forged_reply_is_refused(world):
     machine.is_refused(f"differs from its checkpoint within the first {count} entries")
     number, forged = with_forged(journal, count)
     put(machine.journal, forged)
-    machine.is_refused(f"differs from the log at entry {number}: it had", "what it had is in")
-    with open(f"{machine.journal}.redo", "rb") as file:
-        assert forged.endswith(file.read())
-    # (and again: what it had isn't forgotten)
-    machine.is_refused(f"differs from the log at entry {number}")
-    for name in ("", ".checkpoint", ".redo"):
+    # (and again: the journal is as it was)
+    for _ in range(2):
+        machine.is_refused(f"{machine.journal}: differs from the log at entry {number}: it has")
+        assert machine.entries() == forged, "a refused start has changed the journal"
+    for name in ("", ".checkpoint"):
         os.remove(machine.journal + name)
     is_mended(world, machine)
+
+
+def test_what_an_earlier_version_had_cut_off(world):
+    """JOURNAL.redo is compared too, and goes once all of it has come out again."""
+    machine = ended(world)
+    journal, count = machine.entries(), checkpoint(machine)["entries"]
+    place = sum(map(len, journal.splitlines(keepends=True)[:count]))
+    put(f"{machine.journal}.redo", with_forged(journal, count)[1][place:])
+    put(machine.journal, journal[: place + 20])
+    machine.is_refused("differs from the log at entry")
+    put(f"{machine.journal}.redo", journal[place:])
+    is_mended(world, machine)
+    assert not os.path.exists(f"{machine.journal}.redo") and machine.entries().startswith(journal)
 
 
 def test_a_cut_journal(world):
@@ -83,16 +96,47 @@ def test_a_cut_journal(world):
         put(machine.journal, b"".join(rest))
         is_mended(world, machine)
         machine.end_replica()
-        assert not os.path.exists(f"{machine.journal}.redo")
         # (also where nothing but a torn end stands behind it)
         put(machine.journal, journal + b"17 rubbish")
         is_mended(world, machine)
         machine.end_replica()
-        assert not os.path.exists(f"{machine.journal}.redo")
-    put(machine.journal, journal + b"%d 1 0 get-read 1 yes\n" % len(lines))
-    machine.is_refused(f"the journal had more than the log gives, from entry {len(lines)} on")
-    for name in ("", ".checkpoint", ".redo"):
-        os.remove(machine.journal + name)
+        assert not os.path.exists(f"{machine.journal}.again")
+    machine.begin_replica()
+    machine.serves()
+
+
+def test_a_journal_with_more_than_the_log(world):
+    """It isn't cut, and all machines end: whoever has less may have another history."""
+    machine = ended(world)
+    journal = machine.entries()
+    more = journal + b"%d 1 0 get-read 1 yes\n" % journal.count(b"\n")
+    put(machine.journal, more)
+    for it in world.machines:
+        it.forget_told()
+    machine.is_refused(f"the journal has more than the log gives, from entry {journal.count(NEWLINE)} on")
+    assert machine.entries() == more, "a refused start has changed the journal"
+    for it in world.machines:
+        it.has_refused("halted: the journal has more than the log gives")
+    put(machine.journal, journal)
+    world.etcdctl("del", "mls/halt", check=True)
+    world.begin_replicas()
+    world.are_same()
+
+
+def test_a_checkpoint_that_was_changed_is_refused(world):
+    """Its sessions too: a count that is raised by one would have the next request skipped."""
+    machine = ended(world)
+    name = f"{machine.journal}.checkpoint"
+    with open(name, encoding="utf-8") as file:
+        before = file.read()
+    text = json.loads(before)
+    number, who, last, answers = text["sessions"]["known"][-1]
+    raised = before.replace(f'[{number}, "{who}", {last}, ', f'[{number}, "{who}", {last + 1}, ')
+    assert raised != before and answers
+    for changed in (raised, before.replace('"next": ', '"next": 1'), before.replace("yes", "no", 1), before[:-9], "{}"):
+        put(name, changed.encode())
+        machine.is_refused(f"{name}: is no checkpoint")
+    put(name, before.encode())
     is_mended(world, machine)
 
 
@@ -191,7 +235,6 @@ def test_a_log_that_is_cut_off(world):
     machine.is_refused("the log is cut off before this machine's place")
     for name in (".checkpoint", ".marks", ""):
         shutil.copy(other.journal + name, machine.journal + name)
-    os.remove(f"{machine.journal}.redo")
     is_mended(world, machine)
     other.end_replica()
     is_mended(world, other)

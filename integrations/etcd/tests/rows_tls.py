@@ -1,11 +1,11 @@
 """etcd that only who has a certificate may ask, as DEPLOYING-ETCD.md has it."""
 import os
 import shutil
-import socket
 import subprocess
 
 from machine import MLS, SOURCE, comes
 from mls_replica_client import Session
+from network import free_port
 
 USES = "subjectAltName=IP:127.0.0.1\nextendedKeyUsage=serverAuth,clientAuth\n"
 
@@ -23,12 +23,6 @@ def certified(folder):
         file.write(USES)
     openssl(folder, "x509", "-req", "-in", "m1.request", "-CA", "ca.pem", "-CAkey", "ca.key", "-CAcreateserial",
             "-out", "m1.pem", "-extfile", "uses")
-
-
-def free_port():
-    with socket.socket() as sock:
-        sock.bind(("127.0.0.1", 0))
-        return sock.getsockname()[1]
 
 
 def begun(folder, words):

@@ -5,14 +5,22 @@ import os
 import stat
 
 from filter import digest_of
-from stop import DIFFERS, Stop
+from stop import DIFFERS, WORDS, Stop
 
 # Why a message can't be opened.
 FAULTS = {errno.ELOOP: "link", errno.ENXIO: "no-file", errno.EACCES: "unreadable"}
 
 
+# What comes of something that has a name in the low folder, and isn't to be taken away.
+OBSTACLES = (errno.EEXIST, errno.EISDIR, errno.EPERM)
+
+
 class Unfit(Exception):
     """A message isn't copied, for this reason."""
+
+
+class Blocked(Exception):
+    """Something lies in a message's way in the low folder: this is its name."""
 
 
 class Deeds:
@@ -29,6 +37,8 @@ class Deeds:
         try:
             high.move(self.name, spool, self.raw)
         except FileNotFoundError:
+            if high.status(self.name):
+                raise
             # (its sender has taken it back)
             return "gone"
         except PermissionError:
@@ -79,24 +89,59 @@ class Deeds:
 
     def stage(self, new):
         """Makes the file in the low folder, under a name that nobody looks at yet."""
-        self.is_free(new)
+        low = self.guard.low
         with open(self.guard.spool.opened(self.copy), "rb") as file:
             message = file.read()
         if digest_of(message) != self.checked_digest():
             raise Stop(DIFFERS, f"{self.guard.spool.path}/{self.copy}: is not what was checked")
-        self.guard.low.put("." + new, 0o644, message)
+        if low.status(new):
+            raise Blocked(new)
+        try:
+            low.put("." + new, 0o644, message)
+        except OSError as fault:
+            if fault.errno not in OBSTACLES or fault.errno == errno.EPERM and not low.status("." + new):
+                raise
+            raise Blocked("." + new) from fault
 
     def publish(self, new):
         """Gives the file its name. A file that isn't there has got it before a crash, and may have been read and taken
         away since."""
         low = self.guard.low
-        if low.status("." + new):
-            self.is_free(new)
-            low.move("." + new, low, new)
+        if not low.status("." + new):
+            return
+        try:
+            low.name_new("." + new, new)
+        except FileNotFoundError:
+            # (it was taken away just now)
+            return
+        except FileExistsError as fault:
+            if not self.has_come(new):
+                raise Blocked(new) from fault
+            self.withdraw(new)
+        except OSError as fault:
+            if fault.errno not in (errno.EINVAL, errno.ENOSYS):
+                raise
+            raise Stop(WORDS, f"{low.path}: its file system has no rename that replaces nothing") from fault
 
-    def is_free(self, new):
-        if self.guard.low.status(new):
-            raise Stop(DIFFERS, f"{self.guard.low.path}/{new}: is there already")
+    def has_come(self, new):
+        """Whether it has its name in the low folder already, since before a crash."""
+        try:
+            fd = self.guard.low.opened(new)
+        except OSError:
+            return False
+        with open(fd, "rb", closefd=False) as file:
+            is_file = stat.S_ISREG(os.fstat(fd).st_mode)
+            found = file.read(self.guard.limit + 1) if is_file else b""
+        os.close(fd)
+        return is_file and digest_of(found) == self.checked_digest()
+
+    def withdraw(self, new):
+        """Leaves nothing of it in the low folder, but what isn't its own."""
+        try:
+            self.guard.low.remove("." + new)
+        except OSError as fault:
+            if fault.errno not in OBSTACLES:
+                raise
 
     def set_aside(self, name):
         if self.guard.spool.status(name):

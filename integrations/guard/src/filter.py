@@ -5,7 +5,7 @@ import os
 import signal
 import subprocess
 
-from stop import AGAIN, Stop
+from stop import AGAIN, DIFFERS, Stop
 
 
 class Filter:
@@ -20,6 +20,8 @@ class Filter:
             with open(self.program, "rb") as file:
                 digest = digest_of(file.read())
             run = self.begun(message)
+        except FileNotFoundError as fault:
+            raise Stop(DIFFERS, f"{fault.filename}: is gone") from fault
         except OSError as fault:
             raise Stop(AGAIN, f"{fault.filename}: {fault.strerror}") from fault
         try:

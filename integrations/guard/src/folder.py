@@ -1,9 +1,20 @@
 """A folder, held open from the beginning. No link in it is followed, and what was changed in it is on the disk by the
 time a call returns."""
+import ctypes
 import os
 import stat
 
 from stop import sync, write_all
+
+LIBC = ctypes.CDLL(None, use_errno=True)
+NOREPLACE = 1
+
+
+def rename_new(old, new, fd):
+    """Renames within a folder. Where the new name is there, whatever it is, this is a FileExistsError."""
+    if LIBC.renameat2(fd, os.fsencode(old), fd, os.fsencode(new), NOREPLACE):
+        number = ctypes.get_errno()
+        raise OSError(number, os.strerror(number), new)
 
 
 class Folder:
@@ -12,6 +23,15 @@ class Folder:
 
     def sync(self):
         sync(self.fd, self.path)
+
+    def is_there(self):
+        """Whether its path still leads to it."""
+        try:
+            found = os.stat(self.path)
+        except OSError:
+            return False
+        here = os.fstat(self.fd)
+        return (found.st_dev, found.st_ino) == (here.st_dev, here.st_ino)
 
     def names(self):
         """The names in it, but those that begin with a dot: such a file isn't whole yet."""
@@ -37,6 +57,11 @@ class Folder:
         folder.sync()
         if folder is not self:
             self.sync()
+
+    def name_new(self, old, new):
+        """Gives a file a name that nothing has yet."""
+        rename_new(old, new, self.fd)
+        self.sync()
 
     def remove(self, name):
         try:

@@ -9,7 +9,7 @@ from folder import Folder
 from log import Log
 from message import Message
 from service import Service
-from stop import DENIED, WORDS, Stop
+from stop import DENIED, DIFFERS, WORDS, Stop
 
 
 class Guard:
@@ -35,8 +35,15 @@ class Guard:
     def part(self, name):
         """A folder within the state."""
         if not self.state.status(name):
+            # (what was taken is in the spool)
+            if name == "spool" and self.log.session:
+                raise Stop(DIFFERS, f"{self.state.path}/{name}: is gone")
             os.mkdir(name, 0o700, dir_fd=self.state.fd)
         return Folder(f"{self.state.path}/{name}")
+
+    def spool_is_there(self):
+        if not self.spool.is_there():
+            raise Stop(DIFFERS, f"{self.spool.path}: is gone")
 
     def ask(self, session, request):
         """Asks the monitor. Nothing more is done once it said no."""
@@ -51,6 +58,13 @@ class Guard:
 
     def run(self, once, every):
         """Moves what there is and what comes, until it is told to end; or what there is, once."""
+        try:
+            self.moves(once, every)
+        except OSError:
+            self.spool_is_there()
+            raise
+
+    def moves(self, once, every):
         for number in (signal.SIGTERM, signal.SIGINT):
             signal.signal(number, lambda *_: os.write(self.ending[1], b"."))
         self.log.judge(self.service.next)
@@ -62,6 +76,7 @@ class Guard:
             for name in self.messages():
                 if self.is_told_to_end(0):
                     break
+                self.spool_is_there()
                 session = self.log.next()
                 self.tell(session, "opened", quoted(name))
                 Message(self, session, name).live()

@@ -6,7 +6,7 @@ request that has no entry. What a deed found out, and the life depends on, is in
 """
 import collections
 
-from deeds import Deeds
+from deeds import Blocked, Deeds
 from stop import DIFFERS, Stop
 
 
@@ -91,8 +91,26 @@ class Message:
         self.ask(f"relabeller give read writer {self.object}")
         self.ask(f"writer get-read {self.object}")
         self.ask("writer get-append inbox")
-        self.do(self.deeds.stage, new)
+        self.lay(self.deeds.stage, new)
         self.ask(f"writer release read {self.object}")
-        self.do(self.deeds.publish, new)
+        self.lay(self.deeds.publish, new)
         self.ask("writer release append inbox")
-        return f"delivered {new}"
+        return self.turned_back(new) if "blocked" in self.guard.log.lines else f"delivered {new}"
+
+    def lay(self, deed, new):
+        """Does a deed in the low folder, as `do`. Where something lies in its way, the log says so from then on, and
+        nothing more is laid there."""
+        if self.granted or "blocked" in self.guard.log.lines:
+            return
+        try:
+            deed(new)
+        except Blocked as place:
+            self.guard.tell(self.session, "blocked", str(place))
+
+    def turned_back(self, new):
+        """What was let go, and doesn't get into the low folder, is kept with those that were refused."""
+        self.do(self.deeds.withdraw, new)
+        self.ask(f"checker get-read {self.object}")
+        self.set_aside("checker", self.deeds.copy)
+        self.ask(f"checker release read {self.object}")
+        return "refused"

@@ -1,10 +1,11 @@
 """Runs the guard, and lets it die at one of its calls on files, or before one of its requests.
 
-    crashing.py PLACE kill | lose WORD ..
+    crashing.py PLACE kill | lose | kill-late | lose-late WORD ..
 
 PLACE is the number of the call or request, or a text that is in the request or in what is written. With `kill` it dies
 as by kill -9: what was done is there. With `lose` the machine dies: what was done and not synced is undone, names and
-bytes. Either way the service, which has synced what it answered, ends with its input. A request that is asked while
+bytes. With `-late` a file of somebody else appears in the low folder just before a message gets its name there, and
+has that name. Either way the service, which has synced what it answered, ends with its input. A request that is asked while
 something isn't synced is a fault of its own: status 99. Where there is no such place the guard ends as it would, and
 says how many calls there were.
 """
@@ -16,7 +17,7 @@ import sys
 
 sys.dont_write_bytecode = True
 GUARD = f"{os.path.dirname(os.path.dirname(os.path.realpath(__file__)))}/guard"
-PLACE, MODE = sys.argv[1:3]
+PLACE, MODE, LATE = sys.argv[1], *(sys.argv[2].split("-") + [""])[:2]
 REAL = {name: getattr(os, name) for name in ("open", "write", "rename", "unlink", "fsync", "mkdir", "ftruncate")}
 # Of what isn't synced: what has to be synced for it, and how it is undone.
 PENDING = []
@@ -76,8 +77,24 @@ def write(fd, data):
 def rename(old, new, *, src_dir_fd=None, dst_dir_fd=None):
     call()
     before, after = place(old, src_dir_fd), place(new, dst_dir_fd)
+    appears(after)
     REAL["rename"](old, new, src_dir_fd=src_dir_fd, dst_dir_fd=dst_dir_fd)
     pend([os.path.dirname(before), os.path.dirname(after)], lambda: REAL["rename"](after, before))
+
+
+def renamed_new(old, new, fd):
+    call()
+    before, after = place(old, fd), place(new, fd)
+    appears(after)
+    rename_new(old, new, fd)
+    pend([os.path.dirname(after)], lambda: REAL["rename"](after, before))
+
+
+def appears(path):
+    """Somebody else lays a file where a message is to come."""
+    if LATE and os.path.basename(path).isdigit() and "/low" in path and not os.path.lexists(path):
+        with open(path, "wb") as file:
+            file.write(b"mine")
 
 
 def unlink(path, *, dir_fd=None):
@@ -132,8 +149,10 @@ for NAME, CALL in (("open", opened), ("write", write), ("rename", rename), ("unl
                    ("mkdir", mkdir), ("ftruncate", ftruncate)):
     setattr(os, NAME, CALL)
 sys.path.insert(0, f"{os.path.dirname(GUARD)}/src")
+import folder
 import service
 
+rename_new, folder.rename_new = folder.rename_new, renamed_new
 service.Service.ask = asked(service.Service.ask)
 sys.argv = [GUARD, *sys.argv[3:]]
 try:

@@ -20,6 +20,10 @@ LIVES = {
     "unfit": ENTERS + COPIES + [
         "reader get-append refused", "reader release append refused", "reader release append #6",
         "reader release write outbox"] + LEAVES,
+    "blocked": ENTERS + COPIES + CHECKS + [
+        "checker release read #6", "relabeller relabel #6 low", "relabeller give read writer #6", "writer get-read #6",
+        "writer get-append inbox", "writer release read #6", "writer release append inbox", "checker get-read #6",
+        "checker get-append refused", "checker release append refused", "checker release read #6"] + LEAVES,
     "gone": ENTERS + ["reader release write outbox"] + LEAVES,
 }
 
@@ -34,8 +38,12 @@ def judge(world, may_pass=lambda message: SECRET not in message):
     told = lives(world)
     same(sorted(told), sorted(world.sent))
     down = {name: it["closed"][1] for name, it in told.items() if it["closed"][0] == "delivered"}
-    same(sorted(down), sorted(name for name, message in world.sent.items() if may_pass(message)))
-    same(sorted(down.values()), [f"{number:010}" for number in range(1, len(down) + 1)])
+    passed = [name for name, message in world.sent.items() if may_pass(message)]
+    same(sorted(down), sorted(set(passed) - world.blocked))
+    same({name for name, it in told.items() if "blocked" in it}, world.blocked)
+    lows = sorted(told[name]["verdict"][1] for name in passed)
+    same(lows, [f"{number:010}" for number in range(1, len(lows) + 1)])
+    same(down, {name: told[name]["verdict"][1] for name in down})
     same(world.received, {low: world.sent[name] for name, low in down.items()})
     kept = {it["session"]: world.sent[name] for name, it in told.items() if it["closed"][0] == "refused"}
     same({name: content(f"{world.state}/refused/{name}") for name in os.listdir(f"{world.state}/refused")}, kept)
@@ -50,7 +58,8 @@ def lives(world):
     found, granted = {}, world.granted()
     for session, told in world.messages().items():
         end = told["closed"][0]
-        same(granted[session], LIVES["unfit" if told.get("copied", "-")[0] == "unfit" else end])
+        kind = "unfit" if told.get("copied", "-")[0] == "unfit" else "blocked" if "blocked" in told else end
+        same(granted[session], LIVES[kind])
         if end != "gone":
             name = os.fsdecode(urllib.parse.unquote_to_bytes(told["opened"][0]))
             assert name not in found, f"{name} was taken twice"
@@ -60,7 +69,8 @@ def lives(world):
 
 def is_empty(world):
     """Nothing is under way: in no folder, and in the monitor's state."""
-    same((os.listdir(f"{world.state}/spool"), os.listdir(world.low), os.listdir(world.high)), ([], [], []))
+    low = sorted(os.listdir(world.low))
+    same((os.listdir(f"{world.state}/spool"), low, os.listdir(world.high)), ([], sorted(world.obstacles), []))
     put(f"{world.folder}/empty", b"")
     now = mls("state", world.start, f"{world.state}/journal")
     same(now, mls("state", world.start, f"{world.folder}/empty"))

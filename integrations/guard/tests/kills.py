@@ -93,30 +93,41 @@ def interrupted(world):
                for before, what in zip(lines, lines[1:]))
 
 
-MESSAGES = {"passes": b"lunch", "refused": b"a SECRET", "unfit": 300 * b"long"}
+MESSAGES = {"passes": b"lunch", "refused": b"a SECRET", "unfit": 300 * b"long", "blocked": b"lunch",
+            "blocked late": b"lunch"}  # fmt: skip
 
 
-def calls_of(message):
-    """How many calls a run has that moves one message, or that moves none."""
+def send(world, name):
+    """Sends a message, with what lies in its way."""
+    world.send(name, MESSAGES[name])
+    if name == "blocked":
+        world.obstruct("0000000001", name)
+    if name == "blocked late":
+        world.late = True
+        world.obstacles.add("0000000001")
+        world.blocked.add(name)
+
+
+def calls_of(name):
+    """How many calls a run has that moves one message."""
     with World() as world:
-        if message is not None:
-            world.send("m", message)
-        status, said = world.run("--limit", "1000", before=crashing(0, "kill"))
+        send(world, name)
+        status, said = world.run("--limit", "1000", before=crashing(0, "kill", world.late))
         same((status, world.log()[-1][1]), (0, "ended"))
         return int(re.search(r"calls (\d+)", said)[1])
 
 
-def dies_at(number, mode, name, message):
+def dies_at(number, mode, name):
     """The guard dies at a call, and goes on; and dies again as it goes on, at some other call."""
     goes_on()
     with World() as world:
-        world.send(name, message)
+        send(world, name)
         for at in (number, random.Random(number).randrange(1, number + 1)):
-            status, said = world.run("--limit", "1000", before=crashing(at, mode))
+            status, said = world.run("--limit", "1000", before=crashing(at, mode, world.late))
             assert status in (0, -signal.SIGKILL), f"{mode} at {at}: {status}: {said}"
             if at % 2:
                 world.receive()
-        status, said = world.run("--limit", "1000", before=crashing(0, mode))
+        status, said = world.run("--limit", "1000", before=crashing(0, mode, world.late))
         assert status == 0, f"{mode} at {number}: {status}: {said}"
         try:
             judge(world, lambda message: message == MESSAGES["passes"])
@@ -126,8 +137,8 @@ def dies_at(number, mode, name, message):
 
 def deaths(modes, step):
     """At each call, or at each of so many."""
-    cases = [(number, mode, name, message) for mode in modes for name, message in MESSAGES.items()
-             for number in range(1, calls_of(message) + 1)]
+    cases = [(number, mode, name) for mode in modes for name in MESSAGES
+             for number in range(1, calls_of(name) + 1)]
     with concurrent.futures.ThreadPoolExecutor(len(os.sched_getaffinity(0))) as pool:
         for done in [pool.submit(dies_at, *case) for case in cases[::step]]:
             done.result()

@@ -61,9 +61,24 @@ def test_a_filter_that_cannot_be_run(_):
     with World() as world:
         world.send("m", b"lunch")
         put(f"{world.folder}/text", b"x")
-        for program in (f"{world.folder}/none", world.folder, f"{world.folder}/text"):
+        for program in (world.folder, f"{world.folder}/text"):
             status, said = world.run(filter_program=program)
             same((program, status, said.startswith("guard: ")), (program, 1, True))
+            world.nothing_moved()
+        assert "verdict" not in world.told(1)
+        same(world.run(), (0, ""))
+        judge(world)
+
+
+def test_a_filter_that_is_gone(_):
+    """Or its box, or what its first line names: somebody has to look."""
+    with World() as world:
+        world.send("m", b"lunch")
+        put(f"{world.folder}/script", f"#!{world.folder}/none\n".encode(), 0o755)
+        none, script = f"{world.folder}/none", f"{world.folder}/script"
+        for said, flags, how in ((none, (), {"filter_program": none}), (none, ("--", none), {}),
+                                 (script, (), {"filter_program": script})):
+            same(world.run(*flags, **how), (3, f"guard: {said}: is gone\n"))
             world.nothing_moved()
         assert "verdict" not in world.told(1)
         same(world.run(), (0, ""))

@@ -3,6 +3,7 @@ import os
 import shutil
 import signal
 import socket
+import stat
 import subprocess
 
 from judging import LIVES, judge
@@ -135,18 +136,118 @@ def test_a_file_that_its_sender_still_has_open(_):
         judge(world)
 
 
+def full_folder(path):
+    os.mkdir(path)
+    put(f"{path}/x", b"mine")
+
+
+# What somebody lays into the low folder.
+OBSTACLES = [lambda path: put(path, b"mine"), os.mkdir, full_folder, os.mkfifo,
+             lambda path: os.symlink("nowhere", path), lambda path: os.symlink("/etc/passwd", path)]
+
+
+def tree(folder):
+    """What is in a folder, with what each link says and each file has."""
+    found = {}
+    for where, folders, names in os.walk(folder):
+        for path in (f"{where}/{name}" for name in (*folders, *names)):
+            mode = os.lstat(path).st_mode
+            text = os.readlink(path) if stat.S_ISLNK(mode) else content(path) if stat.S_ISREG(mode) else b""
+            found[os.path.relpath(path, folder)] = mode, text
+    return found
+
+
 def test_a_name_that_is_low_already(_):
-    """Nothing is written over."""
-    for when in ("writer get-append", "release append inbox"):
+    """Whatever it is, it stays as it is; that message is kept with the refused ones, and the next goes on."""
+    for make in OBSTACLES:
         with World() as world:
+            world.obstruct("0000000001", "m", make)
+            before = tree(world.low)
             world.send("m", b"lunch")
-            world.dies("writer release read")
-            put(f"{world.low}/0000000001", b"mine")
-            same(world.run(), (3, f"guard: {world.low}/0000000001: is there already\n"))
-            same(content(f"{world.low}/0000000001"), b"mine")
-            os.remove(f"{world.low}/0000000001")
+            world.send("n", b"dinner")
+            same(world.run(), (0, ""))
+            same((world.told(1)["blocked"], world.told(1)["closed"]), (["0000000001"], ["refused"]))
+            judge(world)
+            same((world.received, tree(world.low)), ({"0000000002": b"dinner"}, before))
+
+
+def test_a_name_that_becomes_low_behind_the_look(_):
+    """At each moment: while a message is under way, after a crash, and between the look and the rename."""
+    for make in OBSTACLES:
+        for when in ("writer get-append", "writer release read", "release append inbox"):
+            with World() as world:
+                world.send("m", b"lunch")
+                world.dies(when)
+                if when == "release append inbox":
+                    # (it has come down by then, and is moved away)
+                    world.receive()
+                    make(f"{world.low}/0000000001")
+                    world.obstacles.add("0000000001")
+                else:
+                    world.obstruct("0000000001", "m", make)
+                before = tree(world.low)
+                before.pop(".0000000001", None)
+                world.send("n", b"dinner")
+                same((when, *world.run()), (when, 0, ""))
+                judge(world)
+                same(tree(world.low), before)
+    with World() as world:
+        world.late = True
+        world.obstacles |= {"0000000001", "0000000002"}
+        world.blocked |= {"m", "n"}
+        world.send("m", b"lunch")
+        world.send("n", b"dinner")
+        same(world.run(before=crashing(0, "kill", True))[0], 0)
+        judge(world)
+        same({it: content(f"{world.low}/{it}") for it in world.obstacles}, dict.fromkeys(world.obstacles, b"mine"))
+        same((world.told(1)["blocked"], world.told(2)["blocked"]), (["0000000001"], ["0000000002"]))
+
+
+def test_a_dotted_name_that_is_low_already(_):
+    """A file there is written anew; what is no file stays."""
+    for make in OBSTACLES:
+        with World() as world:
+            make(f"{world.low}/.0000000001")
+            stays = stat.S_ISDIR(os.lstat(f"{world.low}/.0000000001").st_mode)
+            if stays:
+                world.obstacles.add(".0000000001")
+                world.blocked.add("m")
+            world.send("m", b"lunch")
+            world.send("n", b"dinner")
             same(world.run(), (0, ""))
             judge(world)
+            same(world.told(1).get("blocked"), [".0000000001"] if stays else None)
+
+
+def test_a_dotted_name_that_comes_back(_):
+    """After the message has its name: it went down once, and what is dotted goes."""
+    for at in ("release append inbox", "relabeller delete"):
+        with World() as world:
+            world.send("m", b"lunch")
+            world.dies(at)
+            put(f"{world.low}/.0000000001", b"mine")
+            same(world.run(), (0, ""))
+            if at == "relabeller delete":
+                world.obstacles.add(".0000000001")
+            judge(world)
+            same(world.received, {"0000000001": b"lunch"})
+
+
+def test_a_dotted_name_in_a_low_folder_of_others(_):
+    """Where the guard may not take away what is there."""
+    if not shutil.which("setpriv") or not can_be_nobody():
+        raise Skipped("the checks can't run the guard as another user")
+    with World() as world:
+        os.chmod(world.folder, 0o755)
+        for path in (world.high, world.state):
+            os.chown(path, 65534, 65534)
+        os.chmod(world.low, 0o1777)
+        world.obstruct(".0000000001", "m")
+        world.send("m", b"lunch")
+        world.send("n", b"dinner")
+        same(world.run(before=[*NOBODY, GUARD]), (0, ""))
+        same(world.told(1)["blocked"], [".0000000001"])
+        judge(world)
 
 
 def test_a_message_that_is_taken_from_the_low_folder_at_once(_):

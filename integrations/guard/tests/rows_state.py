@@ -3,10 +3,11 @@ import os
 import shutil
 import signal
 import stat
+import sys
 import time
 
 from judging import judge
-from world import SECONDS, World, content, mls, put, same, service_of, waits
+from world import HERE, SECONDS, World, content, mls, put, same, service_of, waits
 
 
 def has(world, what):
@@ -164,6 +165,43 @@ def test_what_an_auditor_reads(_):
         _, said = mls("journal", "--session", "2", world.start, journal)
         same([line.split(" ", 3)[3] for line in said.splitlines()][6:9], [
             "reader release write outbox: yes", "relabeller give read checker #6: yes", "checker get-read #6: yes"])
+        judge(world)
+
+
+def test_a_spool_that_is_gone(_):
+    """Before a start, and under a guard that runs: it ends, and what is high stays there. What was refused may be moved
+    away."""
+    with World() as world:
+        spool = f"{world.state}/spool"
+        world.send("m", b"lunch")
+        world.dies(" verdict ")
+        for away in (lambda: os.rename(spool, f"{world.folder}/away"), lambda: None):
+            away()
+            same(world.run(), (3, f"guard: {spool}: is gone\n"))
+            world.nothing_moved()
+        os.rename(f"{world.folder}/away", spool)
+        os.rename(f"{world.state}/refused", f"{world.folder}/refused")
+        guard = world.begin()
+        waits(lambda: has(world, "closed"), "to move")
+        os.rmdir(spool)
+        world.send("n", b"dinner")
+        same((guard.wait(SECONDS), os.listdir(world.high)), (3, ["n"]))
+        assert content(f"{world.folder}/said").endswith(f"guard: {spool}: is gone\n".encode())
+        os.mkdir(spool, 0o700)
+        same(world.run(), (0, ""))
+        judge(world)
+
+
+def test_a_spool_that_goes_at_the_last_moment(_):
+    """Between the look and the rename: the message isn't taken for one that its sender took back."""
+    with World() as world:
+        world.send("m", b"lunch")
+        world.dies("relabeller create")
+        words = [sys.executable, f"{HERE}/vanishing.py", f"{world.state}/spool"]
+        same(world.run(before=words), (3, f"guard: {world.state}/spool: is gone\n"))
+        same(os.listdir(world.high), ["m"])
+        os.mkdir(f"{world.state}/spool", 0o700)
+        same(world.run(), (0, ""))
         judge(world)
 
 

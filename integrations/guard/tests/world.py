@@ -63,6 +63,8 @@ class World:
         for path in (self.high, self.low, self.state):
             os.mkdir(path)
         self.filter, self.start, self.sent, self.received = f"{self.folder}/filter", start or START, {}, {}
+        # (what somebody else has laid into the low folder, and whose messages are turned back for it)
+        self.obstacles, self.blocked, self.late = set(), set(), False
         self.write_filter(FILTER)
         self.guards = []
 
@@ -82,6 +84,12 @@ class World:
     def send(self, name, message):
         put(f"{self.high}/{name}", message)
         self.sent[name] = message
+
+    def obstruct(self, low, name, make=None):
+        """Somebody lays something into the low folder, where the message of a name in the high one is to come."""
+        (make or (lambda path: put(path, b"mine")))(f"{self.low}/{low}")
+        self.obstacles.add(low)
+        self.blocked.add(name)
 
     def words(self, *flags, program=MLS, filter_program=None):
         return ["--high", self.high, "--low", self.low, "--state", self.state, "--program", program, "--start",
@@ -109,7 +117,7 @@ class World:
     def receive(self):
         """Takes away what is in the low folder, as its reader."""
         for name in os.listdir(self.low):
-            if not name.startswith("."):
+            if not name.startswith(".") and name not in self.obstacles:
                 assert name not in self.received, f"{name} came twice"
                 self.received[name] = content(f"{self.low}/{name}")
                 os.remove(f"{self.low}/{name}")
@@ -180,6 +188,7 @@ def start_with(world, change):
         json.dump(start, file)
 
 
-def crashing(place, mode="kill"):
-    """The words that run a guard which dies at its call of this number, or before what has this text."""
-    return [sys.executable, f"{HERE}/crashing.py", str(place), mode]
+def crashing(place, mode="kill", late=False):
+    """The words that run a guard which dies at its call of this number, or before what has this text. With `late`
+    somebody lays a file into the low folder before each message gets its name there."""
+    return [sys.executable, f"{HERE}/crashing.py", str(place), f"{mode}-late" if late else mode]
