@@ -72,6 +72,22 @@ is_foreseen(Container *c, AccessMode mode)
 	return true;
 }
 
+/* Whether the session could read a container that it may append to: that question has no entry and no sync. */
+bool
+access_may_read(Container *c)
+{
+	char		answer[ANSWER_MAX];
+
+	if (c->known[MODE_READ] == KNOWN_YES || c->known[MODE_WRITE] == KNOWN_YES || c->is_readable)
+		return true;
+	ask_about(c, "? ", "get-", MODE_READ, answer);
+	if (strcmp(answer, "? yes") == 0)
+		return c->is_readable = true;
+	if (strncmp(answer, "? ", 2) != 0 || !is_denial(answer + 2))
+		no_answer(answer);
+	return false;
+}
+
 /* Whether a read is held since an earlier transaction. */
 static bool
 is_still_kept(Container *c)
