@@ -3,6 +3,7 @@
  * transaction, and at its end the access is released. Whatever goes wrong is an error, never a yes.
  */
 #include "mls.h"
+#include "access/parallel.h"
 #include "access/xact.h"
 #include "utils/timestamp.h"
 
@@ -115,6 +116,10 @@ access_ask(AccessMode mode, Container *c, bool is_filter)
 {
 	Known		known = c->known[mode];
 
+	if (IsParallelWorker())
+		ereport(ERROR, (errcode(ERRCODE_INVALID_TRANSACTION_STATE),
+						errmsg("mls: the worker of a parallel query asks nothing"),
+						errhint("Is a function PARALLEL SAFE that isn't?")));
 	subject_name();
 	if (known == KNOWN_NO || (known == KNOWN_YES && session_holds()))
 		return known;

@@ -8,11 +8,13 @@
 #include "access/table.h"
 #include "catalog/indexing.h"
 #include "catalog/pg_constraint.h"
+#include "catalog/pg_index.h"
 #include "miscadmin.h"
 #include "nodes/parsenodes.h"
 #include "utils/fmgroids.h"
 #include "utils/lsyscache.h"
 #include "utils/snapmgr.h"
+#include "utils/syscache.h"
 
 typedef struct ForeignKey
 {
@@ -62,6 +64,22 @@ read_row(HeapTuple tuple, ForeignKey *key)
 	for (int k = 0; k < count; k++)
 		if (label != InvalidAttrNumber && from[k] == label && to[k] == their_label)
 			key->is_of_labels = !sets_label(row, on_delete, deleted, label);
+}
+
+/* Whether the column label is one that an index compares, or the index's table is without protection. */
+bool
+key_has_label(Oid index)
+{
+	HeapTuple	tuple = SearchSysCache1(INDEXRELID, ObjectIdGetDatum(index));
+	Form_pg_index row = HeapTupleIsValid(tuple) ? (Form_pg_index) GETSTRUCT(tuple) : NULL;
+	AttrNumber	label = row == NULL ? InvalidAttrNumber : get_attnum(row->indrelid, "label");
+	bool		has = row != NULL && !is_protected_oid(row->indrelid);
+
+	for (int k = 0; row != NULL && label != InvalidAttrNumber && k < row->indnkeyatts; k++)
+		has |= row->indkey.values[k] == label;
+	if (row != NULL)
+		ReleaseSysCache(tuple);
+	return has;
 }
 
 /* A constraint that may be new in this very command. */

@@ -114,7 +114,8 @@ extern bool guard_is_on(void);
 extern void guard_must_append(const char *deed);
 extern bool guard_may_append(void);
 
-/* keys.c: foreign keys */
+/* keys.c: foreign keys, and keys without a label */
+extern bool key_has_label(Oid index);
 extern bool key_is_kept(Oid constraint);
 extern void key_must_be_kept(Oid constraint);
 

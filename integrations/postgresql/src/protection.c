@@ -6,7 +6,6 @@
 #include "catalog/index.h"
 #include "catalog/namespace.h"
 #include "catalog/pg_class.h"
-#include "commands/defrem.h"
 #include "nodes/parsenodes.h"
 #include "utils/lsyscache.h"
 
@@ -67,23 +66,23 @@ each(List *names, void (*look) (RangeVar *))
 			look(lfirst(cell));
 }
 
-/* VACUUM FULL writes the table anew. */
+static void
+must_name_tables(bool does)
+{
+	if (!does)
+		ereport(ERROR, (errcode(ERRCODE_INSUFFICIENT_PRIVILEGE),
+						errmsg("mls: only a superuser vacuums, clusters or reindexes all tables")));
+}
+
+/* VACUUM and ANALYZE say how many rows there are. */
 static void
 look_at_vacuumed(VacuumStmt *vacuum)
 {
 	ListCell   *cell;
-	bool		is_full = false;
 
-	foreach(cell, vacuum->options)
-	{
-		DefElem    *option = lfirst(cell);
-
-		if (strcmp(option->defname, "full") == 0)
-			is_full = defGetBoolean(option);
-	}
-	if (is_full)
-		foreach(cell, vacuum->rels)
-			must_stay(((VacuumRelation *) lfirst(cell))->relation);
+	must_name_tables(vacuum->rels != NIL);
+	foreach(cell, vacuum->rels)
+		must_stay(((VacuumRelation *) lfirst(cell))->relation);
 }
 
 /* A constraint of a domain looks at all rows of all tables. */
@@ -131,9 +130,11 @@ protection_stays(Node *statement)
 			must_stay(((AlterPolicyStmt *) statement)->table);
 			break;
 		case T_ClusterStmt:
+			must_name_tables(((ClusterStmt *) statement)->relation != NULL);
 			must_stay(((ClusterStmt *) statement)->relation);
 			break;
 		case T_ReindexStmt:
+			must_name_tables(((ReindexStmt *) statement)->relation != NULL);
 			must_stay(((ReindexStmt *) statement)->relation);
 			break;
 		case T_VacuumStmt:

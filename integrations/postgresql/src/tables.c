@@ -3,6 +3,7 @@
  * locked, and rows of a protected table are not copied to where they have no label, nor counted by EXPLAIN.
  */
 #include "mls.h"
+#include "access/parallel.h"
 #include "access/xact.h"
 #include "executor/executor.h"
 #include "nodes/nodeFuncs.h"
@@ -86,6 +87,19 @@ look_at_explained(PlannedStmt *plan)
 						errhint("A superuser may set mls.explain.")));
 }
 
+/* ON CONFLICT DO UPDATE locks the row that is there, whatever its label, before a policy is asked. */
+static void
+look_at_conflicts(Plan *plan)
+{
+	ListCell   *cell;
+
+	if (!IsA(plan, ModifyTable) || ((ModifyTable *) plan)->onConflictAction != ONCONFLICT_UPDATE)
+		return;
+	foreach(cell, ((ModifyTable *) plan)->arbiterIndexes)
+		if (!key_has_label(lfirst_oid(cell)))
+			guard_must_append("update on a conflict of a key without label");
+}
+
 static bool
 takes_next(Node *node, void *context)
 {
@@ -131,7 +145,13 @@ look_at_counted(PlannedStmt *plan)
 static void
 look_at_run(PlannedStmt *plan)
 {
+	ListCell   *cell;
+
 	look_at_written(plan);
+	look_at_conflicts(plan->planTree);
+	foreach(cell, plan->subplans)
+		if (lfirst(cell) != NULL)
+			look_at_conflicts(lfirst(cell));
 	look_at_locked(plan);
 	if (plan->resultRelations != NIL && !mls_nextval_up)
 		look_at_counted(plan);
@@ -146,7 +166,8 @@ static void
 on_start(QueryDesc *query, int flags)
 {
 	PlannedStmt *plan = query->plannedstmt;
-	bool		is_run = (flags & EXEC_FLAG_EXPLAIN_ONLY) == 0;
+	/* (what is run in a worker was looked at in the session) */
+	bool		is_run = (flags & EXEC_FLAG_EXPLAIN_ONLY) == 0 && !IsParallelWorker();
 	bool		is_told = statement_is_explaining() && !mls_explain;
 	bool		leaves = plan->resultRelations != NIL || plan->rowMarks != NIL || statement_is_copying() ||
 	IsolationIsSerializable();

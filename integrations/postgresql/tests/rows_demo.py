@@ -54,7 +54,7 @@ def test_write(world):
         ("bob", "DELETE FROM docs WHERE id = 2; "
                 "MERGE INTO docs USING (VALUES (2)) v (k) ON id = k WHEN MATCHED THEN DELETE; "
                 "INSERT INTO docs VALUES (20, 'C_lo', 'x') RETURNING id;",
-         "ERROR:  new row violates row-level security policy \"mls_read\" for table \"docs\"\n"),
+         "ERROR:  mls: bob may not append container C_lo where a key would tell of hidden rows\n"),
         ("postgres", "SELECT count(*) FROM docs WHERE id = 2;", "1\n"),
     ])
 
@@ -69,6 +69,8 @@ def test_append_above(world):
         ("postgres", "CREATE TABLE heap (LIKE docs); CALL mls.protect('heap'); "
                      "GRANT INSERT, SELECT ON heap TO ann;", ""),
         ("ann", blind.replace("docs", "heap") + "SELECT * FROM heap;", ""),
+        ("ann", blind.replace("docs", "heap").replace(";", " RETURNING id;"),
+         "ERROR:  new row violates row-level security policy \"mls_read\" for table \"heap\"\n"),
         ("postgres", "SELECT label FROM heap; DROP TABLE heap;", "T-A-B_hi\n"),
     ])
     with world.opened("append_up"):

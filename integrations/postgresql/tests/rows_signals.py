@@ -126,6 +126,8 @@ OWNERS = [
     "ALTER TABLE d.t SET (fillfactor = 20);",
     "CLUSTER d.t USING t_pkey;",
     "VACUUM FULL d.t;",
+    "VACUUM (VERBOSE) d.t;",
+    "ANALYZE VERBOSE d.parent, d.t;",
     "REINDEX TABLE d.t;",
     "ALTER INDEX d.t_pkey RENAME TO x;",
     "DROP INDEX d.t_body_idx;",
@@ -150,7 +152,7 @@ CREATE FUNCTION f(text) RETURNS int LANGUAGE plpgsql IMMUTABLE COST 0.0001 AS $$
   RETURN 1; END $$;
 CREATE FUNCTION g() RETURNS trigger LANGUAGE plpgsql AS 'BEGIN RETURN NEW; END';
 CREATE DOMAIN hisdomain AS text; CREATE TYPE hiskind AS ENUM ('a'); CREATE TYPE hisrow AS (label text, body text);
-CREATE TABLE parent (id int, label mls.label, body text, CHECK (id > 0));
+CREATE TABLE parent (label mls.label, body text);
 CREATE TABLE above (label mls.label, body text);
 CREATE TABLE t (id int CHECK (id > 0), label mls.label, body text, kind hiskind, said hisdomain,
   PRIMARY KEY (id, label));
@@ -180,8 +182,11 @@ def test_an_owner_changes_nothing_of_a_protected_table(world):
         ("bob", "CREATE TABLE d.heir2 () INHERITS (d.t);",
          "ERROR:  mls: table t is protected, and what stands below it must be too\n"),
         # (what stays the owner's)
-        ("bob", "GRANT SELECT ON d.t TO ann; REVOKE SELECT ON d.t FROM ann; VACUUM d.t; ANALYZE d.t; "
+        ("bob", "GRANT SELECT ON d.t TO ann; REVOKE SELECT ON d.t FROM ann; VACUUM d.parent; "
                 "COMMENT ON TABLE d.t IS 'x'; SELECT mls.is_protected('d.t'), count(*) FROM d.t;", "t|0\n"),
+        # (what does all tables does those too, and would tell of their rows)
+        ("bob", "VACUUM; ANALYZE VERBOSE; CLUSTER; REINDEX SCHEMA d;",
+         "ERROR:  mls: only a superuser vacuums, clusters or reindexes all tables\n" * 4),
         # (a temporary table is its session's)
         ("bob", "CREATE TEMP TABLE tmp (label mls.label); CALL mls.protect('tmp'); DROP TABLE tmp;", ""),
     ])
@@ -253,6 +258,40 @@ def test_a_guess_at_a_key_tells_nothing(world):
                        "SELECT * FROM d.k ORDER BY id, label;", "S:A\n1|S-A_hi\n1|U_hi\n7|S-A_hi\n"),
         ("postgres", "DROP TABLE k, x, p, heap;", ""),
     ])
+
+
+def test_a_key_without_label_locks_no_row_of_another(world):
+    """ON CONFLICT DO UPDATE locks the row that is there, and then is refused: the lock stays."""
+    world.same([
+        ("ann", AT_S + "INSERT INTO docs VALUES (1, 'S-A_hi', 'x') ON CONFLICT (id) DO UPDATE SET body = 'y';",
+         "S:A\nERROR:  mls: ann may not update on a conflict of a key without label: no star\n"),
+        ("ann", "WITH a AS (INSERT INTO docs VALUES (1, 'S-A_hi', 'x') ON CONFLICT (id) DO UPDATE SET body = 'y' "
+                "RETURNING 1) SELECT 1;",
+         "ERROR:  mls: ann may not update on a conflict of a key without label: no star\n"),
+    ])
+    assert marks(world, "docs") == ""
+    world.same([("bob", "INSERT INTO docs VALUES (1, 'U_hi', 'x') ON CONFLICT (id) DO UPDATE SET body = 'y' "
+                        "RETURNING body;", "y\n")])
+
+
+def test_the_worker_of_a_parallel_query_asks_nothing(world):
+    """A function that says falsely that it is parallel safe runs there, without the session's monitor and level."""
+    force = "SET force_parallel_mode = on; SET parallel_setup_cost = 0; SET parallel_tuple_cost = 0; "
+    world.same([
+        ("bob", "CREATE FUNCTION d.reads() RETURNS bigint LANGUAGE plpgsql PARALLEL SAFE AS 'BEGIN RETURN (SELECT "
+                "count(*) FROM d.docs); END'; CREATE FUNCTION d.cancels() RETURNS bool LANGUAGE plpgsql PARALLEL SAFE "
+                "AS 'BEGIN RETURN pg_cancel_backend(1); END';", ""),
+    ])
+    # (where no worker is free the session runs it itself, and is bound as always)
+    alone = "ERROR:  mls: the worker of a parallel query asks nothing\n"
+    for role, sql, own in (("ann", AT_S + force + "SELECT d.reads();", "4\n"),
+                           ("ann", AT_S + force + "SELECT d.cancels();",
+                            "ERROR:  mls: ann may not call pg_cancel_backend: no star\n"),
+                           ("bob", force + "CREATE TABLE d.copy AS SELECT d.reads();",
+                            "ERROR:  mls: rows of docs would be copied without their labels\n")):
+        found = world.ask(role, sql).removeprefix("S:A\n")
+        assert found in (alone, own), f"{sql}\n found {found}"
+    world.same([("bob", "DROP FUNCTION d.reads; DROP FUNCTION d.cancels;", "")])
 
 
 def test_the_audit_names_keys_of_all_kinds(world):
