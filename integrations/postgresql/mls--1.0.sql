@@ -26,6 +26,8 @@ CREATE FUNCTION mls.held() RETURNS text AS 'MODULE_PATHNAME', 'mls_held' LANGUAG
 CREATE FUNCTION mls.subject() RETURNS text AS 'MODULE_PATHNAME', 'mls_subject' LANGUAGE C VOLATILE PARALLEL RESTRICTED;
 CREATE FUNCTION mls.session() RETURNS bigint AS 'MODULE_PATHNAME', 'mls_session'
   LANGUAGE C VOLATILE PARALLEL RESTRICTED;
+-- (the number counts the sessions of all)
+REVOKE EXECUTE ON FUNCTION mls.session() FROM public;
 
 -- Whether row security is on and forced, with policies for all roles that call the functions above on the column
 -- `label`.
@@ -48,17 +50,53 @@ BEGIN
   END IF;
 END $$;
 
--- Protects a table that has a column `label`, and all that stand below it: its partitions and heirs.
-CREATE PROCEDURE mls.protect(t regclass) LANGUAGE plpgsql SET search_path = pg_catalog AS $$
+-- Whether a constraint is no foreign key of a protected table, or one from its label to the label of another.
+CREATE FUNCTION mls.is_kept_key(oid) RETURNS bool AS 'MODULE_PATHNAME', 'mls_is_kept_key'
+  LANGUAGE C STRICT STABLE PARALLEL RESTRICTED;
+
+-- What of a protected table reads or locks rows beside its policies.
+CREATE FUNCTION mls.faults(t regclass) RETURNS TABLE (finding text, name text, remedy text)
+LANGUAGE sql STABLE SET search_path = pg_catalog AS $$
+  SELECT 'foreign key that tells', k.conname || ' on ' || k.conrelid::regclass,
+      'drop it, or put label into both sides, and protect both tables'
+    FROM pg_constraint k WHERE k.contype = 'f' AND t IN (k.conrelid, k.confrelid) AND NOT mls.is_kept_key(k.oid)
+  UNION ALL SELECT 'table without protection above it', t || ' below ' || i.inhparent::regclass,
+      'CALL mls.protect of that table, or ALTER TABLE .. NO INHERIT'
+    FROM pg_inherits i WHERE i.inhrelid = t AND NOT mls.is_protected(i.inhparent)
+  UNION ALL SELECT 'policy that is asked first', p.polname || ' on ' || t, 'ALTER POLICY .. RENAME TO own_..'
+    FROM pg_policy p
+    WHERE p.polrelid = t AND NOT p.polpermissive AND p.polname COLLATE "C" < 'mls_write'
+      AND p.polname NOT IN ('mls_read', 'mls_append', 'mls_delete')
+  UNION ALL SELECT DISTINCT 'function over hidden rows', f.oid::regprocedure || ' on ' || t,
+      'ALTER FUNCTION .. OWNER TO a superuser, or drop the index or statistics'
+    FROM pg_depend d JOIN pg_proc f ON f.oid = d.refobjid JOIN pg_roles o ON o.oid = f.proowner
+    WHERE d.refclassid = 'pg_proc'::regclass AND NOT o.rolsuper
+      AND (d.classid = 'pg_class'::regclass AND d.objid IN (SELECT indexrelid FROM pg_index WHERE indrelid = t)
+        OR d.classid = 'pg_statistic_ext'::regclass AND d.objid IN (SELECT s.oid FROM pg_statistic_ext s
+          WHERE s.stxrelid = t))
+$$;
+
+-- Protects tables that have a column `label`, and all that stand below them: their partitions and heirs. Tables that
+-- foreign keys join are named in one call.
+CREATE PROCEDURE mls.protect(VARIADIC t regclass[]) LANGUAGE plpgsql SET search_path = pg_catalog AS $$
 DECLARE
   one regclass;
+  fault record;
 BEGIN
   FOR one IN
-    WITH RECURSIVE below AS (SELECT t::oid AS id UNION SELECT inhrelid FROM pg_inherits JOIN below ON inhparent = id)
+    WITH RECURSIVE below AS (
+      SELECT unnest(t)::oid AS id UNION SELECT inhrelid FROM pg_inherits JOIN below ON inhparent = id)
     SELECT id FROM below
   LOOP
     IF NOT mls.is_protected(one) THEN
       CALL mls.protect_one(one);
+    END IF;
+    t := t || one;
+  END LOOP;
+  FOREACH one IN ARRAY t LOOP
+    SELECT * INTO fault FROM mls.faults(one);
+    IF FOUND THEN
+      RAISE EXCEPTION 'mls: %: %', fault.finding, fault.name USING HINT = fault.remedy;
     END IF;
   END LOOP;
 END $$;
@@ -82,14 +120,13 @@ LANGUAGE sql STABLE SET search_path = pg_catalog AS $$
       WHERE o.option_name = 'security_invoker' AND o.option_value::bool)
   UNION ALL SELECT 'key that tells', i.indexrelid::regclass || ' on ' || r.name, 'put the column label into the key'
     FROM relation r JOIN pg_index i ON i.indrelid = r.oid
-    WHERE i.indisunique AND mls.is_protected(r.oid)
-      AND NOT EXISTS (SELECT FROM pg_attribute a
-        WHERE a.attrelid = r.oid AND a.attname = 'label' AND a.attnum = ANY (i.indkey::int2[]))
-  UNION ALL SELECT 'foreign key that tells', k.conname || ' on ' || k.conrelid::regclass, 'put label into both keys'
-    FROM pg_constraint k
-    WHERE k.contype = 'f' AND mls.is_protected(k.confrelid)
-      AND NOT EXISTS (SELECT FROM pg_attribute a
-        WHERE a.attrelid = k.confrelid AND a.attname = 'label' AND a.attnum = ANY (k.confkey))
+    WHERE (i.indisunique OR i.indisexclusion) AND mls.is_protected(r.oid)
+      AND NOT EXISTS (SELECT FROM pg_attribute a, generate_series(1, i.indnkeyatts) k
+        WHERE a.attrelid = r.oid AND a.attname = 'label' AND a.attnum = i.indkey[k - 1] AND (NOT i.indisexclusion
+          OR EXISTS (SELECT FROM pg_constraint c JOIN pg_operator q ON q.oid = c.conexclop[k]
+            WHERE c.conindid = i.indexrelid AND c.contype = 'x' AND q.oprcode = 'texteq'::regproc)))
+  UNION ALL SELECT DISTINCT f.* FROM relation r, mls.faults(r.oid) f
+    WHERE r.relkind IN ('r', 'p') AND mls.is_protected(r.oid)
   UNION ALL SELECT 'leakproof function', p.oid::regprocedure::text, 'ALTER FUNCTION .. NOT LEAKPROOF'
     FROM pg_proc p WHERE p.proleakproof AND p.oid >= 16384
   UNION ALL SELECT 'role with BYPASSRLS', r.rolname, 'ALTER ROLE .. NOBYPASSRLS'
@@ -100,8 +137,16 @@ LANGUAGE sql STABLE SET search_path = pg_catalog AS $$
     FROM pg_roles r WHERE r.rolreplication AND NOT r.rolsuper
   UNION ALL SELECT 'role with ' || g.rolname, r.rolname, 'REVOKE ' || g.rolname || ' FROM it'
     FROM pg_auth_members m JOIN pg_roles r ON r.oid = m.member JOIN pg_roles g ON g.oid = m.roleid
-    WHERE g.rolname IN ('pg_read_all_data', 'pg_read_all_stats', 'pg_monitor', 'pg_read_server_files',
-      'pg_write_server_files', 'pg_execute_server_program') AND r.rolname !~ '^pg_'
+    WHERE g.rolname ~ '^pg_' AND r.rolname !~ '^pg_'
+  UNION ALL SELECT 'role that can become the owner', r.rolname || ': ' || o.rolname,
+      format('REVOKE %I FROM %I', o.rolname, r.rolname)
+    FROM pg_roles r JOIN pg_roles o ON o.oid <> r.oid AND pg_has_role(r.oid, o.oid, 'MEMBER')
+    WHERE r.rolcanlogin AND NOT r.rolsuper AND NOT o.rolsuper
+      AND o.oid IN (SELECT relowner FROM relation WHERE relkind IN ('r', 'p') AND mls.is_protected(relation.oid))
+  UNION ALL SELECT 'role with CREATEROLE', r.rolname, 'ALTER ROLE .. NOCREATEROLE: it can become any owner, and more'
+    FROM pg_roles r WHERE r.rolcreaterole AND NOT r.rolsuper
+  UNION ALL SELECT 'role with CREATEDB', r.rolname, 'ALTER ROLE .. NOCREATEDB: nothing is asked in its databases'
+    FROM pg_roles r WHERE r.rolcreatedb AND NOT r.rolsuper
   UNION ALL SELECT 'owner that logs in', r.name || ': ' || o.rolname, 'ALTER TABLE .. OWNER TO a role with NOLOGIN'
     FROM relation r JOIN pg_roles o ON o.oid = r.relowner
     WHERE r.relkind IN ('r', 'p') AND o.rolcanlogin AND NOT o.rolsuper AND mls.is_protected(r.oid)
@@ -112,8 +157,36 @@ LANGUAGE sql STABLE SET search_path = pg_catalog AS $$
     FROM pg_extension e WHERE e.extname NOT IN ('mls', 'plpgsql')
   UNION ALL SELECT 'activity that others see', 'track_activities', 'ALTER SYSTEM SET track_activities = off'
     WHERE current_setting('track_activities')::bool
-  UNION ALL SELECT 'activity that others see', 'pg_stat_get_activity', 'REVOKE EXECUTE .. FROM public, in each database'
-    WHERE has_function_privilege('public', 'pg_stat_get_activity(int)', 'EXECUTE')
+  UNION ALL SELECT 'function that tells', p.oid::regprocedure::text,
+      'REVOKE EXECUTE ON FUNCTION ' || p.oid::regprocedure || ' FROM public'
+    FROM pg_proc p
+    WHERE has_function_privilege('public', p.oid, 'EXECUTE')
+      AND (p.oid = 'mls.session()'::regprocedure OR p.pronamespace = 'pg_catalog'::regnamespace
+        AND (p.proname ~ '^pg_stat_(get|have)_' OR p.proname IN (
+          'pg_lock_status', 'pg_blocking_pids', 'pg_safe_snapshot_blocking_pids',
+          'pg_isolation_test_session_is_blocked', 'pg_prepared_xact', 'pg_sequence_last_value',
+          'pg_notification_queue_usage', 'pg_get_replication_slots', 'pg_xact_status', 'txid_status',
+          'pg_current_snapshot', 'txid_current_snapshot', 'pg_get_multixact_members', 'pg_current_wal_lsn',
+          'pg_current_wal_insert_lsn', 'pg_current_wal_flush_lsn', 'pg_control_checkpoint', 'pg_control_system',
+          'pg_control_recovery', 'pg_relation_size', 'pg_table_size', 'pg_indexes_size', 'pg_total_relation_size',
+          'pg_database_size', 'pg_tablespace_size', 'currtid2', 'gin_clean_pending_list',
+          'brin_summarize_new_values')))
+  UNION ALL SELECT 'other database', d.datname, format('REVOKE CONNECT ON DATABASE %I FROM public', d.datname)
+    FROM pg_database d
+    WHERE d.datallowconn AND d.datname <> current_database() AND has_database_privilege('public', d.oid, 'CONNECT')
+  UNION ALL SELECT 'setting that opens', s.name, 'ALTER SYSTEM RESET ' || s.name
+    FROM pg_settings s WHERE s.name IN ('mls.append_up', 'mls.nextval_up', 'mls.explain') AND s.reset_val = 'on'
+  UNION ALL SELECT 'setting that opens',
+      o.text || coalesce(' of ' || r.rolname, '') || coalesce(' in ' || d.datname, ''),
+      'ALTER ROLE or DATABASE .. RESET ' || split_part(o.text, '=', 1)
+    FROM pg_db_role_setting s CROSS JOIN unnest(s.setconfig) o(text) LEFT JOIN pg_roles r ON r.oid = s.setrole
+      LEFT JOIN pg_database d ON d.oid = s.setdatabase
+    WHERE o.text ~ '^mls[.](append_up|nextval_up|explain)='
+  UNION ALL SELECT 'setting that tells', s.name, format('ALTER SYSTEM SET %s = off', s.name)
+    FROM pg_settings s WHERE s.name = 'synchronize_seqscans' AND s.reset_val = 'on'
+  UNION ALL SELECT 'rule that runs as a superuser', w.rulename || ' on ' || r.name, 'DROP RULE, or another owner'
+    FROM pg_rewrite w JOIN relation r ON r.oid = w.ev_class JOIN pg_roles o ON o.oid = r.relowner
+    WHERE w.rulename <> '_RETURN' AND (o.rolsuper OR o.rolbypassrls)
   UNION ALL SELECT 'publication', p.pubname, 'DROP PUBLICATION: it sends rows of all labels' FROM pg_publication p
   ORDER BY 1, 2
 $$;

@@ -3,6 +3,7 @@
  * transaction, and at its end the access is released. Whatever goes wrong is an error, never a yes.
  */
 #include "mls.h"
+#include "access/parallel.h"
 #include "access/xact.h"
 #include "utils/timestamp.h"
 
@@ -72,6 +73,22 @@ is_foreseen(Container *c, AccessMode mode)
 	return true;
 }
 
+/* Whether the session could read a container that it may append to: that question has no entry and no sync. */
+bool
+access_may_read(Container *c)
+{
+	char		answer[ANSWER_MAX];
+
+	if (c->known[MODE_READ] == KNOWN_YES || c->known[MODE_WRITE] == KNOWN_YES || c->is_readable)
+		return true;
+	ask_about(c, "? ", "get-", MODE_READ, answer);
+	if (strcmp(answer, "? yes") == 0)
+		return c->is_readable = true;
+	if (strncmp(answer, "? ", 2) != 0 || !is_denial(answer + 2))
+		no_answer(answer);
+	return false;
+}
+
 /* Whether a read is held since an earlier transaction. */
 static bool
 is_still_kept(Container *c)
@@ -99,6 +116,10 @@ access_ask(AccessMode mode, Container *c, bool is_filter)
 {
 	Known		known = c->known[mode];
 
+	if (IsParallelWorker())
+		ereport(ERROR, (errcode(ERRCODE_INVALID_TRANSACTION_STATE),
+						errmsg("mls: the worker of a parallel query asks nothing"),
+						errhint("Is a function PARALLEL SAFE that isn't?")));
 	subject_name();
 	if (known == KNOWN_NO || (known == KNOWN_YES && session_holds()))
 		return known;

@@ -1,6 +1,7 @@
 /*
- * What functions leave for others to see: notifications, large objects, sequences that are set, advisory locks; and the
- * setting application_name, by whichever way it is set. They need append on the catalog's container, as statements do.
+ * What functions leave for others to see: notifications, large objects, sequences that are set or go on, advisory
+ * locks, snapshots, cancelled queries; and the setting application_name, by whichever way it is set. They need append
+ * on the catalog's container, as statements do.
  */
 #include "mls.h"
 #include "access/parallel.h"
@@ -15,7 +16,8 @@ static object_access_hook_type next_access = NULL;
 static GucStringCheckHook next_check = NULL;
 
 static const Oid leaving[] = {
-	F_PG_NOTIFY, F_SETVAL_REGCLASS_INT8, F_SETVAL_REGCLASS_INT8_BOOL,
+	F_PG_NOTIFY, F_SETVAL_REGCLASS_INT8, F_SETVAL_REGCLASS_INT8_BOOL, F_PG_EXPORT_SNAPSHOT,
+	F_PG_CANCEL_BACKEND, F_PG_TERMINATE_BACKEND,
 	F_PG_LOGICAL_EMIT_MESSAGE_BOOL_TEXT_TEXT, F_PG_LOGICAL_EMIT_MESSAGE_BOOL_TEXT_BYTEA,
 	F_LO_CREATE, F_LO_CREAT, F_LO_IMPORT_TEXT, F_LO_IMPORT_TEXT_OID, F_LO_FROM_BYTEA, F_LO_PUT, F_LOWRITE,
 	F_LO_TRUNCATE, F_LO_TRUNCATE64, F_LO_UNLINK, F_LO_EXPORT,
@@ -23,13 +25,17 @@ static const Oid leaving[] = {
 	F_PG_TRY_ADVISORY_LOCK_SHARED_INT8, F_PG_ADVISORY_LOCK_INT4_INT4, F_PG_ADVISORY_LOCK_SHARED_INT4_INT4,
 	F_PG_TRY_ADVISORY_LOCK_INT4_INT4, F_PG_TRY_ADVISORY_LOCK_SHARED_INT4_INT4, F_PG_ADVISORY_XACT_LOCK_INT8,
 	F_PG_ADVISORY_XACT_LOCK_SHARED_INT8, F_PG_TRY_ADVISORY_XACT_LOCK_INT8, F_PG_TRY_ADVISORY_XACT_LOCK_SHARED_INT8,
-	F_PG_ADVISORY_XACT_LOCK_INT4_INT4, F_PG_ADVISORY_XACT_LOCK_SHARED_INT4_INT4,
+	F_PG_ADVISORY_XACT_LOCK_INT4_INT4, F_PG_ADVISORY_XACT_LOCK_SHARED_INT4_INT4, F_PG_ADVISORY_UNLOCK_INT8,
+	F_PG_ADVISORY_UNLOCK_SHARED_INT8, F_PG_ADVISORY_UNLOCK_INT4_INT4, F_PG_ADVISORY_UNLOCK_SHARED_INT4_INT4,
+	F_PG_ADVISORY_UNLOCK_ALL,
 	F_PG_TRY_ADVISORY_XACT_LOCK_INT4_INT4, F_PG_TRY_ADVISORY_XACT_LOCK_SHARED_INT4_INT4,
 };
 
 static bool
 is_leaving(Oid function)
 {
+	if (function == F_NEXTVAL)
+		return !mls_nextval_up;
 	for (size_t k = 0; k < lengthof(leaving); k++)
 		if (leaving[k] == function)
 			return true;
@@ -48,6 +54,8 @@ on_access(ObjectAccessType access, Oid class, Oid object, int part, void *arg)
 		snprintf(deed, sizeof deed, "call %s", get_func_name(object));
 		guard_must_append(deed);
 	}
+	else if (access == OAT_POST_CREATE || access == OAT_POST_ALTER || access == OAT_DROP)
+		objects_stay(access, class, object, part);
 	else if (access == OAT_TRUNCATE && guard_is_on() && is_protected_oid(object))
 		ereport(ERROR, (errcode(ERRCODE_INSUFFICIENT_PRIVILEGE),
 						errmsg("mls: table %s is protected: only a superuser truncates it", get_rel_name(object))));
@@ -67,29 +75,29 @@ on_name(char **value, void **extra, GucSource source)
 	return next_check == NULL || next_check(value, extra, source);
 }
 
-static struct config_string *
-application_name_setting(void)
+static struct config_generic *
+find_setting(const char *name)
 {
 #if PG_VERSION_NUM >= 160000
-	return (struct config_string *) find_option("application_name", false, false, ERROR);
+	return find_option(name, false, false, ERROR);
 #else
 	struct config_generic **all = get_guc_variables();
 	int			count = GetNumConfigOptions();
 
 	for (int k = 0; k < count; k++)
-		if (strcmp(all[k]->name, "application_name") == 0)
-			return (struct config_string *) all[k];
-	return NULL;
+		if (strcmp(all[k]->name, name) == 0)
+			return all[k];
+	ereport(ERROR, (errmsg("mls: there is no setting %s", name)));
 #endif
 }
 
 void
 calls_start(void)
 {
-	struct config_string *name = application_name_setting();
+	struct config_string *name = (struct config_string *) find_setting("application_name");
 
-	if (name == NULL)
-		ereport(ERROR, (errmsg("mls: there is no setting application_name")));
+	/* a scan that begins where another one is tells where that is: so an administrator decides */
+	find_setting("synchronize_seqscans")->context = PGC_SUSET;
 	next_check = name->check_hook;
 	name->check_hook = on_name;
 	next_access = object_access_hook;

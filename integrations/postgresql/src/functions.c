@@ -40,6 +40,11 @@ must(FunctionCallInfo fcinfo, AccessMode mode)
 		ereport(ERROR, (errcode(ERRCODE_INSUFFICIENT_PRIVILEGE),
 						errmsg("mls: %s may not %s container %.*s: %s", subject_held(), mode_name[mode], NAME_BYTES,
 							   c->name, c->reason[mode])));
+	if (mode == MODE_APPEND && !mls_append_up && append_meets_keys() && !access_may_read(c))
+		ereport(ERROR, (errcode(ERRCODE_INSUFFICIENT_PRIVILEGE),
+						errmsg("mls: %s may not append container %.*s where a key would tell of hidden rows", subject_held(),
+							   NAME_BYTES, c->name),
+						errhint("A superuser may set mls.append_up, or drop the table's keys.")));
 	PG_RETURN_BOOL(true);
 }
 
@@ -111,4 +116,11 @@ Datum
 mls_is_protected(PG_FUNCTION_ARGS)
 {
 	PG_RETURN_BOOL(is_protected_oid(PG_GETARG_OID(0)));
+}
+
+PG_FUNCTION_INFO_V1(mls_is_kept_key);
+Datum
+mls_is_kept_key(PG_FUNCTION_ARGS)
+{
+	PG_RETURN_BOOL(key_is_kept(PG_GETARG_OID(0)));
 }

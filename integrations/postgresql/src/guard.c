@@ -4,7 +4,6 @@
  * has the lowest label, whoever works above that may not.
  */
 #include "mls.h"
-#include "access/parallel.h"
 #include "access/xact.h"
 #include "miscadmin.h"
 
@@ -12,7 +11,7 @@
 bool
 guard_is_on(void)
 {
-	return IsTransactionState() && !IsParallelWorker() && !superuser_arg(GetSessionUserId()) && is_created();
+	return IsTransactionState() && !superuser_arg(GetSessionUserId()) && is_created();
 }
 
 static Container *

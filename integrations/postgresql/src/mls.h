@@ -6,6 +6,7 @@
 #define MLS_H
 
 #include "postgres.h"
+#include "catalog/objectaccess.h"
 #include "datatype/timestamp.h"
 #include "nodes/nodes.h"
 #include "utils/relcache.h"
@@ -40,6 +41,7 @@ typedef struct Container
 	uint64		kept_over;		/* the connection over which its read is held from transaction to transaction, or 0 */
 	TimestampTz checked;		/* when that was last asked about */
 	bool		is_touched;		/* by this transaction */
+	bool		is_readable;	/* the monitor said so, in this transaction and at this level */
 	struct Container *next_touched;
 } Container;
 
@@ -52,6 +54,9 @@ extern int	mls_recheck;
 extern bool mls_notes;
 extern bool mls_keep;
 extern bool mls_preview;
+extern bool mls_append_up;
+extern bool mls_nextval_up;
+extern bool mls_explain;
 
 /* inbox.c: what has come from mlsd */
 extern bool inbox_has_line(void);
@@ -88,6 +93,7 @@ extern void containers_each_kept(void (*deed) (Container *));
 
 /* access.c: the monitor's answers, once a transaction */
 extern Known access_ask(AccessMode mode, Container *c, bool is_filter);
+extern bool access_may_read(Container *c);
 extern const char *const mode_name[MODES];
 
 /* session.c: from the first ask to the end of a transaction, and the level */
@@ -108,11 +114,24 @@ extern bool guard_is_on(void);
 extern void guard_must_append(const char *deed);
 extern bool guard_may_append(void);
 
-/* protection.c: it stays on */
+/* keys.c: foreign keys, and keys without a label */
+extern bool key_has_label(Oid index);
+extern bool key_is_kept(Oid constraint);
+extern void key_must_be_kept(Oid constraint);
+
+/* protection.c, objects.c: it stays on */
 extern void protection_stays(Node *statement);
+extern void table_must_stay(Oid table);
+extern void objects_stay(ObjectAccessType access, Oid class, Oid object, int part);
+
+/* appends.c: appends that would tell of hidden rows */
+extern bool append_meets_keys(void);
+extern void appends_start(void);
 
 /* statements.c, tables.c, calls.c: the server's hooks */
 extern bool statement_is_copying(void);
+extern bool statement_copies(bool is_so);
+extern bool statement_is_explaining(void);
 extern void statements_start(void);
 extern void tables_start(void);
 extern void calls_start(void);

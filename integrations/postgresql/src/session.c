@@ -68,9 +68,12 @@ session_level(const char *label)
 	session_reach();
 	containers_each_kept(let_go_kept);
 	for (Container *c = containers_touched(); c != NULL; c = c->next_touched)
+	{
+		c->is_readable = false;
 		for (int mode = 0; mode < MODES; mode++)
 			if (c->known[mode] == KNOWN_NO)
 				c->known[mode] = KNOWN_NOTHING;
+	}
 	snprintf(line, sizeof line, "%s%s level %s\n", subject_note(), subject, label);
 	wire_ask(line, answer);
 	if (strcmp(answer, "yes") != 0)
@@ -92,6 +95,7 @@ session_begin_anew(void)
 static void
 end_of(Container *c)
 {
+	c->is_readable = false;
 	for (int mode = 0; mode < MODES; mode++)
 	{
 		Known		was = c->known[mode];

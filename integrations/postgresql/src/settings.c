@@ -16,6 +16,9 @@ int			mls_recheck;
 bool		mls_notes;
 bool		mls_keep;
 bool		mls_preview;
+bool		mls_append_up;
+bool		mls_nextval_up;
+bool		mls_explain;
 
 static void
 define_text(const char *name, const char *what, char **value, const char *start)
@@ -33,6 +36,13 @@ static void
 define_switch(const char *name, const char *what, bool *value, bool start)
 {
 	DefineCustomBoolVariable(name, what, NULL, value, start, PGC_SIGHUP, 0, NULL, NULL, NULL);
+}
+
+/* Of what tells of hidden rows, or signals to sessions below: a superuser may open it, for a role or a database too. */
+static void
+define_opening(const char *name, const char *what, bool *value)
+{
+	DefineCustomBoolVariable(name, what, NULL, value, false, PGC_SUSET, 0, NULL, NULL, NULL);
 }
 
 void		_PG_init(void);
@@ -55,9 +65,15 @@ _PG_init(void)
 	define_switch("mls.keep", "Reads are held until the session ends or changes its level.", &mls_keep, false);
 	define_switch("mls.preview", "Filters ask first what the answer would be: a denial of a row is then no entry.",
 				  &mls_preview, false);
+	define_opening("mls.append_up", "Rows may be added above one's level also where a key would tell of hidden rows.",
+				   &mls_append_up);
+	define_opening("mls.nextval_up", "Sequences may be advanced above the level of the catalog.", &mls_nextval_up);
+	define_opening("mls.explain", "Plans over protected tables are shown, with what they tell of hidden rows.",
+				   &mls_explain);
 	MarkGUCPrefixReserved("mls");
 	session_start();
 	statements_start();
 	tables_start();
 	calls_start();
+	appends_start();
 }

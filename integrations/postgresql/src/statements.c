@@ -4,17 +4,35 @@
  */
 #include "mls.h"
 #include "nodes/parsenodes.h"
+#include "storage/lockdefs.h"
 #include "tcop/cmdtag.h"
 #include "tcop/utility.h"
 
 static ProcessUtility_hook_type next_utility = NULL;
 static bool is_copying = false;
+static bool is_explaining = false;
 
 /* Whether a query runs whose rows outlive its transaction without a label. */
 bool
 statement_is_copying(void)
 {
 	return is_copying;
+}
+
+/* Sets that, and returns what it was. */
+bool
+statement_copies(bool is_so)
+{
+	bool		was = is_copying;
+
+	is_copying = is_so;
+	return was;
+}
+
+bool
+statement_is_explaining(void)
+{
+	return is_explaining;
 }
 
 static Node *
@@ -68,6 +86,8 @@ leaves_nothing(Node *statement)
 			return !((CopyStmt *) statement)->is_from && ((CopyStmt *) statement)->filename == NULL;
 		case T_ExplainStmt:
 			return explained(statement) == NULL || leaves_nothing(explained(statement));
+		case T_LockStmt:
+			return ((LockStmt *) statement)->mode == AccessShareLock;
 		case T_CallStmt:
 		case T_ClosePortalStmt:
 		case T_ConstraintsSetStmt:
@@ -78,7 +98,6 @@ leaves_nothing(Node *statement)
 		case T_ExecuteStmt:
 		case T_FetchStmt:
 		case T_ListenStmt:
-		case T_LockStmt:
 		case T_PrepareStmt:
 		case T_UnlistenStmt:
 		case T_VariableShowStmt:
@@ -109,16 +128,18 @@ on_utility(PlannedStmt *statement, const char *text, bool is_read_only, ProcessU
 {
 	ProcessUtility_hook_type next = next_utility != NULL ? next_utility : standard_ProcessUtility;
 	bool		was_copying = is_copying;
+	bool		was_explaining = is_explaining;
 
 	look_at(statement->utilityStmt);
-	if (!copies(statement->utilityStmt))
+	if (!copies(statement->utilityStmt) && !IsA(statement->utilityStmt, ExplainStmt))
 	{
 		next(statement, text, is_read_only, context, params, environment, dest, done);
 		if (discards_all(statement->utilityStmt))
 			session_begin_anew();
 		return;
 	}
-	is_copying = true;
+	is_copying |= copies(statement->utilityStmt);
+	is_explaining |= IsA(statement->utilityStmt, ExplainStmt);
 	PG_TRY();
 	{
 		next(statement, text, is_read_only, context, params, environment, dest, done);
@@ -126,6 +147,7 @@ on_utility(PlannedStmt *statement, const char *text, bool is_read_only, ProcessU
 	PG_FINALLY();
 	{
 		is_copying = was_copying;
+		is_explaining = was_explaining;
 	}
 	PG_END_TRY();
 }

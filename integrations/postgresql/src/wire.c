@@ -41,7 +41,8 @@ static void
 fail(const char *what)
 {
 	wire_end();
-	ereport(ERROR, (errcode(ERRCODE_CONNECTION_FAILURE), errmsg("mls: the monitor is not reached: %s", what)));
+	ereport(ERROR, (errcode(ERRCODE_CONNECTION_FAILURE),
+					errmsg("mls: the monitor is not reached at %s: %s", mls_socket, what)));
 }
 
 /* Waits for a line. It may be interrupted; what was asked stays counted then. */

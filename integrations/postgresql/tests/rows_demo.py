@@ -40,8 +40,7 @@ def test_no_flow_down_in_a_transaction(world):
 def test_write(world):
     world.same([
         ("ann", "SELECT mls.level('S:A'); INSERT INTO docs VALUES (11, 'S-A_hi', 'more on A'); "
-                "INSERT INTO docs VALUES (12, 'T-A-B_hi', 'blind write up'); SELECT id FROM docs ORDER BY id;",
-         "S:A\n1\n2\n3\n4\n11\n"),
+                "SELECT id FROM docs ORDER BY id;", "S:A\n1\n2\n3\n4\n11\n"),
         ("ann", "UPDATE docs SET body = body || '!' WHERE id = 4; "
                 "SELECT body FROM docs WHERE id = 4;", "agents in A!\n"),
         # (write needs the label at which she works: no row below it is changed)
@@ -55,9 +54,27 @@ def test_write(world):
         ("bob", "DELETE FROM docs WHERE id = 2; "
                 "MERGE INTO docs USING (VALUES (2)) v (k) ON id = k WHEN MATCHED THEN DELETE; "
                 "INSERT INTO docs VALUES (20, 'C_lo', 'x') RETURNING id;",
-         "ERROR:  new row violates row-level security policy \"mls_read\" for table \"docs\"\n"),
+         "ERROR:  mls: bob may not append container C_lo where a key would tell of hidden rows\n"),
         ("postgres", "SELECT count(*) FROM docs WHERE id = 2;", "1\n"),
     ])
+
+
+def test_append_above(world):
+    """A row above the session's level is added blindly; into a table with a key only by leave."""
+    blind = "INSERT INTO docs VALUES (12, 'T-A-B_hi', 'blind write up');"
+    told = "ERROR:  mls: ann may not append container T-A-B_hi where a key would tell of hidden rows\n"
+    world.same([
+        ("ann", blind, told),
+        ("ann", "SET mls.append_up = on;", "ERROR:  permission denied to set parameter \"mls.append_up\"\n"),
+        ("postgres", "CREATE TABLE heap (LIKE docs); CALL mls.protect('heap'); "
+                     "GRANT INSERT, SELECT ON heap TO ann;", ""),
+        ("ann", blind.replace("docs", "heap") + "SELECT * FROM heap;", ""),
+        ("ann", blind.replace("docs", "heap").replace(";", " RETURNING id;"),
+         "ERROR:  new row violates row-level security policy \"mls_read\" for table \"heap\"\n"),
+        ("postgres", "SELECT label FROM heap; DROP TABLE heap;", "T-A-B_hi\n"),
+    ])
+    with world.opened("append_up"):
+        world.same([("ann", blind + "SELECT id FROM docs;", "1\n")])
 
 
 def test_levels(world):
@@ -106,8 +123,8 @@ def test_labels(world):
         ("ann", "SELECT mls.may_read(repeat('x', 33));", "ERROR:  mls: not the name of a container\n"),
         ("bob", "CREATE TABLE d.t (label name); CALL mls.protect('d.t'); DROP TABLE d.t;",
          "ERROR:  mls: the column label of d.t is to be of the type mls.label, or text\n"),
-        ("bob", "CREATE TABLE d.t (label varchar(9)); CALL mls.protect('d.t'); SELECT mls.is_protected('d.t');"
-                "DROP TABLE d.t;", "t\n"),
+        ("bob", "CREATE TABLE d.t (label varchar(9)); CALL mls.protect('d.t'); SELECT mls.is_protected('d.t');", "t\n"),
+        ("postgres", "DROP TABLE t;", ""),
         ("bob", "CREATE TABLE d.t (id int); CALL mls.protect('d.t'); DROP TABLE d.t;",
          "ERROR:  column \"label\" of relation \"t\" does not exist\n"),
     ])

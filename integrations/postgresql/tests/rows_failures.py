@@ -4,8 +4,15 @@ import signal
 import time
 
 LOST = "ERROR:  mls: the monitor was lost in this transaction\n"
-CLOSED = "ERROR:  mls: the monitor is not reached: it closed the connection\n"
 TIMED_OUT = "ERROR:  canceling statement due to statement timeout\n"
+
+
+def unreached(world, why):
+    return f"ERROR:  mls: the monitor is not reached at {world.folder}/mlsd.sock: {why}"
+
+
+def closed(world):
+    return unreached(world, "it closed the connection\n")
 
 
 def held(world):
@@ -22,10 +29,10 @@ def dies(world, kill):
     kill()
     # (what was answered holds for the transaction)
     assert bob.ask("SELECT id FROM docs WHERE id = 1;") == "1\n"
-    assert bob.ask("SAVEPOINT s; SELECT id FROM docs;") == CLOSED
+    assert bob.ask("SAVEPOINT s; SELECT id FROM docs;") == closed(world)
     assert bob.ask("ROLLBACK TO s; SELECT id FROM docs;") == LOST
-    assert bob.ask("ROLLBACK; SELECT id FROM docs;").startswith("ERROR:  mls: the monitor is not reached: ")
-    assert bob.ask("INSERT INTO docs VALUES (50, 'U_hi', 'x');").startswith("ERROR:  mls: the monitor is not reached: ")
+    assert bob.ask("ROLLBACK; SELECT id FROM docs;").startswith(unreached(world, ""))
+    assert bob.ask("INSERT INTO docs VALUES (50, 'U_hi', 'x');").startswith(unreached(world, ""))
     world.monitor.start()
     assert bob.ask("SELECT id FROM docs;") == "1\n"
     bob.close()
@@ -45,7 +52,7 @@ def test_a_level_is_asked_for_again(world):
     assert ann.ask("SELECT mls.level('S:A'); SELECT count(*) FROM docs;") == "S:A\n4\n"
     world.monitor.kill()
     world.monitor.start()
-    assert ann.ask("SELECT count(*) FROM docs;") == CLOSED
+    assert ann.ask("SELECT count(*) FROM docs;") == closed(world)
     lost = "ERROR:  mls: the monitor was lost, and the session's level with it\n"
     assert ann.ask("SELECT count(*) FROM docs;") == lost
     assert ann.ask("NOTIFY dawn;") == lost
@@ -65,6 +72,11 @@ def test_a_commit_needs_no_monitor(world):
 
 
 def test_a_query_is_cancelled_while_it_asks(world):
+    with world.opened("append_up"):
+        cancelled(world)
+
+
+def cancelled(world):
     bob = world.server.session("bob")
     assert bob.ask("SELECT id FROM docs WHERE id = 1;") == "1\n"
     core = world.monitor.core()
@@ -120,7 +132,7 @@ def test_no_answer_in_time(world):
     os.kill(core, signal.SIGSTOP)
     answers = bob.ask("SELECT id FROM docs;"), bob.ask("SELECT id FROM docs;")
     os.kill(core, signal.SIGCONT)
-    assert answers == ("ERROR:  mls: the monitor is not reached: no answer in time\n",) * 2, answers
+    assert answers == (unreached(world, "no answer in time\n"),) * 2, answers
     assert bob.ask("SELECT id FROM docs;") == "1\n"
     bob.close()
     world.server.set(timeout="30s")
@@ -132,7 +144,8 @@ def test_many_containers_at_once(world):
     levels = [f"{level}{categories}" for level in "UCST" for categories in ("", "-A", "-B", "-A-B")]
     values = ", ".join(f"({100 + k}, '{label}_{integrity}', 'x')" for k, (label, integrity) in
                        enumerate((label, integrity) for label in levels for integrity in ("lo", "hi")))
-    for _ in range(4):
-        assert world.ask("bob", f"BEGIN; INSERT INTO docs VALUES {values}; ROLLBACK;") == ""
-        assert world.ask("bob", "SELECT count(*) FROM docs;") == "1\n"
+    with world.opened("append_up"):
+        for _ in range(4):
+            assert world.ask("bob", f"BEGIN; INSERT INTO docs VALUES {values}; ROLLBACK;") == ""
+            assert world.ask("bob", "SELECT count(*) FROM docs;") == "1\n"
     assert held(world) == []

@@ -55,6 +55,11 @@ def stand_still(world, dice, faults):
 
 
 def test_sessions_at_random(world):
+    with world.opened("append_up"):
+        at_random(world)
+
+
+def at_random(world):
     seed = random.randrange(1 << 30)
     dice, is_over, faults = random.Random(seed), threading.Event(), []
     sessions = [threading.Thread(target=lives, args=(world, role, seed + k, is_over, faults))

@@ -1,6 +1,7 @@
 """What the checks begin with: a server with the extension, a monitor, roles, and a table with a row at each of five
 labels."""
 import atexit
+import contextlib
 import os
 import shutil
 import signal
@@ -26,6 +27,7 @@ GRANT SELECT, INSERT, UPDATE, DELETE ON docs TO ann, bob, eve, sec;
 CREATE TABLE scratch (note text);
 GRANT ALL ON scratch TO ann, bob, eve, sec;
 RESET ROLE;
+GRANT EXECUTE ON FUNCTION mls.session() TO ann;
 """
 ROWS = """
 TRUNCATE docs, scratch;
@@ -72,6 +74,13 @@ class World:
 
     def ask(self, role, sql):
         return self.server.ask(role, sql)
+
+    @contextlib.contextmanager
+    def opened(self, setting):
+        """Within it a setting of the extension that opens something is on, in new sessions."""
+        self.ask("postgres", f"ALTER DATABASE demo SET mls.{setting} = on;")
+        yield
+        self.ask("postgres", f"ALTER DATABASE demo RESET mls.{setting};")
 
     def same(self, rows):
         """Each row is a role, what it types, and what it must be shown."""
