@@ -13,6 +13,7 @@ import fronts
 from fronts import ALL, ANN, BOB, JOURNAL, Front, comes, connected_as, content, core, entries, fresh, refused, rest_of, told
 from mls import Ended
 from outside import SECONDS, TOP, needs_proof, put, same
+from segments import joined
 from serving import STANDARD, mode_of, shim
 
 LIMIT, ROOM = 268_435_456, 2_265
@@ -120,7 +121,11 @@ def a_journal_that_is_full():
     same((status, lines[0], lines[-1].startswith(f"mlsd: {JOURNAL}: full, ")), (6, told_of(95, size), True))
     assert answered >= 2, answered
     same(content(JOURNAL).count(b"\n"), number + answered)
-    os.remove(JOURNAL)
+    # (what OPERATIONS says to do then)
+    with Front(words=core("--segment", "67108864", start="wide.json")) as front:
+        same(front.client().ask("bob level " + wide.decode()), "no ceiling")
+        same((numbers(JOURNAL), front.end()), ([0], (0, b"")))
+    fresh()
 
 
 def a_failed_sync_of_the_sessions_file_is_5():
@@ -310,7 +315,64 @@ def what_dead_clients_held_in_segments():
             same(front.end(), (0, b""))
 
 
+def recipe():
+    """The archive's recipe, as DEPLOYING has it, for this journal and a folder here."""
+    with open(f"{TOP}/docs/DEPLOYING.md", encoding="utf-8") as file:
+        text = file.read().partition("**An archive.**")[2].partition("\nwith `archive`")[0]
+    lines = [line[4:] for line in text.splitlines() if line.startswith("    ")]
+    assert len(lines) > 3 and any("mv " in line for line in lines), lines
+    return re.sub(r"\bjournal\b", JOURNAL, "\n".join(lines)).replace("/archive/", "archive/")
+
+
+def an_archive():
+    """Closed files are moved away while mlsd runs, as DEPLOYING says; it goes on without them, over a start too; what is
+    there and in the archive is all, and is one legal journal."""
+    fresh()
+    os.makedirs("archive", exist_ok=True)
+    with Front("--release-on-close", words=core(*CUT)) as front:
+        fill(front.client(), 3)
+        whole, files = joined(JOURNAL), len(numbers(JOURNAL))
+        done = fronts.subprocess_run(["bash", "-c", recipe()], b"")
+        same((done.returncode, done.stderr, numbers(JOURNAL), numbers(f"{JOURNAL}.sessions")), (0, b"", [], []))
+        same(len(os.listdir("archive")), 2 * files)
+        fill(front.clients[0], 1)
+        front.end()
+    with Front("--release-on-close", words=core(*CUT)) as front:
+        same((front.client().session, front.clients[0].ask("bob check execute tool")), (2, "not held"))
+        front.end()
+    for name in os.listdir("archive"):
+        os.rename(f"archive/{name}", name)
+    assert joined(JOURNAL).startswith(whole)
+    same(are_closed_well(), 2)
+    same(fronts.outside.ran_program(["replay", STANDARD, JOURNAL])[0], 0)
+
+
+def what_share_has():
+    """The dashboard and the four alert rules name metrics that mlsd writes, and each rule says what to do."""
+    fresh()
+    front_pools.start()
+    with Front("--metrics", "m", users=front_pools.RULES, words=core(start=front_pools.START)) as front:
+        front.client().ask_all(["zoe level U", "ann check read plans"])
+        front.end()
+    families = set(re.findall(r"^# TYPE (\w+)", content("m").decode(), re.M))
+    families |= {f"{it}_bucket" for it in families}
+    with open(f"{TOP}/share/grafana/mlsd.json", encoding="utf-8") as file:
+        dashboard = json.load(file)
+    with open(f"{TOP}/share/prometheus/mlsd.rules.yml", encoding="utf-8") as file:
+        rules = file.read()
+    with open(f"{TOP}/docs/OPERATIONS.md", encoding="utf-8") as file:
+        page = file.read()
+    asked = [target["expr"] for panel in dashboard["panels"] for target in panel["targets"]] + [rules]
+    named = set(re.findall(r"\bmlsd_\w+", " ".join(asked)))
+    assert len(named) > 15 and named <= families, named - families
+    alerts = re.findall(r"- alert: (\w+)", rules)
+    same((len(alerts), rules.count("expr:"), rules.count("action: >-")), (4, 4, 4))
+    same([it for it in alerts if f"`{it}`" not in page], [])
+    same([it for it in families if not it.endswith("_bucket") and f"`{it}" not in page], [])
+
+
 CHECKS = [an_end_that_is_told, a_core_that_ends_for_another_reason, units_and_their_statuses, a_journal_that_is_full]
+CHECKS += [an_archive, what_share_has]
 CHECKS += [sessions_files_go_with_the_journal, moments_between_two_sessions_files, what_dead_clients_held_in_segments]
 AS_ROOT = [the_sessions_file_is_counted_and_bound]
 OVER_THE_SHIM = [a_failed_sync_of_the_sessions_file_is_5]
