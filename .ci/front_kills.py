@@ -1,19 +1,20 @@
 """mlsd, its core or both are killed under clients that ask: nothing that was answered is lost."""
-import fcntl
 import os
 import random
 import signal
 import threading
 import time
 
+import front_pools
 import fronts
 import outside
 from fronts import JOURNAL, Front, content, core, fresh, held, told
 from mls import Ended
 from outside import SECONDS, same, shown
+from segments import joined
 from serving import STANDARD
 
-SHORT = False
+SHORT = FULL = False
 KILLS, SHORT_KILLS, CLIENTS = 150, 6, 16
 # After so many of them the journal begins anew.
 KILLS_OF_A_JOURNAL = 15
@@ -42,7 +43,10 @@ class Asker(threading.Thread):
 
 def killed(front, rnd, what):
     """Kills at some moment while clients ask; returns them."""
-    askers = [Asker(front.client(), random.Random(rnd.random())) for _ in range(CLIENTS)]
+    return killed_among(front, rnd, what, [Asker(front.client(), random.Random(rnd.random())) for _ in range(CLIENTS)])
+
+
+def killed_among(front, rnd, what, askers):
     for asker in askers:
         asker.start()
     while rnd.random() < 0.9 and not any(asker.answered for asker in askers):
@@ -64,9 +68,10 @@ def count_of(before):
     """How many entries each session has behind so many bytes of the journal. (The next core takes it as it is, or is
     not ready; a part of a line is none.)"""
     counts = {}
-    for line in content(JOURNAL)[before:].split(b"\n")[:-1]:
+    for line in joined(JOURNAL)[before:].split(b"\n")[:-1]:
         words = line.split()
-        same(words[3], b"get-read")
+        if words[3] != b"get-read" or int(words[4]) < 1_000:
+            continue
         session = int(words[4]) - 1_000
         counts[session] = counts.get(session, 0) + 1
         same(int(words[1]), session)
@@ -86,7 +91,7 @@ def kills_lose_nothing():
         before = content(JOURNAL).rfind(b"\n") + 1 if os.path.exists(JOURNAL) else 0
         with Front() as front:
             askers = killed(front, rnd, what)
-        wait_for_the_lock()
+        fronts.wait_for_the_lock()
         counts = count_of(before)
         for asker in askers:
             session = asker.client.session
@@ -107,17 +112,50 @@ def kills_lose_nothing():
     assert many > turn // 2, f"only {many} of {turn + 1} were killed after an answer"
 
 
-def wait_for_the_lock():
-    """A core whose front was killed ends by itself; until then the journal is in use."""
-    ends = time.monotonic() + SECONDS
-    with open(JOURNAL, "rb") as file:
-        while True:
-            try:
-                fcntl.flock(file, fcntl.LOCK_EX | fcntl.LOCK_NB)
-                return
-            except BlockingIOError:
-                assert time.monotonic() < ends, "the core does not end"
-                time.sleep(0.01)
+# Kills with segments and pools, and the clients of each.
+CUT_KILLS, SHORT_CUT_KILLS, FULL_CUT_KILLS, CUT_CLIENTS = 12, 3, 100, 8
 
 
-CHECKS = [kills_lose_nothing]
+def leased(front, rnd):
+    """Clients that ask until the front is gone, of which some hold what a pool's subject got."""
+    askers = [Asker(front.client(), random.Random(rnd.random())) for _ in range(CUT_CLIENTS)]
+    for asker in askers[: len(front_pools.POOL)]:
+        same(asker.client.ask_all(["app level S:A", "app get-read plans"]), ["yes", "yes"])
+    same(askers[-1].client.ask("sec get-write root"), "yes")
+    return askers
+
+
+def kills_in_segments():
+    """The same with segments and clients of pools: over all files each client has what was answered, and what clients
+    held who are gone is released at the next start, with the levels of their subjects."""
+    rnd, many = random.Random(54), 0
+    front_pools.start()
+    words = core("--segment", "4096", start=front_pools.START)
+    turns = FULL_CUT_KILLS if FULL else SHORT_CUT_KILLS if SHORT else CUT_KILLS
+    for turn in range(turns):
+        if turn % KILLS_OF_A_JOURNAL == 0:
+            fresh()
+            seen = set()
+        what = [("front",), ("core",), ("core", "front"), ("front", "core")][turn % 4]
+        with Front("--release-on-close", users=front_pools.RULES, words=words) as front:
+            same((turn, held(start=front_pools.START)), (turn, []))
+            same({fronts.levels(start=front_pools.START)[it] for it in front_pools.POOL}, {"U"})
+            askers = killed_among(front, rnd, what, leased(front, rnd))
+        fronts.wait_for_the_lock()
+        counts = count_of(0)
+        for asker in askers:
+            session = asker.client.session
+            assert session not in seen, (turn, session)
+            seen.add(session)
+            found = counts.get(session, 0)
+            assert asker.answered <= found <= asker.asked, (turn, what, asker.answered, found, asker.asked)
+        many += any(asker.answered for asker in askers)
+    assert many > turns // 2, f"only {many} of {turns} were killed after an answer"
+    with Front("--release-on-close", users=front_pools.RULES, words=words) as front:
+        same(held(start=front_pools.START), [])
+        same(front.end(), (0, b""))
+    status, _, error = outside.ran_program(["replay", front_pools.START, JOURNAL])
+    same((status, error), (0, b""))
+
+
+CHECKS = [kills_lose_nothing, kills_in_segments]

@@ -8,10 +8,12 @@ import sys
 import time
 from errno import EIO, ENOSPC
 
+import front_pools
 import fronts
 from fronts import ALL, ANN, BOB, JOURNAL, Front, comes, connected_as, content, core, entries, fresh, refused, rest_of, told
 from mls import Ended
 from outside import SECONDS, TOP, needs_proof, put, same
+from segments import joined
 from serving import STANDARD, mode_of, shim
 
 LIMIT, ROOM = 268_435_456, 2_265
@@ -119,7 +121,11 @@ def a_journal_that_is_full():
     same((status, lines[0], lines[-1].startswith(f"mlsd: {JOURNAL}: full, ")), (6, told_of(95, size), True))
     assert answered >= 2, answered
     same(content(JOURNAL).count(b"\n"), number + answered)
-    os.remove(JOURNAL)
+    # (what OPERATIONS says to do then)
+    with Front(words=core("--segment", "67108864", start="wide.json")) as front:
+        same(front.client().ask("bob level " + wide.decode()), "no ceiling")
+        same((numbers(JOURNAL), front.end()), ([0], (0, b"")))
+    fresh()
 
 
 def a_failed_sync_of_the_sessions_file_is_5():
@@ -182,7 +188,192 @@ def the_sessions_file_is_counted_and_bound():
     same(entries(), [])
 
 
+# A file of the journal has some 170 lines.
+CUT = ("--segment", "4096")
+
+
+def numbers(name):
+    """The numbers of the files that were closed."""
+    found = [re.fullmatch(rf"{re.escape(name)}\.(\d{{20}})", it) for it in os.listdir(".")]
+    return sorted(int(it[1]) for it in found if it)
+
+
+def closed(name, number):
+    return f"{name}.{number:020}"
+
+
+def fill(client, count):
+    """Asks line by line until so many files more of the journal are closed."""
+    wanted = len(numbers(JOURNAL)) + count
+    while len(numbers(JOURNAL)) < wanted:
+        same(client.ask("bob get-execute tool"), "yes")
+
+
+def sessions_of(name=f"{JOURNAL}.sessions"):
+    """The lines of all sessions files, in their order."""
+    files = [*(closed(name, number) for number in numbers(name)), name]
+    return [content(file).decode().splitlines() for file in files]
+
+
+def are_closed_well():
+    """Nobody writes what was closed, each sessions file has the name of a file of the journal and goes on where the one
+    before ended, and nothing is left that was being made."""
+    last = f"{JOURNAL}.sessions"
+    assert set(numbers(last)) <= set(numbers(JOURNAL)), (numbers(last), numbers(JOURNAL))
+    for name in (JOURNAL, last):
+        for number in numbers(name):
+            comes(lambda: mode_of(closed(name, number)), 0o400)
+    same([it for it in os.listdir(".") if it.endswith(".new") and it.startswith(JOURNAL)], [])
+    files = sessions_of()
+    for lines in files[1:]:
+        assert re.fullmatch(r"0 begun \S+ entry \d+ next \d+", lines[0]), lines[0]
+    opened = [int(line.split()[0]) for lines in files for line in lines if line.split()[1] == "opened"]
+    same(opened, [*range(1, len(opened) + 1)])
+    return len(opened)
+
+
+def sessions_files_go_with_the_journal():
+    """With --segment the sessions file is closed with the journal's file, under its number; sessions are numbered on."""
+    fresh()
+    for turn in range(3):
+        with Front("--release-on-close", words=core(*CUT)) as front:
+            client = front.client()
+            fill(client, 2)
+            same(numbers(f"{JOURNAL}.sessions"), numbers(JOURNAL))
+            same(front.client().session, 2 * turn + 2)
+            found = client.stats()
+            names = [f"{JOURNAL}.sessions", *(closed(f"{JOURNAL}.sessions", it) for it in numbers(JOURNAL))]
+            same((found["segments"], found["journal_limit"], found["sessions_files"]), (len(names), None, len(names)))
+            same(found["sessions_bytes"], sum(map(os.path.getsize, names)))
+            front.end(signal.SIGKILL if turn == 1 else signal.SIGTERM)
+        fronts.wait_for_the_lock()
+        same(are_closed_well(), 2 * turn + 2)
+    for name in (f"{JOURNAL}.start", f"{JOURNAL}.sessions"):
+        assert os.path.exists(name), name
+
+
+def moments_between_two_sessions_files():
+    """Whatever a kill left of the steps between two sessions files, the next start has done the rest."""
+    last = f"{JOURNAL}.sessions"
+
+    def behind():
+        """The journal's file was closed, and the sessions file not."""
+        asked = b"".join(b"7 bob get-execute tool\n" for _ in range(400))
+        words = [fronts.outside.PROGRAM, "serve", "--sessions", *CUT, "--journal", JOURNAL, STANDARD]
+        done = fronts.subprocess_run(words, asked)
+        same(done.returncode, 0)
+
+    def linked():
+        behind()
+        os.link(last, closed(last, numbers(JOURNAL)[-1]))
+
+    def made():
+        linked()
+        put(f"{last}.new", b"0 beg")
+
+    def named():
+        """The new one has its name, and the old one could be written."""
+        os.chmod(closed(last, numbers(last)[-1]), 0o600)
+
+    for turn, leave in enumerate((behind, linked, made, named)):
+        fresh()
+        with Front(words=core(*CUT)) as front:
+            fill(front.client(), 1)
+            front.end()
+        leave()
+        with Front(words=core(*CUT)) as front:
+            same((turn, front.client().session), (turn, 2))
+            comes(lambda: mode_of(closed(last, numbers(last)[-1])), 0o400)
+            same((turn, numbers(last)[-1]), (turn, numbers(JOURNAL)[-1]))
+            front.end()
+        same((turn, are_closed_well()), (turn, 2))
+
+
+def what_dead_clients_held_in_segments():
+    """As without segments: what START opens with stays, and what clients held who are gone is released, though the last
+    state has both; subjects of pools are set back."""
+    fresh()
+    reads = [{"subject": "aud", "object": "notes", "modes": ["read"]}]
+    front_pools.start(matrix=reads, accesses=reads)
+    words, of_start = core(*CUT, start=front_pools.START), ["aud read notes"]
+    for flags, more in ((("--release-on-close",), []), ((), ["ann read plans", "bob execute tool", "sec write root"])):
+        fresh()
+        with Front(*flags, users=front_pools.RULES, words=words) as front:
+            one, two = front.client(), front.client()
+            asked = ["ann get-read plans", "aud get-read notes", "sec get-write root", "app level S:A", "app get-read plans"]
+            same(one.ask_all(asked), ["yes"] * 5)
+            fill(two, 2)
+            assert numbers(f"{JOURNAL}.state"), "no state was kept"
+            same(front.end(signal.SIGKILL)[0], -signal.SIGKILL)
+        fronts.wait_for_the_lock()
+        with Front(*flags, users=front_pools.RULES, words=words) as front:
+            same(fronts.held(start=front_pools.START), sorted(of_start + more))
+            same({fronts.levels(start=front_pools.START)[it] for it in front_pools.POOL}, {"U"})
+            with front.client() as client:
+                same(client.ask_all(["aud get-read notes", "app get-write notes"]), ["yes", "yes"])
+            comes(lambda: fronts.held(start=front_pools.START), sorted(of_start + more))
+            same(front.end(), (0, b""))
+
+
+def recipe():
+    """The archive's recipe, as DEPLOYING has it, for this journal and a folder here."""
+    with open(f"{TOP}/docs/DEPLOYING.md", encoding="utf-8") as file:
+        text = file.read().partition("**An archive.**")[2].partition("\nwith `archive`")[0]
+    lines = [line[4:] for line in text.splitlines() if line.startswith("    ")]
+    assert len(lines) > 3 and any("mv " in line for line in lines), lines
+    return re.sub(r"\bjournal\b", JOURNAL, "\n".join(lines)).replace("/archive/", "archive/")
+
+
+def an_archive():
+    """Closed files are moved away while mlsd runs, as DEPLOYING says; it goes on without them, over a start too; what is
+    there and in the archive is all, and is one legal journal."""
+    fresh()
+    os.makedirs("archive", exist_ok=True)
+    with Front("--release-on-close", words=core(*CUT)) as front:
+        fill(front.client(), 3)
+        whole, files = joined(JOURNAL), len(numbers(JOURNAL))
+        done = fronts.subprocess_run(["bash", "-c", recipe()], b"")
+        same((done.returncode, done.stderr, numbers(JOURNAL), numbers(f"{JOURNAL}.sessions")), (0, b"", [], []))
+        same(len(os.listdir("archive")), 2 * files)
+        fill(front.clients[0], 1)
+        front.end()
+    with Front("--release-on-close", words=core(*CUT)) as front:
+        same((front.client().session, front.clients[0].ask("bob check execute tool")), (2, "not held"))
+        front.end()
+    for name in os.listdir("archive"):
+        os.rename(f"archive/{name}", name)
+    assert joined(JOURNAL).startswith(whole)
+    same(are_closed_well(), 2)
+    same(fronts.outside.ran_program(["replay", STANDARD, JOURNAL])[0], 0)
+
+
+def what_share_has():
+    """The dashboard and the four alert rules name metrics that mlsd writes, and each rule says what to do."""
+    fresh()
+    front_pools.start()
+    with Front("--metrics", "m", users=front_pools.RULES, words=core(start=front_pools.START)) as front:
+        front.client().ask_all(["zoe level U", "ann check read plans"])
+        front.end()
+    families = set(re.findall(r"^# TYPE (\w+)", content("m").decode(), re.M))
+    families |= {f"{it}_bucket" for it in families}
+    with open(f"{TOP}/share/grafana/mlsd.json", encoding="utf-8") as file:
+        dashboard = json.load(file)
+    with open(f"{TOP}/share/prometheus/mlsd.rules.yml", encoding="utf-8") as file:
+        rules = file.read()
+    with open(f"{TOP}/docs/OPERATIONS.md", encoding="utf-8") as file:
+        page = file.read()
+    asked = [target["expr"] for panel in dashboard["panels"] for target in panel["targets"]] + [rules]
+    named = set(re.findall(r"\bmlsd_\w+", " ".join(asked)))
+    assert len(named) > 15 and named <= families, named - families
+    alerts = re.findall(r"- alert: (\w+)", rules)
+    same((len(alerts), rules.count("expr:"), rules.count("action: >-")), (4, 4, 4))
+    same([it for it in alerts if f"`{it}`" not in page], [])
+    same([it for it in families if not it.endswith("_bucket") and f"`{it}" not in page], [])
+
+
 CHECKS = [an_end_that_is_told, a_core_that_ends_for_another_reason, units_and_their_statuses, a_journal_that_is_full]
+CHECKS += [an_archive, what_share_has]
+CHECKS += [sessions_files_go_with_the_journal, moments_between_two_sessions_files, what_dead_clients_held_in_segments]
 AS_ROOT = [the_sessions_file_is_counted_and_bound]
 OVER_THE_SHIM = [a_failed_sync_of_the_sessions_file_is_5]
 AS_ROOT_OVER_THE_SHIM = [clocks_that_are_set_back]

@@ -1,5 +1,6 @@
 """What the checks of mlsd share: how it is built, run and asked, by whom, over which core."""
 import ctypes
+import fcntl
 import functools
 import os
 import select
@@ -73,6 +74,13 @@ class Notices:
                 if not is_alive:
                     return False
         raise AssertionError(f"{wanted} isn't told")
+
+    def is_there(self):
+        """Whether something was told; it is read."""
+        try:
+            return bool(self.socket.recv(4_096))
+        except socket.timeout:
+            return False
 
     def close(self):
         self.socket.close()
@@ -156,7 +164,10 @@ class Front:
 
     def ended(self):
         _, told = self.run.communicate(timeout=SECONDS)
-        return self.run.returncode, told
+        # (on a machine that has much to do the core may answer late, which is told)
+        slow = (b"has answered nothing for", b"answers again, after")
+        lines = [line for line in told.splitlines(keepends=True) if not any(it in line for it in slow)]
+        return self.run.returncode, b"".join(lines)
 
 
 def connected():
@@ -265,8 +276,8 @@ def told(journal=JOURNAL):
 
 def fresh():
     """No journal, and no sessions."""
-    for name in (JOURNAL, f"{JOURNAL}.sessions", f"{JOURNAL}.torn", SOCKET):
-        if os.path.lexists(name):
+    for name in os.listdir("."):
+        if name in (JOURNAL, SOCKET) or name.startswith(f"{JOURNAL}."):
             os.remove(name)
 
 
@@ -289,3 +300,23 @@ def comes(what, wanted, seconds=SECONDS):
     while what() != wanted:
         assert time.monotonic() < ends, f"found {shown(what())}, wanted {shown(wanted)}"
         time.sleep(0.01)
+
+
+def wait_for_the_lock():
+    """A core whose front was killed ends by itself; until then the journal is in use."""
+    ends = time.monotonic() + SECONDS
+    while True:
+        # (with segments another file may have got the name)
+        with open(JOURNAL, "rb") as file:
+            try:
+                fcntl.flock(file, fcntl.LOCK_EX | fcntl.LOCK_NB)
+                if os.path.samestat(os.fstat(file.fileno()), os.stat(JOURNAL)):
+                    return
+            except BlockingIOError:
+                pass
+        assert time.monotonic() < ends, "the core does not end"
+        time.sleep(0.01)
+
+
+def subprocess_run(words, asked):
+    return subprocess.run(words, input=asked, capture_output=True, timeout=SECONDS)

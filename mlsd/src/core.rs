@@ -153,6 +153,11 @@ impl Core {
         Ok((std::mem::replace(&mut self.from, rest), is_there))
     }
 
+    /// What it is about is not waited for.
+    pub fn kill(&mut self) {
+        let _ = self.child.kill();
+    }
+
     /// It is asked nothing more.
     pub fn close(&mut self) -> io::Result<()> {
         self.stream.shutdown(std::net::Shutdown::Write)

@@ -9,8 +9,11 @@ use crate::files::Files;
 use crate::holders::{Get, Holders};
 use crate::journal::Journal;
 use crate::line::{Ask, Change, Judged, Verdict, LINE_MAX};
+use crate::metrics::Metrics;
 use crate::names::{Names, Opening, Triple};
 use crate::pools::Pools;
+use crate::probe;
+use crate::pulse::{Pulse, QUESTION};
 use crate::sessions::Sessions;
 use crate::stats::{Now, Stats};
 use crate::users::Users;
@@ -30,6 +33,8 @@ pub struct Desk {
     pub sessions: Sessions,
     pub journal: Journal,
     pub stats: Stats,
+    pub metrics: Option<Metrics>,
+    pub pulse: Pulse,
     /// The number of the next entry.
     pub entries: u64,
     /// How many connections there may be, and are.
@@ -53,8 +58,25 @@ impl Desk {
         let of_start = held.iter().filter(|(_, is_of_start)| *is_of_start).map(|(triple, _)| *triple).collect();
         let (holders, budgets, stats) = (Holders::new(of_start), Budgets::default(), Stats::default());
         let now = Instant::now();
-        let open = 0;
-        Desk { words, core, names, users, pools, holders, budgets, sessions, journal, stats, entries, most, open, now }
+        let (metrics, pulse, open) = (words.metrics.as_ref().map(|path| Metrics::new(path, now)), Pulse::new(now), 0);
+        Desk {
+            words,
+            core,
+            names,
+            users,
+            pools,
+            holders,
+            budgets,
+            sessions,
+            journal,
+            stats,
+            metrics,
+            pulse,
+            entries,
+            most,
+            open,
+            now,
+        }
     }
 
     /// Takes a line of a client; false where it has to wait.
@@ -68,6 +90,12 @@ impl Desk {
             }
             Verdict::Answer(text) => text.to_string(),
             Verdict::Stats => self.told(),
+            Verdict::Probe => {
+                let asked = Asked { is_own: true, tells: Some(probe::ANSWER), ..Asked::default() };
+                self.core.ask(session, QUESTION, false, self.now, asked, true);
+                client.in_flight += 1;
+                return true;
+            }
             Verdict::Ask(ask) => match self.outcome(session, client, &ask) {
                 Outcome::Wait => return false,
                 Outcome::Own(text) => text.to_string(),

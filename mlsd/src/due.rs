@@ -27,6 +27,10 @@ pub struct Asked {
     pub get: Option<Triple>,
     /// The uid whose day an entry was taken of.
     pub charged: Option<u32>,
+    /// Whether the front asks it for itself: whether the core answers.
+    pub is_own: bool,
+    /// What is told in place of the answer.
+    pub tells: Option<&'static str>,
     /// A subject of a pool that is on its way back, and whether this is a release.
     pub returns: Option<(u16, bool)>,
 }
@@ -37,6 +41,11 @@ pub struct Queue(VecDeque<Due>);
 impl Queue {
     pub fn add(&mut self, due: Due) {
         self.0.push_back(due);
+    }
+
+    /// Since when the oldest waits.
+    pub fn oldest(&self) -> Option<Instant> {
+        self.0.front().map(|due| due.since)
     }
 
     pub fn is_empty(&self) -> bool {

@@ -13,6 +13,9 @@ use std::time::{Duration, Instant};
 
 /// How long a client waits whose uid has used up its lines.
 const LATE: Duration = Duration::from_millis(10);
+/// How long a core that answers nothing lives behind the time for answers, and behind the end of what it is asked.
+const GRACE: Duration = Duration::from_secs(3);
+const STUCK: Duration = Duration::from_secs(4);
 
 pub struct Hall<'a> {
     pub desk: &'a mut Desk,
@@ -23,6 +26,9 @@ pub struct Hall<'a> {
     pub drains: Option<Instant>,
     /// The core was told that nothing more is asked.
     pub is_ending: bool,
+    /// Since when.
+    pub ends: Option<Instant>,
+    pub is_killed: bool,
     /// The session that a round begins with.
     pub turn: u32,
 }
@@ -94,7 +100,8 @@ impl Hall<'_> {
             return 0;
         }
         let is_late = self.drains.is_some() || self.clients.values().any(|client| client.is_late);
-        let most = if is_late { Some(core.map_or(LATE, |core| core.min(LATE))) } else { core };
+        let late = if is_late { Some(LATE) } else { None };
+        let most = [core, late, self.desk.until_metrics(), Some(self.desk.until_beat())].into_iter().flatten().min();
         // (a part of a millisecond counts as one, or the loop would not rest)
         most.map_or(-1, |most| most.as_millis() as i32 + 1)
     }
@@ -110,7 +117,7 @@ impl Hall<'_> {
             self.signals();
         }
         if fds[1].revents & !sys::OUT != 0 && !self.desk.hear(&mut self.clients)? {
-            return if self.is_ending { Ok(false) } else { Err(End::strange("the core ended")) };
+            return if self.is_ending && !self.is_killed { Ok(false) } else { Err(End::strange("the core ended")) };
         }
         if fds[2].revents != 0 {
             self.accept();
@@ -124,12 +131,28 @@ impl Hall<'_> {
         self.clients.values_mut().for_each(Client::send);
         self.close();
         self.desk.flush()?;
+        self.desk.beat(!self.is_ending);
+        self.desk.measure();
         self.desk.core.send(self.linger());
+        self.end_still();
         if self.drains.is_some() && self.clients.is_empty() && self.desk.core.due.is_empty() && !self.is_ending {
             self.is_ending = true;
+            self.ends = Some(self.desk.now);
             self.desk.core.close().map_err(|error| End::own("core", error))?;
         }
         Ok(true)
+    }
+
+    /// A core that stands still while the front is to end is killed: what it answered is on the disk.
+    fn end_still(&mut self) {
+        let now = self.desk.now;
+        let is_over = self.drains.map_or(false, |drains| now > drains + GRACE) && self.desk.is_still();
+        let is_stuck = self.ends.map_or(false, |ends| now > ends + STUCK);
+        if (is_over || is_stuck) && !self.is_killed {
+            eprintln!("mlsd: the core stands still: it is killed");
+            self.is_killed = true;
+            self.desk.core.kill();
+        }
     }
 
     /// Each round begins behind the client that the last began with.

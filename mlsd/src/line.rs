@@ -1,5 +1,6 @@
 //! What one line of a client comes to: a function of the line, the names, and what the client may do.
 use crate::names::{Names, MODES};
+use crate::probe;
 use crate::who::{Asker, Who};
 
 pub const LINE_MAX: usize = 20_000;
@@ -33,8 +34,10 @@ pub enum Verdict {
     Note(String),
     /// The front answers itself.
     Answer(&'static str),
-    /// Root asks how the front does.
+    /// Somebody who may asks how the front does.
     Stats,
+    /// Anybody asks whether the core answers.
+    Probe,
     Ask(Ask),
 }
 
@@ -77,8 +80,11 @@ pub fn judge(names: &Names, who: &Who, line: &[u8]) -> Judged {
     if tokens.is_empty() || tokens[0] == "?" || tokens[0].starts_with(';') {
         return asked(is_question, Verdict::Answer("bad form"));
     }
-    if tokens == ["stats"] && who.is_root && !is_question {
+    if tokens == ["stats"] && (who.is_root || who.has_stats) && !is_question {
         return asked(false, Verdict::Stats);
+    }
+    if tokens == [probe::LINE] && !is_question {
+        return asked(false, Verdict::Probe);
     }
     asked(is_question, judge_tokens(names, who, &tokens, is_question))
 }
@@ -178,9 +184,14 @@ mod tests {
     }
 
     #[test]
-    fn root_alone_is_told_how_the_front_does() {
+    fn who_is_told_how_the_front_does() {
         let root = Who { is_root: true, ..who() };
         assert_eq!(judge(&standard(), &root, b" stats ").verdict, Verdict::Stats);
+        assert_eq!(judge(&standard(), &Who { has_stats: true, ..who() }, b"stats").verdict, Verdict::Stats);
+        assert_eq!(
+            (judged("probe").verdict, judged("? probe").verdict),
+            (Verdict::Probe, Verdict::Answer("not yours"))
+        );
         assert_eq!(judge(&standard(), &root, b"? stats").verdict, Verdict::Answer("not yours"));
     }
 }

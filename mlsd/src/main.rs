@@ -18,8 +18,11 @@ mod inbox;
 mod journal;
 mod line;
 mod listen;
+mod metrics;
 mod names;
 mod pools;
+mod probe;
+mod pulse;
 mod returns;
 mod sessions;
 mod start;
@@ -72,7 +75,17 @@ fn serve(
     let (listener, own) = listen::listener(passed, desk.words.socket.as_deref())?;
     listen::notify(&format!("READY=1\nSTATUS={}\n", desk.status()));
     let clients = returns::Clients::new();
-    let mut hall = Hall { desk, clients, listener: Some(listener), wake, drains: None, is_ending: false, turn: 0 };
+    let mut hall = Hall {
+        desk,
+        clients,
+        listener: Some(listener),
+        wake,
+        drains: None,
+        is_ending: false,
+        ends: None,
+        is_killed: false,
+        turn: 0,
+    };
     let ended = hall.run();
     if ended.as_ref().err().map_or(true, End::is_core) {
         // (what the core answered before it ended; else who asks may not be on the disk)
@@ -85,7 +98,13 @@ fn serve(
 }
 
 fn run() -> Result<(), End> {
-    let words = Words::parse(std::env::args().skip(1))?;
+    let args: Vec<String> = std::env::args().skip(1).collect();
+    if let [word, path] = &args[..] {
+        if word == "--probe" {
+            return probe::probe(path.clone());
+        }
+    }
+    let words = Words::parse(args.into_iter())?;
     let passed = listen::passed();
     let (wake, _waker) = wake()?;
     let (core, mut opening) = Core::start(&words.core)?;
@@ -102,6 +121,7 @@ fn run() -> Result<(), End> {
     let held = opening.held.clone();
     let mut desk = Desk::new(words, core, opening, files, most_clients());
     let ended = serve(&mut desk, &held, wake, passed);
+    desk.put_metrics(false);
     let Desk { core, mut sessions, mut journal, entries, .. } = desk;
     let status = core.end().map_err(|error| End::own("wait", error))?;
     if ended.as_ref().err().map_or(true, End::is_core) {

@@ -32,6 +32,9 @@ impl Desk {
             self.answered(clients, line, now)?;
             self.answer_own(clients);
         }
+        if !text.is_empty() {
+            self.is_heard();
+        }
         if self.entries > before {
             self.stats.batches += 1;
             self.has_grown()?;
@@ -47,6 +50,12 @@ impl Desk {
             What::Core(asked) => asked,
             What::Own(_) => return Ok(()),
         };
+        if asked.is_own {
+            if let Some(text) = asked.tells {
+                tell(clients, &due, text.as_bytes());
+            }
+            return Ok(());
+        }
         let kind = answers::kind(text);
         let has_entry = !due.is_question && answers::has_entry(kind);
         self.entries += u64::from(has_entry);

@@ -9,9 +9,18 @@ const PLACES: usize = 320;
 #[derive(Debug)]
 pub struct Latencies {
     counts: Vec<u64>,
+    /// By `BOUNDS`, and more than the last.
+    pub buckets: [u64; BOUNDS.len()],
     count: u64,
+    micros: u64,
     most: u64,
 }
+
+/// Microseconds at which a histogram is cut.
+pub const BOUNDS: [u64; 15] = [
+    100, 250, 500, 1_000, 2_500, 5_000, 10_000, 25_000, 50_000, 100_000, 250_000, 500_000, 1_000_000, 2_500_000,
+    5_000_000,
+];
 
 fn place(micros: u64) -> usize {
     if micros < FINE {
@@ -31,7 +40,7 @@ fn least(place: usize) -> u64 {
 
 impl Default for Latencies {
     fn default() -> Latencies {
-        Latencies { counts: vec![0; PLACES], count: 0, most: 0 }
+        Latencies { counts: vec![0; PLACES], buckets: [0; BOUNDS.len()], count: 0, micros: 0, most: 0 }
     }
 }
 
@@ -39,8 +48,20 @@ impl Latencies {
     pub fn add(&mut self, time: Duration) {
         let micros = time.as_micros() as u64;
         self.counts[place(micros)] += 1;
+        if let Some(at) = BOUNDS.iter().position(|bound| micros <= *bound) {
+            self.buckets[at] += 1;
+        }
         self.count += 1;
+        self.micros = self.micros.saturating_add(micros);
         self.most = self.most.max(micros);
+    }
+
+    pub fn count(&self) -> u64 {
+        self.count
+    }
+
+    pub fn sum(&self) -> Duration {
+        Duration::from_micros(self.micros)
     }
 
     /// A time that so many of a thousand didn't pass, but by an eighth.
@@ -73,6 +94,10 @@ impl Counts {
             Some((_, count)) => *count += 1,
             None => self.0.push((kind.to_vec(), 1)),
         }
+    }
+
+    pub fn all(&self) -> &[(Vec<u8>, u64)] {
+        &self.0
     }
 
     fn json(&self) -> String {
@@ -110,7 +135,7 @@ pub struct Now<'a> {
 }
 
 /// The resident memory of a process, in KiB.
-fn memory(pid: u32) -> u64 {
+pub fn memory(pid: u32) -> u64 {
     let text = std::fs::read_to_string(format!("/proc/{pid}/status")).unwrap_or_default();
     let line = text.lines().find_map(|line| line.strip_prefix("VmRSS:")).unwrap_or("");
     line.split_whitespace().next().and_then(|word| word.parse().ok()).unwrap_or(0)
@@ -177,6 +202,8 @@ mod tests {
             assert!(wanted <= found && found <= wanted + wanted / 8, "{thousandths}: {found}");
         }
         assert_eq!(latencies.quantile(1_000), 1_000);
+        assert_eq!((latencies.count(), latencies.sum()), (1_000, Duration::from_micros(500_500)));
+        assert_eq!(latencies.buckets[..5], [100, 150, 250, 500, 0]);
     }
 
     #[test]

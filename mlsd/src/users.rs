@@ -1,11 +1,14 @@
 //! The users file: who may ask as whom, and the pools of subjects of which each connection has one of its own.
 //!
 //! A line is `WHO = SUBJECT.. [rate=N] [clients=N] [day=N]` or `pool NAME = SUBJECT..`. WHO is a user's name, a uid or
-//! `@` and a group's name; a SUBJECT of the first is a name of the start, a pool's, or `*`. `#` begins a note.
+//! `@` and a group's name; a SUBJECT of the first is a name of the start, a pool's, or `*`; `stats` beside them is no subject. `#` begins a note.
 use crate::names::Names;
 use crate::who::Who;
 use std::io::{self, Read};
 use std::os::unix::fs::MetadataExt;
+
+/// What isn't a subject: that one is told how the front does.
+const STATS: &str = "stats";
 
 /// What the system says a name's number is: of a user, or of a group.
 pub type Ids<'a> = &'a dyn Fn(&str, bool) -> Option<u32>;
@@ -141,6 +144,8 @@ impl Users {
             for (subject, may) in who.subjects.iter_mut().enumerate() {
                 *may |= !self.is_pooled(subject as u16);
             }
+        } else if token == STATS && pools.is_empty() && names.subject_named(token).is_none() {
+            who.has_stats = true;
         } else if pools.is_empty() {
             let subject = names.subject_named(token).ok_or(format!("no subject is called {token}"))?;
             if self.is_pooled(subject) {

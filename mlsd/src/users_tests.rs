@@ -42,6 +42,18 @@ fn a_pool_is_asked_as_by_its_name_alone() {
 }
 
 #[test]
+fn a_rule_may_name_stats() {
+    let users = parsed("@audit = stats\n5 = ann\n6 = *\n").unwrap();
+    let has = |uid, groups: &[u32]| users.who(&standard(), uid, groups).unwrap().has_stats;
+    assert_eq!(
+        (has(5, &[]), has(5, &[50]), has(6, &[]), shown(&users, 9, &[50])),
+        (false, true, false, Some("nobody".to_string()))
+    );
+    let (one, other) = (users.who(&standard(), 5, &[50]).unwrap(), users.who(&standard(), 5, &[]).unwrap());
+    assert!(one.covers(&other) && !other.covers(&one));
+}
+
+#[test]
 fn what_is_not_understood_is_refused_with_its_line() {
     let rows = [
         ("ann\n", "line 1: bad form"),

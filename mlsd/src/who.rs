@@ -15,6 +15,8 @@ pub enum Asker {
 #[derive(Clone, Default, Debug, PartialEq, Eq)]
 pub struct Who {
     pub is_root: bool,
+    /// Whether it is told how the front does, as root is.
+    pub has_stats: bool,
     /// Whether it may ask as each subject, by number.
     pub subjects: Vec<bool>,
     /// The pools that it may ask as: their names and places.
@@ -56,6 +58,7 @@ impl Who {
                 self.pools.push(pool.clone());
             }
         }
+        self.has_stats |= other.has_stats;
         self.rate = more(self.rate, other.rate);
         self.clients = more(self.clients, other.clients);
         self.day = more(self.day, other.day);
@@ -64,7 +67,8 @@ impl Who {
     /// Whether it may ask as all that another may.
     pub fn covers(&self, other: &Who) -> bool {
         let has_all = self.subjects.iter().zip(&other.subjects).all(|(may, must)| *may || !*must);
-        has_all && other.pools.iter().all(|pool| self.pools.contains(pool))
+        let may_know = self.has_stats || !other.has_stats;
+        has_all && may_know && other.pools.iter().all(|pool| self.pools.contains(pool))
     }
 
     /// Lines a second; 0 is no limit.

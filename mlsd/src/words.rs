@@ -2,7 +2,8 @@
 use crate::ending::End;
 
 pub const USAGE: &str = "usage: mlsd --socket PATH --users FILE [--release-on-close] [--linger MS] [--sessions FILE] \
-    -- mls serve --sessions --names [--recover] --journal FILE START";
+    [--metrics FILE] -- mls serve --sessions --names [--recover] --journal FILE START\n       \
+    mlsd --probe SOCKET";
 const LINGER_MAX: u64 = 10_000;
 
 #[derive(Default, Debug)]
@@ -13,6 +14,7 @@ pub struct Words {
     /// Milliseconds that releases wait for company.
     pub linger: u64,
     pub sessions: String,
+    pub metrics: Option<String>,
     pub journal: String,
     /// Whether the journal is in segments.
     pub in_segments: bool,
@@ -39,6 +41,7 @@ impl Words {
                 "--release-on-close" => words.releases = true,
                 "--linger" => words.linger = args.next()?.parse().ok().filter(|linger| *linger <= LINGER_MAX)?,
                 "--sessions" => words.sessions = args.next()?,
+                "--metrics" => words.metrics = Some(args.next()?),
                 "--" => words.core = args.by_ref().collect(),
                 _ => return None,
             }
