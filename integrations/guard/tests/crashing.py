@@ -4,8 +4,8 @@
 
 PLACE is the number of the call or request, or a text that is in the request or in what is written. With `kill` it dies
 as by kill -9: what was done is there. With `lose` the machine dies: what was done and not synced is undone, names and
-bytes. With `-late` a file of somebody else appears in the low folder just before a message gets its name there, and
-has that name. Either way the service, which has synced what it answered, ends with its input. A request that is asked while
+bytes. With `-late` a file of somebody else appears in the low folder under a message's name, just before that gets it.
+Either way the service, which has synced what it answered, ends with its input. A request that is asked while
 something isn't synced is a fault of its own: status 99. Where there is no such place the guard ends as it would, and
 says how many calls there were.
 """
