@@ -3,9 +3,9 @@ import os
 import pty
 import subprocess
 
-from outside import EXAMPLES, PROGRAM, SECONDS, put, ran_program, same
+from asking import HELD, OFFICE, STANDARD, asks, put_faulty
+from outside import PROGRAM, SECONDS, put, ran_program, same
 
-STANDARD, OFFICE, HELD = (f"{EXAMPLES}/{it}.json" for it in ("standard", "office", "held"))
 # The journal of examples/standard.script.
 MEMO = b"0 0 0 get-read 1 yes\n1 0 1 get-read 2 no star\n2 0 0 release read 1 yes\n"
 # A journal with a level that no scheme has, and with objects and subjects that aren't there.
@@ -21,14 +21,9 @@ GIVEN = (
 )
 
 ASKED = [
-    ("bob get-read memo", "no star\n", 4),
-    ("ann get-read plans", "yes\n", 0),
-    ("  ann   get-read plans ", "yes\n", 0),
-    ("ann check read plans", "not held\n", 4),
-    ("#0 get-read #1", "yes\n", 0),
-    ("#9 get-read #1", "undefined\n", 4),
-    ("ann release read plans", "yes\n", 0),
-    ("sec create root S:B hi", "no authority\n", 4),
+    ("bob get-read memo", "no star\n", 4), ("ann get-read plans", "yes\n", 0), ("  ann   get-read plans ", "yes\n", 0),
+    ("ann check read plans", "not held\n", 4), ("#0 get-read #1", "yes\n", 0), ("#9 get-read #1", "undefined\n", 4),
+    ("ann release read plans", "yes\n", 0), ("sec create root S:B hi", "no authority\n", 4),
 ]
 
 EXPLAINED = [
@@ -249,12 +244,7 @@ LINTED = [
 ]
 
 
-def answered(words, text, status):
-    same((words, *ran_program(words)), (words, status, text.encode(), b""))
-
-
-def refused(words, told, status=1):
-    same((words, *ran_program(words)), (words, status, b"", told.encode()))
+answered, refused, not_understood = asks()
 
 
 def on_terminal(words):
@@ -273,35 +263,34 @@ def lines_that_are_asked():
 
 
 def lines_that_are_explained():
-    for line, text, status in EXPLAINED:
-        answered(["explain", STANDARD, line], text, status)
-    for line, text, status in HELD_EXPLAINED:
-        answered(["explain", HELD, line], text, status)
+    for start, rows in ((STANDARD, EXPLAINED), (HELD, HELD_EXPLAINED)):
+        for line, text, status in rows:
+            answered(["explain", start, line], text, status)
 
 
 def lines_that_ask_nothing():
     for line, fault in BAD_LINES:
         for command in ("ask", "explain"):
-            refused([command, STANDARD, line], f"mls: line: bad {fault}\n")
-    refused(["ask", STANDARD, "a" * 20001], "mls: line: bad form\n")
+            refused([command, STANDARD, line], f"line: bad {fault}")
+    refused(["ask", STANDARD, "a" * 20001], "line: bad form")
 
 
 def words_that_name_nothing():
     for line, told in WRONG_WORDS:
         for command in ("ask", "explain"):
-            refused([command, STANDARD, line], f"mls: line: bad {told}\n")
+            refused([command, STANDARD, line], f"line: bad {told}")
     for word, told in (("memmo", " (memo?)"), ("memo ", " (memo?)"), ("pl\u00e4n", " (plans?)"), ("mo", ""), ("ann", ""), ("#01", ""), ("", ""),
                        (34 * "p", ""), ("plans" + 30 * "s", "")):
-        refused(["who", STANDARD, word], f"mls: {word}: bad name{told}\n")
+        refused(["who", STANDARD, word], f"{word}: bad name{told}")
     put("memo.journal", MEMO)
-    refused(["ask", "--journal", "memo.journal", STANDARD, "ann get-red plans"], "mls: line: bad form\n")
-    refused(["ask", "--journal", "memo.journal", STANDARD, "ann get-read plns"], "mls: line: bad name: plns (plans?)\n")
+    refused(["ask", "--journal", "memo.journal", STANDARD, "ann get-red plans"], "line: bad form")
+    refused(["ask", "--journal", "memo.journal", STANDARD, "ann get-read plns"], "line: bad name: plns (plans?)")
 
 
 def where_a_check_points():
     """On a terminal the line of a refused start is followed by the command that tells where its fault applies."""
     put("empty.json", b"")
-    refused(["check", "empty.json"], "mls: empty.json: start 1 Json\n")
+    refused(["check", "empty.json"], "empty.json: start 1 Json")
     for words, told in ((["check", "empty.json"], "mls: empty.json: start 1 Json\r\nmls lint empty.json tells where\r\n"),
                         (["check", "none.json"], "mls: none.json: file\r\n"), (["lattice", "empty.json"], "mls: empty.json: start 1 Json\r\n")):
         same((words, *on_terminal(words)), (words, 1, told))
@@ -310,18 +299,19 @@ def where_a_check_points():
 def subjects_who_may():
     for words, text, status in WHO:
         answered(["who", STANDARD, *words], text, status)
-    refused(["who", STANDARD, "nobody"], "mls: nobody: bad name\n")
-    refused(["who", STANDARD, "$x"], "mls: $x: bad name\n")
+    refused(["who", STANDARD, "nobody"], "nobody: bad name")
+    refused(["who", STANDARD, "$x"], "$x: bad name")
 
 
 def entries_that_are_explained():
     put("strange.journal", STRANGE)
-    for number, text in STRANGE_EXPLAINED:
-        answered(["explain", STANDARD, "--journal", "strange.journal", "--at", str(number)], text, 4)
     put("memo.journal", MEMO)
-    answered(["explain", STANDARD, "--journal", "memo.journal", "--at", "1"], EXPLAINED[0][1], 4)
-    refused(["explain", STANDARD, "--journal", "memo.journal", "--at", "3"], "mls: memo.journal: no entry 3\n")
-    refused(["explain", STANDARD, "--journal", "memo.journal", "--at", "4"], "mls: memo.journal: at most 3\n")
+    asked = lambda journal, number: ["explain", STANDARD, "--journal", journal, "--at", str(number)]
+    for number, text in STRANGE_EXPLAINED:
+        answered(asked("strange.journal", number), text, 4)
+    answered(asked("memo.journal", 1), EXPLAINED[0][1], 4)
+    refused(asked("memo.journal", 3), "memo.journal: no entry 3")
+    refused(asked("memo.journal", 4), "memo.journal: at most 3")
 
 
 def states_before_entries():
@@ -332,37 +322,32 @@ def states_before_entries():
 
 
 def faults_in_their_order():
-    put("memo.journal", MEMO)
-    put("torn.journal", MEMO[:-1])
-    put("forged.journal", MEMO.replace(b"no star", b"yes"))
-    put("empty.json", b"")
+    put_faulty(MEMO)
     line = "ann get-read"
-    asked = lambda start, journal, *more: ["ask", start, "--journal", journal, "--at", "9", *more, line]
-    refused(asked("no.json", "no.journal"), "mls: no.json: file\n")
-    refused(asked("empty.json", "no.journal"), "mls: no.journal: file\n")
-    refused(asked("empty.json", "torn.journal"), "mls: empty.json: start 1 Json\n")
-    refused(asked(STANDARD, "torn.journal"), "mls: torn.journal: line 3: entry 1 BadForm\n")
-    refused(asked(STANDARD, "forged.journal"), "mls: forged.journal: replay 2 Differs at 1 expected no star\n", 3)
-    refused(asked(STANDARD, "memo.journal"), "mls: memo.journal: at most 3\n")
-    refused(["ask", STANDARD, line], "mls: line: bad form\n")
+    asked = lambda start, journal: ["ask", start, "--journal", journal, "--at", "9", line]
+    refused(asked("no.json", "no.journal"), "no.json: file")
+    refused(asked("empty.json", "no.journal"), "no.journal: file")
+    refused(asked("empty.json", "torn.journal"), "empty.json: start 1 Json")
+    refused(asked(STANDARD, "torn.journal"), "torn.journal: line 3: entry 1 BadForm")
+    refused(asked(STANDARD, "forged.journal"), "forged.journal: replay 2 Differs at 1 expected no star", 3)
+    refused(asked(STANDARD, "opened.journal"), "opened.journal: at most 3")
+    refused(["ask", STANDARD, line], "line: bad form")
 
 
 def words_that_no_question_has():
-    for words in (["ask", STANDARD], ["ask", STANDARD, "--at", "0", "ann get-read plans"], ["explain", STANDARD], ["who", STANDARD],
-                  ["who", STANDARD, "memo", "see"], ["explain", STANDARD, "--journal", "j"], ["ask"]):
-        status, output, error = ran_program(words)
-        same((words, status, output, bool(error)), (words, 2, b"", True))
+    not_understood(["ask", STANDARD], ["ask", STANDARD, "--at", "0", "ann get-read plans"], ["explain", STANDARD], ["who", STANDARD],
+                   ["who", STANDARD, "memo", "see"], ["explain", STANDARD, "--journal", "j"], ["ask"])
 
 
 def listed_entries():
     put("strange.journal", STRANGE)
+    asked = lambda words: ["journal", *words, STANDARD, "strange.journal"]
     for words, text, status in LISTED:
-        answered(["journal", *words, STANDARD, "strange.journal"], text, status)
-    refused(["journal", "--subject", "zoe", STANDARD, "strange.journal"], "mls: zoe: bad name (bob?)\n")
-    refused(["journal", "--object", "file", STANDARD, "strange.journal"], "mls: file: bad name\n")
-    refused(["journal", "--by", "zoe", STANDARD, "strange.journal"], "mls: zoe: bad name (bob?)\n")
-    refused(["journal", "--object", "file", "--by", "yan", "--subject", "zoe", STANDARD, "strange.journal"], "mls: zoe: bad name (bob?)\n")
-    refused(["journal", "--object", "file", "--by", "yan", "--subject", "ann", STANDARD, "strange.journal"], "mls: yan: bad name (ann?)\n")
+        answered(asked(words), text, status)
+    for words, told in (("--subject zoe", "zoe: bad name (bob?)"), ("--object file", "file: bad name"), ("--by zoe", "zoe: bad name (bob?)"),
+                        ("--object file --by yan --subject zoe", "zoe: bad name (bob?)"),
+                        ("--object file --by yan --subject ann", "yan: bad name (ann?)")):
+        refused(asked(words.split()), told)
 
 
 def entries_about_a_subject():
@@ -372,32 +357,33 @@ def entries_about_a_subject():
 
 
 def words_that_begin_no_reply():
-    for words in NO_REPLIES:
-        refused(["journal", f"--reply={words}", "no.json", "no.journal"], f"mls: --reply {words}: begins no reply\n", 2)
-    refused(["journal", "--from", "7", "--to", "6", "no.json", "no.journal"], "mls: --from 7: above --to 6\n", 2)
-    refused(["journal", "--to", "0", "--from", str(2 ** 64 - 1), "no.json", "no.journal"], f"mls: --from {2 ** 64 - 1}: above --to 0\n", 2)
-    refused(["journal", "--from", "7", "--to", "6", "--reply", "denied", "no.json", "no.journal"], "mls: --reply denied: begins no reply\n", 2)
+    rows = [([f"--reply={words}"], f"--reply {words}: begins no reply") for words in NO_REPLIES]
+    most = 2 ** 64 - 1
+    rows += [(["--from", "7", "--to", "6"], "--from 7: above --to 6"), (["--to", "0", "--from", str(most)], f"--from {most}: above --to 0"),
+             (["--from", "7", "--to", "6", "--reply", "denied"], "--reply denied: begins no reply")]
+    for words, told in rows:
+        refused(["journal", *words, "no.json", "no.journal"], told, 2)
 
 
 def states_of_a_journal():
     put("memo.journal", MEMO)
     for words, text, status in STATES:
         answered(["state", *words, STANDARD, "memo.journal"], text, status)
-    refused(["state", "--at", "4", STANDARD, "memo.journal"], "mls: memo.journal: at most 3\n")
+    refused(["state", "--at", "4", STANDARD, "memo.journal"], "memo.journal: at most 3")
 
 
 def powers_of_subjects():
     put("root.journal", b"0 0 2 get-write 0 yes\n")
     for words, text, status in POWERS:
         answered(["powers", *words], text, status)
-    refused(["powers", STANDARD, "carl"], "mls: carl: bad name\n")
-    refused(["powers", "--journal", "root.journal", "--at", "2", STANDARD], "mls: root.journal: at most 1\n")
+    refused(["powers", STANDARD, "carl"], "carl: bad name")
+    refused(["powers", "--journal", "root.journal", "--at", "2", STANDARD], "root.journal: at most 1")
 
 
 def drawing_of_the_standard_start():
-    answered(["lattice", STANDARD], LATTICE, 0)
+    answered(["lattice", STANDARD], LATTICE)
     put("empty.json", b"")
-    refused(["lattice", "empty.json"], "mls: empty.json: start 1 Json\n")
+    refused(["lattice", "empty.json"], "empty.json: start 1 Json")
 
 
 def suspicious_examples():

@@ -7,11 +7,11 @@ import marks
 import question_texts as texts
 import spans
 import usages
+from asking import HELD, OPENED, STANDARD, asks, put_faulty, put_marks
 from outside import EXAMPLES, examples, in_its_folder, put, ran_program, same
 from pages import (
     bar_of, denial_lines, drawn, lattice_lines, more, page_of, power_lines, section, span_lines, summary_counts, tables, usage_lines,
 )
-from span_rows import HELD, OPENED, STANDARD
 from time_rows import marks_by_chance
 
 SHOWN = 2_000
@@ -52,8 +52,7 @@ def reported(*words):
     return page_of(output)
 
 
-def refused(words, told, status=1):
-    same((words, *ran_program(["report", *words])), (words, status, b"", told.encode()))
+_, refused, not_understood = asks("report")
 
 
 def first(lines):
@@ -232,25 +231,19 @@ def pages_of_many_lines():
 
 
 def faults_of_pages_in_their_order():
-    put("held.journal", OPENED)
-    put("torn.journal", OPENED[:-1])
-    put("forged.journal", OPENED.replace(b"no star", b"yes"))
-    put("empty.json", b"")
-    put("good.marks", marks.text_of(marks.made(OPENED, [5], [TIME])))
-    put("torn.marks", marks.text_of(marks.made(OPENED, [5], [TIME]))[:-1])
-    put("other.marks", marks.text_of(marks.made(OPENED.replace(b"star", b"root"), [5], [TIME])))
-    refused(["no.json", "no.journal"], "mls: no.json: file\n")
-    refused(["--marks", "no.marks", "empty.json", "no.journal"], "mls: no.marks: file\n")
-    refused(["--marks", "torn.marks", "empty.json", "no.journal"], "mls: no.journal: file\n")
-    refused(["--marks", "other.marks", "empty.json", "held.journal"], "mls: other.marks: differs at entry 4\n", 3)
-    refused(["empty.json", "torn.journal"], "mls: empty.json: start 1 Json\n")
-    refused([HELD, "torn.journal"], "mls: torn.journal: line 5: entry 1 BadForm\n")
-    refused([HELD, "forged.journal"], "mls: forged.journal: replay 2 Differs at 1 expected no star\n", 3)
-    status, output, error = ran_program(["report", "--marks", "torn.marks", HELD, "held.journal"])
-    same((status, output, error), (1, b"", b"mls: torn.marks: torn before entry 0\n"))
-    for words in ([HELD], [], [HELD, "held.journal", "more"], ["--at", "1", HELD, "held.journal"]):
-        status, output, error = ran_program(["report", *words])
-        same((words, status, output, bool(error)), (words, 2, b"", True))
+    put_faulty()
+    put_marks("good.marks", OPENED, [5], [TIME])
+    put("torn.marks", open("good.marks", "rb").read()[:-1])
+    put_marks("other.marks", OPENED.replace(b"star", b"root"), [5], [TIME])
+    refused(["no.json", "no.journal"], "no.json: file")
+    refused(["--marks", "no.marks", "empty.json", "no.journal"], "no.marks: file")
+    refused(["--marks", "torn.marks", "empty.json", "no.journal"], "no.journal: file")
+    refused(["--marks", "other.marks", "empty.json", "opened.journal"], "other.marks: differs at entry 4", 3)
+    refused(["empty.json", "torn.journal"], "empty.json: start 1 Json")
+    refused([HELD, "torn.journal"], "torn.journal: line 5: entry 1 BadForm")
+    refused([HELD, "forged.journal"], "forged.journal: replay 2 Differs at 1 expected no star", 3)
+    refused(["--marks", "torn.marks", HELD, "opened.journal"], "torn.marks: torn before entry 0")
+    not_understood([HELD], [], [HELD, "opened.journal", "more"], ["--at", "1", HELD, "opened.journal"])
 
 
 def pages_by_chance(world):
