@@ -42,32 +42,26 @@ PLANS = (
 OBJECT_4 = "object #4 security U integrity lo parent root\nchild #5\nbob read yes\nsec append yes\naccess bob read #4\naccess sec append #4\n"
 
 # What is told without a journal.
-OPENING = [
-    ([STANDARD, "bob"], BOB + "bob level C\n", 0),
-    ([STANDARD, "aud"], AUD, 0),
-    ([STANDARD, "memo"], "object memo security C integrity lo parent root\nann read no integrity, never\nbob read no star, level C\n"
-     "sec append yes\nsec write no integrity, never\n", 0),
-    ([STANDARD, "root"], "object root security U integrity hi\nchild plans\nchild memo\nchild tool\nsec write yes\n", 0),
-    ([STANDARD, "#1"], PLANS, 0),
-    (["--as-object", STANDARD, "plans"], PLANS, 0),
-    ([STANDARD, "#4"], "", 4),
-    ([STANDARD, "#65535"], "", 4),
-]
+OPENING = [([STANDARD, "bob"], BOB + "bob level C\n", 0), ([STANDARD, "aud"], AUD, 0),
+           ([STANDARD, "memo"],
+            "object memo security C integrity lo parent root\nann read no integrity, never\nbob read no star, level C\n"
+            "sec append yes\nsec write no integrity, never\n", 0),
+           ([STANDARD, "root"],
+            "object root security U integrity hi\nchild plans\nchild memo\nchild tool\nsec write yes\n", 0),
+           ([STANDARD, "#1"], PLANS, 0), (["--as-object", STANDARD, "plans"], PLANS, 0), ([STANDARD, "#4"], "", 4),
+           ([STANDARD, "#65535"], "", 4)]
 # What is told with the journal above.
-TOLD = [
-    (["bob"], BOB + "bob level C\n2 entries, 1 denied, last 9\n" + "".join(TO_BOB), 0),
-    (["--at", "5", "bob"], BOB + "permit bob read #4: yes\naccess bob read #4\nbob level C\n1 entry, 0 denied, last 4\n" + TO_BOB[0], 0),
-    (["--at", "0", "bob"], BOB + "bob level C\n0 entries, 0 denied\n", 0),
-    (["aud"], AUD + "0 entries, 0 denied\n", 0),
-    (["#4"], "".join(ON_4), 0),
-    (["--at", "9", "#4"], OBJECT_4 + "".join(ON_4[:4]), 0),
-    (["--at", "1", "#4"], "", 4),
-    (["#5"], "8 session 0 sec create #4 U lo: created 5\n11 session 0 sec delete #4: yes\n", 0),
-    (["--at", "8", "#5"], "", 4),
-    (["--at", "9", "#5"], "object #5 security U integrity lo parent #4\n8 session 0 sec create #4 U lo: created 5\n", 0),
-    (["plans"], PLANS, 0),
-    (["#6"], "", 4),
-]
+TOLD = [(["bob"], BOB + "bob level C\n2 entries, 1 denied, last 9\n" + "".join(TO_BOB), 0),
+        (["--at", "5", "bob"], BOB
+         + "permit bob read #4: yes\naccess bob read #4\nbob level C\n1 entry, 0 denied, last 4\n" + TO_BOB[0], 0),
+        (["--at", "0", "bob"], BOB + "bob level C\n0 entries, 0 denied\n", 0),
+        (["aud"], AUD + "0 entries, 0 denied\n", 0), (["#4"], "".join(ON_4), 0),
+        (["--at", "9", "#4"], OBJECT_4 + "".join(ON_4[:4]), 0), (["--at", "1", "#4"], "", 4),
+        (["#5"], "8 session 0 sec create #4 U lo: created 5\n11 session 0 sec delete #4: yes\n", 0),
+        (["--at", "8", "#5"], "", 4),
+        (["--at", "9", "#5"],
+         "object #5 security U integrity lo parent #4\n8 session 0 sec create #4 U lo: created 5\n", 0),
+        (["plans"], PLANS, 0), (["#6"], "", 4)]
 
 FIRST, SECOND = b"2026-11-27T10:00:00.000000Z", b"2026-11-27T11:00:00.000000Z"
 MARKED = [
@@ -81,10 +75,9 @@ MARKED = [
 ]
 
 # Words that name nothing, with the nearest name: of subjects and then of objects, and of objects alone.
-UNNAMED = [
-    ("memmo", " (memo?)", " (memo?)"), ("boob", " (bob?)", " (root?)"), ("toob", " (tool?)", " (tool?)"), ("meb", " (bob?)", " (memo?)"),
-    ("an", " (ann?)", ""), ("#01", "", ""), ("#65536", "", ""), ("#", "", ""), ("", "", ""), ("$x", "", ""), (35 * "p", "", ""),
-]
+UNNAMED = [("memmo", " (memo?)", " (memo?)"), ("boob", " (bob?)", " (root?)"), ("toob", " (tool?)", " (tool?)"),
+           ("meb", " (bob?)", " (memo?)"), ("an", " (ann?)", ""), ("#01", "", ""), ("#65536", "", ""), ("#", "", ""),
+           ("", "", ""), ("$x", "", ""), (35 * "p", "", "")]
 
 
 def about_in_the_documents():
@@ -176,9 +169,8 @@ def about_by_chance(world):
     about([world.start, name], *abouts.of_object([world.opening], o))
 
 
-CHECKS = [*map(in_its_folder, [
-    about_in_the_documents, about_what_a_start_opens_with, about_what_a_journal_tells, about_with_times, about_names_that_two_have,
-    names_that_nothing_has, faults_of_about_in_their_order, words_that_ask_about_nothing,
-])]
+CHECKS = [*map(in_its_folder, [about_in_the_documents, about_what_a_start_opens_with, about_what_a_journal_tells,
+           about_with_times, about_names_that_two_have, names_that_nothing_has, faults_of_about_in_their_order,
+           words_that_ask_about_nothing, ])]
 # (it is asked of random starts and journals)
 OF_WORLDS = [about_by_chance]

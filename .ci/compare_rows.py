@@ -155,12 +155,9 @@ STARTS = [
 
 # a start, another, a journal of the first, and what is told of them
 JOURNALS = [
-    (as_it_is, newer, MEMO, "entry 1 bob get-read memo: no star > yes\n"),
-    (as_it_is, newer, MADE, ""),
-    (as_it_is, without_bob, MEMO, "entry 1 bob get-read memo: no star > undefined\n"),
-    (as_it_is, reordered, MEMO, ""),
-    (as_it_is, reordered, MADE, ""),
-    (as_it_is, reordered, STRANGE, ""),
+    (as_it_is, newer, MEMO, "entry 1 bob get-read memo: no star > yes\n"), (as_it_is, newer, MADE, ""),
+    (as_it_is, without_bob, MEMO, "entry 1 bob get-read memo: no star > undefined\n"), (as_it_is, reordered, MEMO, ""),
+    (as_it_is, reordered, MADE, ""), (as_it_is, reordered, STRANGE, ""),
     (as_it_is, of_other_categories, MADE, "entry 4 ann level S:A: yes > undefined\n"),
     (as_it_is, of_other_levels, MADE,
      "entry 1 sec create root S:B hi: created 4 > undefined\nentry 2 sec give read ann #4: yes > undefined\n"
@@ -168,8 +165,7 @@ JOURNALS = [
     (as_it_is, without_write, MADE,
      "entry 0 sec get-write root: yes > no discretionary\nentry 1 sec create root S:B hi: created 4 > no authority\n"
      "entry 2 sec give read ann #4: yes > undefined\nentry 3 ann get-read #4: no simple > undefined\n"),
-    (profile_2, as_it_is, AGAIN, ""),
-    (profile_2, newer, AGAIN, ""),
+    (profile_2, as_it_is, AGAIN, ""), (profile_2, newer, AGAIN, ""),
     (without_write, profile_2, DENIED,
      "entry 0 sec get-write root: no discretionary > yes\nentry 1 sec delete tool: no authority > yes\n"
      "entry 2 sec create root U hi: no authority > created 3\nentry 3 bob get-execute tool: yes > undefined\n"),

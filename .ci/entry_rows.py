@@ -139,20 +139,12 @@ BAD_LINES = {
 }
 
 # Lines with two faults, and the first in their order.
-TWO_FAULTS = [
-    ("00 0 0 fetch 1 yes", "1 BadForm"),
-    ("00 0 0 get-read 1 yes ", "1 BadForm"),
-    ("0 0 0 give reads 01 1 yes", "1 BadForm"),
-    ("0 0 0 level 16  yes", "1 BadForm"),
-    ("0 0 0 relabel 16", "1 BadForm"),
-    ("0 0 0 get-read 1 maybe ", "1 BadForm"),
-    ("00 0 0 level 16 yes", "2 BadNumber"),
-    ("0 0 0 create 65536 16 1 created 4", "2 BadNumber"),
-    ("0 0 0 get-read 01 maybe", "2 BadNumber"),
-    ("0 0 65536 get-read 1", "2 BadNumber"),
-    ("0 0 0 level 16 maybe", "3 BadLabel"),
-    ("0 0 0 create 1 1 2: created 70000", "3 BadLabel"),
-]
+TWO_FAULTS = [("00 0 0 fetch 1 yes", "1 BadForm"), ("00 0 0 get-read 1 yes ", "1 BadForm"),
+              ("0 0 0 give reads 01 1 yes", "1 BadForm"), ("0 0 0 level 16  yes", "1 BadForm"),
+              ("0 0 0 relabel 16", "1 BadForm"), ("0 0 0 get-read 1 maybe ", "1 BadForm"),
+              ("00 0 0 level 16 yes", "2 BadNumber"), ("0 0 0 create 65536 16 1 created 4", "2 BadNumber"),
+              ("0 0 0 get-read 01 maybe", "2 BadNumber"), ("0 0 65536 get-read 1", "2 BadNumber"),
+              ("0 0 0 level 16 maybe", "3 BadLabel"), ("0 0 0 create 1 1 2: created 70000", "3 BadLabel")]
 
 # Journals, and the line and the fault for which each is refused.
 BAD_JOURNALS = [

@@ -155,9 +155,8 @@ def ever_by_chance(world):
         answered(["--ever", *files, *words], text, status)
 
 
-CHECKS = [*map(in_its_folder, [
-    who_could_ever_in_the_documents, who_could_ever_get_what, who_could_ever_with_times, who_could_ever_of_what_a_start_opens_with,
-    who_could_ever_get_a_number_that_is_used_again, faults_of_ever_in_their_order, words_that_ask_for_nothing_ever,
-])]
+CHECKS = [*map(in_its_folder, [who_could_ever_in_the_documents, who_could_ever_get_what, who_could_ever_with_times,
+           who_could_ever_of_what_a_start_opens_with, who_could_ever_get_a_number_that_is_used_again,
+           faults_of_ever_in_their_order, words_that_ask_for_nothing_ever, ])]
 # (it is asked of random starts and journals)
 OF_WORLDS = [ever_by_chance]

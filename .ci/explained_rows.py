@@ -11,9 +11,8 @@ from question_rows import EXPLAINED, GIVEN, MEMO, STRANGE
 # The command of the example in FORMATS.md, over the journal of examples/standard.script.
 EXAMPLE = "mls journal --explain --reply no examples/standard.json standard.journal"
 READ, DENIED = (texts.under(dict((line, text) for line, text, _ in EXPLAINED)[asked]) for asked in ("ann get-read plans", "bob get-read memo"))
-MEMO_LINES = [
-    "0 session 0 ann get-read plans: yes\n" + READ, "1 session 0 bob get-read memo: no star\n" + DENIED, "2 session 0 ann release read plans: yes\n",
-]
+MEMO_LINES = ["0 session 0 ann get-read plans: yes\n" + READ, "1 session 0 bob get-read memo: no star\n" + DENIED,
+              "2 session 0 ann release read plans: yes\n"]
 GIVEN_LINES = [
     "0 session 0 sec get-write root: yes\n  discretionary holds: sec is permitted write of root\n  simple holds: maximum T:A,B dominates U of root\n"
     "  star holds: sec is trusted\n  integrity holds: hi of sec equals hi of root\n",
@@ -24,10 +23,8 @@ GIVEN_LINES = [
     "  integrity holds: hi of plans dominates lo of bob\n  remedy: none by level\n",
     "4 session 0 ann give read bob plans: no authority\n  authority fails: ann does not hold write on root\n",
 ]
-UNDEFINED = (
-    "2 session 1 sec relabel #4 9:7: undefined\n  security label outside the scheme: 9:7\n"
-    "3 session 1 #9 give read #9 #9: undefined\n  unknown subject: #9\n  inactive object: #9\n"
-)
+UNDEFINED = ("2 session 1 sec relabel #4 9:7: undefined\n  security label outside the scheme: 9:7\n"
+              "3 session 1 #9 give read #9 #9: undefined\n  unknown subject: #9\n  inactive object: #9\n")
 # Of examples/held.json, in which ann holds read on plans: accesses in the way stand below their condition here too.
 IN_THE_WAY = b"0 0 0 level 0 no star\n1 0 0 release read 1 yes\n2 0 0 level 0 yes\n"
 IN_THE_WAY_LINES = [
@@ -104,8 +101,7 @@ def entries_listed_and_explained(world):
     same("".join(line + texts.under(told) for line, told in zip(lines, alone)), text)
 
 
-CHECKS = [*map(in_its_folder, [
-    entries_that_are_listed_and_explained, faults_of_entries_that_are_explained, entries_that_are_written_in_pieces,
-])]
+CHECKS = [*map(in_its_folder, [entries_that_are_listed_and_explained, faults_of_entries_that_are_explained,
+           entries_that_are_written_in_pieces, ])]
 # (it is asked of random starts and journals)
 OF_WORLDS = [entries_listed_and_explained]

@@ -20,11 +20,10 @@ GIVEN = (
     b"4 0 0 give read 1 1 no authority\n"
 )
 
-ASKED = [
-    ("bob get-read memo", "no star\n", 4), ("ann get-read plans", "yes\n", 0), ("  ann   get-read plans ", "yes\n", 0),
-    ("ann check read plans", "not held\n", 4), ("#0 get-read #1", "yes\n", 0), ("#9 get-read #1", "undefined\n", 4),
-    ("ann release read plans", "yes\n", 0), ("sec create root S:B hi", "no authority\n", 4),
-]
+ASKED = [("bob get-read memo", "no star\n", 4), ("ann get-read plans", "yes\n", 0),
+         ("  ann   get-read plans ", "yes\n", 0), ("ann check read plans", "not held\n", 4),
+         ("#0 get-read #1", "yes\n", 0), ("#9 get-read #1", "undefined\n", 4), ("ann release read plans", "yes\n", 0),
+         ("sec create root S:B hi", "no authority\n", 4)]
 
 EXPLAINED = [
     ("bob get-read memo",
@@ -82,11 +81,10 @@ HELD_EXPLAINED = [
     ("ann check read plans", "held\n", 0),
 ]
 
-BAD_LINES = [
-    ("", "form"), ("   ", "form"), ("; ann get-read plans", "form"), ("ann get-read", "form"), ("ann get-read plans\n", "form"),
-    ("ann get-read plans\nbob get-read memo", "form"), ("ann get-read $x", "form"), ("$x = sec create root U hi", "form"),
-    ("ann frob plans", "form"), ("ann get-read #01", "form"), ("zoe get-reads plan", "form"), ("zoe get-read plan extra", "form"),
-]
+BAD_LINES = [("", "form"), ("   ", "form"), ("; ann get-read plans", "form"), ("ann get-read", "form"),
+             ("ann get-read plans\n", "form"), ("ann get-read plans\nbob get-read memo", "form"),
+             ("ann get-read $x", "form"), ("$x = sec create root U hi", "form"), ("ann frob plans", "form"),
+             ("ann get-read #01", "form"), ("zoe get-reads plan", "form"), ("zoe get-read plan extra", "form")]
 
 # Lines of which a word names nothing, with what is told of it: the first such word, and the nearest name that can stand there.
 WRONG_WORDS = [
@@ -105,23 +103,18 @@ WRONG_WORDS = [
     ("sec create root " + 9000 * "x" + " hi", "label: " + 9000 * "x"),
 ]
 
-WHO = [
-    (["memo"], "ann read no integrity, never\nbob read no star, level C\nsec append yes\nsec write no integrity, never\n", 0),
-    (["memo", "read"], "ann read no integrity, never\nbob read no star, level C\n", 4),
-    (["#2", "append"], "sec append yes\n", 0),
-    (["tool", "append"], "", 4),
-    (["#9"], "", 4),
-    (["plans"], "ann read yes\nann write yes\nbob append no integrity, never\nsec write yes\naud read yes\n", 0),
-]
+WHO = [(["memo"],
+        "ann read no integrity, never\nbob read no star, level C\nsec append yes\nsec write no integrity, never\n", 0),
+       (["memo", "read"], "ann read no integrity, never\nbob read no star, level C\n", 4),
+       (["#2", "append"], "sec append yes\n", 0), (["tool", "append"], "", 4), (["#9"], "", 4),
+       (["plans"], "ann read yes\nann write yes\nbob append no integrity, never\nsec write yes\naud read yes\n", 0)]
 
 SUBJECTS = (
     "subject ann maximum S:A current S:A integrity hi\nsubject bob maximum C current U integrity lo\n"
     "subject sec maximum T:A,B current U integrity hi trusted\nsubject aud maximum S:A current U integrity hi trusted\n"
 )
-OBJECTS = (
-    "object root security U integrity hi\nobject plans security S:A integrity hi parent root\n"
-    "object memo security C integrity lo parent root\nobject tool security U integrity lo parent root\n"
-)
+OBJECTS = ("object root security U integrity hi\nobject plans security S:A integrity hi parent root\n"
+            "object memo security C integrity lo parent root\nobject tool security U integrity lo parent root\n")
 PERMISSIONS = (
     "permit ann read plans\npermit ann write plans\npermit ann read memo\npermit ann execute tool\npermit bob append plans\n"
     "permit bob read memo\npermit bob execute tool\npermit sec write root\npermit sec write plans\npermit sec append memo\n"
@@ -155,13 +148,11 @@ LATTICE = (
     '"T:A,B" [label="T:A,B\\nsec maximum"];\n"S:A" -> "T:A,B";\n"C" -> "S:A";\n"U" -> "C";\n}\n'
 )
 
-STRANGE_EXPLAINED = [
-    (2, "undefined\nsecurity label outside the scheme: 9:7\n"),
-    (3, "undefined\nunknown subject: #9\ninactive object: #9\n"),
-    (4, "undefined\nunknown subject: #8\ninactive object: #9\n"),
-    (5, "undefined\nsecurity label outside the scheme: 9\nintegrity label outside the scheme: 5\n"),
-    (7, "undefined\ninactive object: #4\n"),
-]
+STRANGE_EXPLAINED = [(2, "undefined\nsecurity label outside the scheme: 9:7\n"),
+                     (3, "undefined\nunknown subject: #9\ninactive object: #9\n"),
+                     (4, "undefined\nunknown subject: #8\ninactive object: #9\n"),
+                     (5, "undefined\nsecurity label outside the scheme: 9\nintegrity label outside the scheme: 5\n"),
+                     (7, "undefined\ninactive object: #4\n")]
 
 LISTED = [
     ([], "0 session 0 sec get-write root: yes\n1 session 0 sec create root S:B hi: created 4\n2 session 1 sec relabel #4 9:7: undefined\n"
@@ -196,27 +187,21 @@ LISTED = [
 ]
 
 # What is asked of the journal GIVEN, and the entries that are listed.
-TO_BOB = [
-    "1 session 0 sec give read bob plans: yes\n", "2 session 0 sec rescind read bob plans: yes\n",
-    "3 session 0 bob get-read plans: no discretionary\n", "4 session 0 ann give read bob plans: no authority\n",
-]
-ABOUT = [
-    (["--subject", "bob"], "".join(TO_BOB), 0),
-    (["--by", "bob"], TO_BOB[2], 0),
-    (["--subject", "bob", "--by", "sec"], TO_BOB[0] + TO_BOB[1], 0),
-    (["--subject", "sec"], "0 session 0 sec get-write root: yes\n" + TO_BOB[0] + TO_BOB[1], 0),
-    (["--subject", "bob", "--reply", "yes"], TO_BOB[0] + TO_BOB[1], 0),
-    (["--subject", "bob", "--reply", "no authority"], TO_BOB[3], 0),
-    (["--subject", "aud"], "", 4),
-    (["--summary", "--subject", "bob"], "entries 4\nann no 1\nbob no 1\nsec yes 2\nno discretionary 1\nno authority 1\n", 0),
-    (["--summary", "--by", "bob"], "entries 1\nbob no 1\nno discretionary 1\n", 0),
-]
+TO_BOB = ["1 session 0 sec give read bob plans: yes\n", "2 session 0 sec rescind read bob plans: yes\n",
+          "3 session 0 bob get-read plans: no discretionary\n", "4 session 0 ann give read bob plans: no authority\n"]
+ABOUT = [(["--subject", "bob"], "".join(TO_BOB), 0), (["--by", "bob"], TO_BOB[2], 0),
+         (["--subject", "bob", "--by", "sec"], TO_BOB[0] + TO_BOB[1], 0),
+         (["--subject", "sec"], "0 session 0 sec get-write root: yes\n" + TO_BOB[0] + TO_BOB[1], 0),
+         (["--subject", "bob", "--reply", "yes"], TO_BOB[0] + TO_BOB[1], 0),
+         (["--subject", "bob", "--reply", "no authority"], TO_BOB[3], 0), (["--subject", "aud"], "", 4),
+         (["--summary", "--subject", "bob"],
+          "entries 4\nann no 1\nbob no 1\nsec yes 2\nno discretionary 1\nno authority 1\n", 0),
+         (["--summary", "--by", "bob"], "entries 1\nbob no 1\nno discretionary 1\n", 0)]
 
 # Words with which no reply begins.
-NO_REPLIES = [
-    "", " ", "denied", "creat", "No", "no ", " no", "no sta", "no star ", "no  star", "no stars", "no yes", "nostar", "yes no", "yes ", "created ",
-    "created 04", "created 65536", "created -1", "created x", "created  4", "created 4 ", "created4", "undefined 4", "no star\n",
-]
+NO_REPLIES = ["", " ", "denied", "creat", "No", "no ", " no", "no sta", "no star ", "no  star", "no stars", "no yes",
+              "nostar", "yes no", "yes ", "created ", "created 04", "created 65536", "created -1", "created x",
+              "created  4", "created 4 ", "created4", "undefined 4", "no star\n"]
 
 # A start file with members that are written twice, the names of which are told; what stands within a value that doesn't count isn't.
 TWICE = [
@@ -231,17 +216,14 @@ TWICE = [
     ([('"name": "aud"', '"na\\u006de": "ann", "maximum": "U", "name": "aud"')], ["/subjects/3/name", "/subjects/3/maximum"]),
 ]
 
-STATES = [
-    ([], "profile 1\nnext 4\n" + SUBJECTS + OBJECTS + PERMISSIONS, 0),
-    (["--at", "1"], "profile 1\nnext 4\n" + SUBJECTS + OBJECTS + PERMISSIONS + "access ann read plans\n", 0),
-]
+STATES = [([], "profile 1\nnext 4\n" + SUBJECTS + OBJECTS + PERMISSIONS, 0),
+          (["--at", "1"], "profile 1\nnext 4\n" + SUBJECTS + OBJECTS + PERMISSIONS + "access ann read plans\n", 0)]
 
-LINTED = [
-    (STANDARD, "dead: ann read memo: integrity\ndead: ann execute tool: integrity\ndead: bob append plans: integrity\n"
-     "dead: sec write memo: integrity\ndownflow: sec: 2 pairs, as plans to root\n", 4),
-    (OFFICE, "dead: petra read salaries: simple\ndead: petra read inbox: integrity\n"
-     "downflow: desk: 2 pairs, as staff to office\n", 4),
-]
+LINTED = [(STANDARD,
+           "dead: ann read memo: integrity\ndead: ann execute tool: integrity\ndead: bob append plans: integrity\n"
+           "dead: sec write memo: integrity\ndownflow: sec: 2 pairs, as plans to root\n", 4),
+          (OFFICE, "dead: petra read salaries: simple\ndead: petra read inbox: integrity\n"
+           "downflow: desk: 2 pairs, as staff to office\n", 4)]
 
 
 answered, refused, not_understood = asks()
@@ -415,9 +397,8 @@ def one_repeat_and_nothing_else():
         answered(["lint", "once.json"], text, status)
 
 
-CHECKS = [
-    lines_that_are_asked, lines_that_are_explained, lines_that_ask_nothing, words_that_name_nothing, where_a_check_points, subjects_who_may,
-    entries_that_are_explained, states_before_entries, faults_in_their_order, words_that_no_question_has, listed_entries, states_of_a_journal,
-    suspicious_examples, powers_of_subjects, drawing_of_the_standard_start, entries_about_a_subject, words_that_begin_no_reply,
-    members_that_are_repeated, one_repeat_and_nothing_else,
-]
+CHECKS = [lines_that_are_asked, lines_that_are_explained, lines_that_ask_nothing, words_that_name_nothing,
+          where_a_check_points, subjects_who_may, entries_that_are_explained, states_before_entries,
+          faults_in_their_order, words_that_no_question_has, listed_entries, states_of_a_journal, suspicious_examples,
+          powers_of_subjects, drawing_of_the_standard_start, entries_about_a_subject, words_that_begin_no_reply,
+          members_that_are_repeated, one_repeat_and_nothing_else]

@@ -1,34 +1,15 @@
 """Two journals over the standard start, worked out by hand, and what a replay says of them where they are changed."""
 
 # Bob climbs to read memo, and may climb down once he has released it.
-CLIMB = [
-    "0 0 1 get-read 2 no star",
-    "1 0 1 level 1 yes",
-    "2 0 1 get-read 2 yes",
-    "3 0 1 level 0 no star",
-    "4 0 1 release read 2 yes",
-    "5 0 1 level 0 yes",
-]
+CLIMB = ["0 0 1 get-read 2 no star", "1 0 1 level 1 yes", "2 0 1 get-read 2 yes", "3 0 1 level 0 no star",
+         "4 0 1 release read 2 yes", "5 0 1 level 0 yes"]
 
 # Objects are made below one another and deleted with the uppermost, and their numbers aren't given again.
-FAMILY = [
-    "0 0 2 get-write 0 yes",
-    "1 0 2 create 0 0 1 created 4",
-    "2 0 2 give write 2 4 yes",
-    "3 0 2 get-write 4 yes",
-    "4 0 2 create 4 1 1 created 5",
-    "5 0 2 give write 2 5 yes",
-    "6 0 2 get-write 5 yes",
-    "7 0 2 create 5 2:0 1 created 6",
-    "8 0 2 give read 0 6 yes",
-    "9 0 0 get-read 6 yes",
-    "10 0 2 delete 4 yes",
-    "11 0 0 get-read 6 undefined",
-    "12 0 0 release read 5 undefined",
-    "13 0 2 delete 0 no root",
-    "14 0 2 create 0 0 1 created 7",
-    "15 0 0 delete 1 no authority",
-]
+FAMILY = ["0 0 2 get-write 0 yes", "1 0 2 create 0 0 1 created 4", "2 0 2 give write 2 4 yes", "3 0 2 get-write 4 yes",
+          "4 0 2 create 4 1 1 created 5", "5 0 2 give write 2 5 yes", "6 0 2 get-write 5 yes",
+          "7 0 2 create 5 2:0 1 created 6", "8 0 2 give read 0 6 yes", "9 0 0 get-read 6 yes", "10 0 2 delete 4 yes",
+          "11 0 0 get-read 6 undefined", "12 0 0 release read 5 undefined", "13 0 2 delete 0 no root",
+          "14 0 2 create 0 0 1 created 7", "15 0 0 delete 1 no authority"]
 
 # A journal, entries that stand in it in place of its own (each begins with its place), and what the replay says.
 FORGED = [

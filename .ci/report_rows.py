@@ -26,23 +26,19 @@ def said(*words):
 
 def by_commands(start, journal, *with_marks):
     """What the commands print that a page names."""
-    return {
-        "summary": said("journal", "--summary", start, journal),
-        "denials": said("journal", "--explain", "--reply", "no", *with_marks, start, journal),
-        "powers": said("powers", "--journal", journal, start),
-        "held": said("held", start, journal),
-        "usage": said("usage", start, journal),
-    }
+    return {"summary": said("journal", "--summary", start, journal),
+            "denials": said("journal", "--explain", "--reply", "no", *with_marks, start, journal),
+            "powers": said("powers", "--journal", journal, start), "held": said("held", start, journal),
+            "usage": said("usage", start, journal)}
 
 
 def by_policy(world):
     """The same as the policy in Python has it, from all states one by one."""
     states = [world.before(number) for number in range(len(world.entries) + 1)]
     denied = [it for it in world.entries if it.reply.startswith("no ")]
-    told = {
-        "summary": texts.summary(world.opening, world.entries), "denials": texts.explained_journal(world.before, world.opening, denied),
-        "powers": texts.powers(world.last), "held": spans.listed(states, world.entries), "usage": usages.listed(states, world.entries),
-    }
+    told = {"summary": texts.summary(world.opening, world.entries),
+            "denials": texts.explained_journal(world.before, world.opening, denied), "powers": texts.powers(world.last),
+            "held": spans.listed(states, world.entries), "usage": usages.listed(states, world.entries)}
     return {key: text for key, (text, status) in told.items()}
 
 
@@ -151,17 +147,15 @@ def a_page_by_hand():
     same(tables(section(page, "Verified")), {"When this page was written": [["Entries that were replayed", "5"]]})
     part = section(page, "Entries")
     same(part.all("p")[1].text(), "5 entries: 4 granted, 1 denied, 0 undefined.")
-    same(tables(part), {
-        "Denied, by reason": [["star", "1"]],
-        "By the subject that asked": [["ann", "3", "0", "0"], ["bob", "0", "1", "0"], ["sec", "1", "0", "0"]],
-    })
+    same(tables(part),
+         {"Denied, by reason": [["star", "1"]], "By the subject that asked": [["ann", "3", "0", "0"], ["bob", "0", "1",
+          "0"], ["sec", "1", "0", "0"]], })
     bars = [bar_of(it) for it in part.all("svg")]
     same(bars, [(0, 1, 1), (0, 3, 3), None, None, None, (0, 1, 3), None, (0, 1, 3), None, None])
-    same(denial_lines(page), [
-        "1 session 0 bob get-read memo: no star", "  discretionary holds: bob is permitted read of memo",
-        "  simple holds: maximum C dominates C of memo", "  star fails: current U does not dominate C of memo",
-        "  integrity holds: lo of memo dominates lo of bob", "  remedy: bob level C",
-    ])
+    same(denial_lines(page),
+         ["1 session 0 bob get-read memo: no star", "  discretionary holds: bob is permitted read of memo",
+          "  simple holds: maximum C dominates C of memo", "  star fails: current U does not dominate C of memo",
+          "  integrity holds: lo of memo dominates lo of bob", "  remedy: bob level C", ])
     same(span_lines(page), (
         ["ann read plans: start to 2, release", "ann read plans: 3 on", "sec write root: 4 on"], [(0, 3, 6), (4, 2, 6), (5, 1, 6)]))
     same(lattice_lines(page), (
@@ -191,10 +185,9 @@ def pages_with_marks():
     made = marks.made(OPENED, [1, 4], [TIME, TIME])
     put("held.marks", marks.text_of(made))
     page = page_agrees(HELD, "held.journal", "--marks", "held.marks")
-    same(tables(section(page, "Verified"))["When this page was written"], [
-        ["Entries that were replayed", "5"], ["Digest of the last mark", made[-1].digest.hex()],
-        ["Times of the marks", f"{TIME.decode()} to {TIME.decode()}"], ["Entries behind the last mark", "1"],
-    ])
+    same(tables(section(page, "Verified"))["When this page was written"],
+         [["Entries that were replayed", "5"], ["Digest of the last mark", made[-1].digest.hex()],
+          ["Times of the marks", f"{TIME.decode()} to {TIME.decode()}"], ["Entries behind the last mark", "1"], ])
     same(denial_lines(page)[0], f"[{TIME.decode()}] 1 session 0 bob get-read memo: no star")
     put("none.marks", b"")
     page_agrees(HELD, "held.journal", "--marks", "none.marks")
@@ -253,8 +246,7 @@ def pages_by_chance(world):
     page_agrees(world.start, world.journal, "--marks", "chance.marks")
 
 
-CHECKS = [*map(in_its_folder, [
-    a_page_by_hand, pages_of_the_examples, pages_with_marks, pages_of_hostile_files, pages_of_many_lines, faults_of_pages_in_their_order,
-])]
+CHECKS = [*map(in_its_folder, [a_page_by_hand, pages_of_the_examples, pages_with_marks, pages_of_hostile_files,
+           pages_of_many_lines, faults_of_pages_in_their_order, ])]
 # (it is asked of random starts and journals)
 OF_WORLDS = [pages_by_chance]

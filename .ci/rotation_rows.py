@@ -43,12 +43,11 @@ LISTED = [
     (["held", "--object", "#4"], "", 4),
 ]
 # Maps that aren't that of the start, and one that is another start's.
-UNFIT = [
-    b"", MAP[:-1], MAP + b"\n", MAP + b"5 5 #5\n", MAP[:-5], MAP.replace(b"2 2 memo", b"2 2 mem"), MAP.replace(b"0 0 root\n1 1 plans\n", b"1 1 plans\n0 0 root\n"),
-    MAP.replace(b"4 4 #4", b"4 4 #5"), MAP.replace(b"4 4 #4", b"4 5 #5"), MAP.replace(b"4 4 #4", b"4 4 o5"), MAP.replace(b"3 3 tool", b"3 3  tool"),
-    MAP.replace(b"3 3 tool", b"3 03 tool"), MAP.replace(b"3 3 tool", b"3 tool"), MAP.replace(b"1 1", b"1 -1"), MAP.replace(b"\n", b"\r\n"),
-    MAP.replace(b"plans", b"pl\xffns"), b"\x00" + MAP,
-]
+UNFIT = [b"", MAP[:-1], MAP + b"\n", MAP + b"5 5 #5\n", MAP[:-5], MAP.replace(b"2 2 memo", b"2 2 mem"),
+         MAP.replace(b"0 0 root\n1 1 plans\n", b"1 1 plans\n0 0 root\n"), MAP.replace(b"4 4 #4", b"4 4 #5"),
+         MAP.replace(b"4 4 #4", b"4 5 #5"), MAP.replace(b"4 4 #4", b"4 4 o5"), MAP.replace(b"3 3 tool", b"3 3  tool"),
+         MAP.replace(b"3 3 tool", b"3 03 tool"), MAP.replace(b"3 3 tool", b"3 tool"), MAP.replace(b"1 1", b"1 -1"),
+         MAP.replace(b"\n", b"\r\n"), MAP.replace(b"plans", b"pl\xffns"), b"\x00" + MAP]
 
 
 def rotated():
@@ -215,9 +214,7 @@ def names_of_all_numbers():
     refused(full, "full.map: map")
 
 
-CHECKS = [*map(in_its_folder, [
-    a_map_of_a_state, names_of_all_numbers, maps_in_the_documents, files_that_are_there, what_is_told_after, objects_that_no_map_has, maps_that_do_not_fit,
-    words_that_have_no_map,
-])]
+CHECKS = [*map(in_its_folder, [a_map_of_a_state, names_of_all_numbers, maps_in_the_documents, files_that_are_there,
+           what_is_told_after, objects_that_no_map_has, maps_that_do_not_fit, words_that_have_no_map, ])]
 # (it is asked of random starts and journals)
 OF_WORLDS = [rotation_by_chance]

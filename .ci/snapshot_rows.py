@@ -60,19 +60,14 @@ def start_text(state):
                 found += [json.dumps({"subject": state.subjects[s], "object": name[o], "modes": modes})] if modes else []
         return found
 
-    parts = [
-        f' "profile": {state.profile}',
-        f' "security": {json.dumps(state.security._asdict())}',
-        f' "integrity": {json.dumps(state.integrity._asdict())}',
-        rows("subjects", [
-            json.dumps({"name": state.subjects[s], "maximum": sec(state.maximum[s]), "current": sec(state.current[s]), "integrity": own(state.own[s]),
-                     "trusted": s in state.trusted}) for s in sorted(state.maximum)]),
-        rows("objects", [
-            json.dumps({"name": name[o], "parent": name[state.parent[o]] if o else None, "security": sec(state.label[o]), "integrity": own(state.trust[o])})
-            for o in objects]),
-        rows("matrix", cells(state.matrix)),
-        rows("accesses", cells(state.accesses)),
-    ]
+    parts = [f' "profile": {state.profile}', f' "security": {json.dumps(state.security._asdict())}',
+             f' "integrity": {json.dumps(state.integrity._asdict())}',
+             rows("subjects", [json.dumps({"name": state.subjects[s], "maximum": sec(state.maximum[s]),
+              "current": sec(state.current[s]), "integrity": own(state.own[s]), "trusted": s in state.trusted})
+              for s in sorted(state.maximum)]),
+             rows("objects", [json.dumps({"name": name[o], "parent": name[state.parent[o]] if o else None,
+              "security": sec(state.label[o]), "integrity": own(state.trust[o])}) for o in objects]),
+             rows("matrix", cells(state.matrix)), rows("accesses", cells(state.accesses))]
     return "{\n" + ",\n".join(parts) + "\n}\n"
 
 
@@ -128,26 +123,15 @@ def by_number(state, action):
 
 # sec holds write on the root, has made an object in it, and gave bob read on that.
 REUSED = b"0 0 2 get-write 0 yes\n1 0 2 create 0 2:1 1 created 4\n2 0 2 give read 1 4 yes\n"
-AGAIN = {
-    "profile": 2,
-    "security": {"levels": ["U", "S"], "categories": ["A"]},
-    "integrity": {"levels": ["lo", "hi"], "categories": []},
-    "subjects": [
-        {"name": "sec", "maximum": "S:A", "current": "U", "integrity": "hi", "trusted": True},
-        {"name": "ann", "maximum": "S", "current": "U", "integrity": "lo", "trusted": False},
-    ],
-    "objects": [
-        {"name": "root", "parent": None, "security": "U", "integrity": "hi"},
-        {"name": "a", "parent": "root", "security": "U", "integrity": "hi"},
-        {"name": "o4", "parent": "root", "security": "U", "integrity": "lo"},
-        {"name": "b", "parent": "a", "security": "U", "integrity": "hi"},
-    ],
-    "matrix": [
-        {"subject": "sec", "object": "root", "modes": ["write"]},
-        {"subject": "sec", "object": "a", "modes": ["write"]},
-        {"subject": "ann", "object": "o4", "modes": ["read"]},
-    ],
-}
+AGAIN = {"profile": 2, "security": {"levels": ["U", "S"], "categories": ["A"]},
+         "integrity": {"levels": ["lo", "hi"], "categories": []},
+         "subjects": [{"name": "sec", "maximum": "S:A", "current": "U", "integrity": "hi", "trusted": True},
+          {"name": "ann", "maximum": "S", "current": "U", "integrity": "lo", "trusted": False}, ],
+         "objects": [{"name": "root", "parent": None, "security": "U", "integrity": "hi"}, {"name": "a",
+          "parent": "root", "security": "U", "integrity": "hi"}, {"name": "o4", "parent": "root", "security": "U",
+          "integrity": "lo"}, {"name": "b", "parent": "a", "security": "U", "integrity": "hi"}, ],
+         "matrix": [{"subject": "sec", "object": "root", "modes": ["write"]}, {"subject": "sec", "object": "a",
+          "modes": ["write"]}, {"subject": "ann", "object": "o4", "modes": ["read"]}, ]}
 # The numbers of a and b are used again, for children of the object 4, whose own name has to be another than o4.
 AGAIN_SCRIPT = b"""\
 sec get-write root
@@ -290,6 +274,5 @@ def texts_at_their_limit():
     refused([put("long.json", long), none], "output: too long")
 
 
-CHECKS = [
-    state_in_the_documents, made_again, starts_that_stay, journals_of_the_examples, services_that_go_on, faults_of_snapshots, texts_at_their_limit,
-]
+CHECKS = [state_in_the_documents, made_again, starts_that_stay, journals_of_the_examples, services_that_go_on,
+          faults_of_snapshots, texts_at_their_limit]

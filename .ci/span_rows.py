@@ -26,10 +26,8 @@ ann release read plans
 sec release write root
 """
 ANSWERS = b"yes\ncreated 4\nyes\nyes\nyes\nyes\nyes\ncreated 5\n" + 7 * b"yes\n"
-SPANS = [
-    "sec write root: 0 to 14, release\n", "ann read #4: 3 to 12, delete\n", "ann read plans: 4 to 11, rescind\n", "sec write #4: 6 to 12, delete\n",
-    "ann read #5: 9 to 12, delete\n",
-]
+SPANS = ["sec write root: 0 to 14, release\n", "ann read #4: 3 to 12, delete\n", "ann read plans: 4 to 11, rescind\n",
+         "sec write #4: 6 to 12, delete\n", "ann read #5: 9 to 12, delete\n"]
 # What is asked of its journal, and which of these lines are printed.
 LISTED = packed("""
     : 0 1 2 3 4 | --subject ann : 1 2 4 | --subject #2 : 0 3 | --subject bob : | --subject #9 : | --object #4 : 1 3
@@ -42,10 +40,9 @@ LISTED = packed("""
 # The batches of its journal end before these entries; the last two have no mark.
 ENDS, TIMES = [5, 9, 13], [b"2026-11-27T10:00:00.000000Z", b"2026-11-27T11:00:00.000000Z", b"2026-11-27T12:00:00.000000Z"]
 TEN, ELEVEN, NOON = (f"[{it.decode()}]" for it in TIMES)
-TIMED = [
-    f"sec write root: 0 {TEN} to 14 [-], release\n", f"ann read #4: 3 {TEN} to 12 {NOON}, delete\n", f"ann read plans: 4 {TEN} to 11 {NOON}, rescind\n",
-    f"sec write #4: 6 {ELEVEN} to 12 {NOON}, delete\n", f"ann read #5: 9 {NOON} to 12 {NOON}, delete\n",
-]
+TIMED = [f"sec write root: 0 {TEN} to 14 [-], release\n", f"ann read #4: 3 {TEN} to 12 {NOON}, delete\n",
+         f"ann read plans: 4 {TEN} to 11 {NOON}, rescind\n", f"sec write #4: 6 {ELEVEN} to 12 {NOON}, delete\n",
+         f"ann read #5: 9 {NOON} to 12 {NOON}, delete\n"]
 # What is asked of it with these marks, and which of these lines are printed.
 MARKED = packed("""
     : 0 1 2 3 4 | --when 2026-11-27T10:00:00Z : 0 1 2 | --when 2026-11-27T12:59:59+01:00 : 0 1 2 3 | --when 2026-11-28 : 0
@@ -173,9 +170,7 @@ def spans_by_chance(world):
         answered([*words, *files], text, status)
 
 
-CHECKS = [*map(in_its_folder, [
-    spans_that_are_held, spans_with_times, spans_of_what_a_start_opens_with, objects_that_have_a_number_again, faults_of_spans_in_their_order,
-    words_that_ask_for_no_spans,
-])]
+CHECKS = [*map(in_its_folder, [spans_that_are_held, spans_with_times, spans_of_what_a_start_opens_with,
+           objects_that_have_a_number_again, faults_of_spans_in_their_order, words_that_ask_for_no_spans, ])]
 # (it is asked of random starts and journals)
 OF_WORLDS = [spans_by_chance]

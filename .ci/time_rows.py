@@ -120,12 +120,11 @@ def entries_by_times(world):
             words += ["--by", "#0"]
             entries = [it for it in entries if it.subject == 0]
         what = (words, [it.time for it in found])
-        listed = [
-            ([], lambda: with_times(found, entries, lambda it: texts.entry_line(opening, it))),
-            (["--json"], lambda: objects_with_times(found, entries, lambda it: texts.entry_json(opening, it))),
-            (["--summary"], lambda: texts.summary(opening, entries)),
-            (["--explain"], lambda: with_times(found, entries, lambda it: texts.explained_entry(world.before, opening, it))),
-        ]
+        listed = [([], lambda: with_times(found, entries, lambda it: texts.entry_line(opening, it))),
+                  (["--json"], lambda: objects_with_times(found, entries, lambda it: texts.entry_json(opening, it))),
+                  (["--summary"], lambda: texts.summary(opening, entries)),
+                  (["--explain"], lambda: with_times(found, entries, lambda it: texts.explained_entry(world.before,
+                   opening, it)))]
         form, wanted = rnd.choice(listed)
         same((what, form, said("journal", *form, *words, *files)), (what, form, wanted()))
 
@@ -181,10 +180,9 @@ def marks_that_differ(world):
 THREE = b"0 0 0 get-read 1 yes\n1 0 1 get-read 2 no star\n2 0 0 release read 1 yes\n"
 # A clock that goes back between the two marks of the first two entries; the third has none.
 BACK = marks.made(THREE, [1, 2], [b"2026-11-27T11:00:00.000001Z", b"2026-11-27T10:00:00.000000Z"])
-LINES = [
-    "[2026-11-27T11:00:00.000001Z] 0 session 0 ann get-read plans: yes\n", "[2026-11-27T10:00:00.000000Z] 1 session 0 bob get-read memo: no star\n",
-    "[-] 2 session 0 ann release read plans: yes\n",
-]
+LINES = ["[2026-11-27T11:00:00.000001Z] 0 session 0 ann get-read plans: yes\n",
+         "[2026-11-27T10:00:00.000000Z] 1 session 0 bob get-read memo: no star\n",
+         "[-] 2 session 0 ann release read plans: yes\n"]
 # What is asked of it, and which lines are listed.
 LISTED = packed("""
     : 0 1 2 | --since 2026-11-27T10:30:00Z : 0 1 2 | --since 2026-11-27T11:00:00.000001Z : 0 1 2
@@ -306,9 +304,8 @@ def faults_of_times_in_their_order():
     refused(asked(STANDARD, "folder.marks", "back.journal"), "folder.marks: file")
 
 
-CHECKS = [*map(in_its_folder, [
-    entries_of_a_clock_that_goes_back, states_of_a_clock_that_goes_back, marks_beside_a_number, words_that_are_no_times, words_that_no_question_of_times_has,
-    faults_of_times_in_their_order,
-])]
+CHECKS = [*map(in_its_folder, [entries_of_a_clock_that_goes_back, states_of_a_clock_that_goes_back,
+           marks_beside_a_number, words_that_are_no_times, words_that_no_question_of_times_has,
+           faults_of_times_in_their_order, ])]
 # (each is asked of random starts and journals)
 OF_WORLDS = [entries_by_times, states_by_times, marks_that_differ]

@@ -29,10 +29,9 @@ WHOLE = {
     "bob execute tool": "", "sec write root": "1 granted, 0 denied, last 0", "sec write plans": "", "sec append memo": "", "sec write memo": "",
     "sec write #4": "1 granted, 0 denied, last 6", "aud read plans": "",
 }
-PART = {
-    **WHOLE, **dict.fromkeys(("ann read plans", "ann read #4", "sec write root"), "1 granted, 0 denied, last start"),
-    "ann read #5": "1 granted, 0 denied, last 9",
-}
+PART = {**WHOLE,
+        **dict.fromkeys(("ann read plans", "ann read #4", "sec write root"), "1 granted, 0 denied, last start"),
+        "ann read #5": "1 granted, 0 denied, last 9"}
 ENDED = {it: "" for it in WHOLE if "#" not in it and it != "ann read plans"}
 BEGUN = {**ENDED, "sec write root": WHOLE["sec write root"]}
 
@@ -162,9 +161,8 @@ def uses_by_chance(world):
         told_as([*words, world.start, world.journal], text, status)
 
 
-CHECKS = [*map(in_its_folder, [
-    permissions_and_their_uses, uses_with_times, uses_of_what_a_start_opens_with, gets_without_the_permission, permissions_of_a_number_that_is_used_again,
-    faults_of_uses_in_their_order, words_that_ask_for_no_uses,
-])]
+CHECKS = [*map(in_its_folder, [permissions_and_their_uses, uses_with_times, uses_of_what_a_start_opens_with,
+           gets_without_the_permission, permissions_of_a_number_that_is_used_again, faults_of_uses_in_their_order,
+           words_that_ask_for_no_uses, ])]
 # (it is asked of random starts and journals)
 OF_WORLDS = [uses_by_chance]
