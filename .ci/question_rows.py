@@ -129,16 +129,14 @@ RELABELED = (
 )
 SEC = "sec gives and rescinds root\nsec level S:A C T:A,B\n" + RELABELED.format("sec")
 POWERS = [
-    ([STANDARD], "ann level C U\nbob level C\n" + SEC + "aud gives and rescinds root\naud level S:A C\n" + RELABELED.format("aud"), 0),
-    ([STANDARD, "sec"], SEC, 0),
-    ([STANDARD, "#2"], SEC, 0),
-    (["--down", STANDARD], DOWN.format("sec") + DOWN.format("aud"), 0),
-    (["--down", STANDARD, "bob"], "", 4),
+    ([STANDARD], "ann level C U\nbob level C\n" + SEC + "aud gives and rescinds root\naud level S:A C\n"
+     + RELABELED.format("aud"), 0), ([STANDARD, "sec"], SEC, 0), ([STANDARD, "#2"], SEC, 0),
+    (["--down", STANDARD], DOWN.format("sec") + DOWN.format("aud"), 0), (["--down", STANDARD, "bob"], "", 4),
     ([STANDARD, "#9"], "", 4),
     # sec writes the root: permissions on what is below it, and the objects themselves, are sec's
-    (["--journal", "root.journal", STANDARD, "sec"],
-     "".join(f"sec gives and rescinds {it}\n" for it in ("root", "plans", "memo", "tool")) + "sec creates under root\n"
-     + "".join(f"sec deletes {it}\n" for it in ("plans", "memo", "tool")) + "sec level S:A C T:A,B\n" + RELABELED.format("sec"), 0),
+    (["--journal", "root.journal", STANDARD, "sec"], "".join(f"sec gives and rescinds {it}\n" for it in ("root",
+      "plans", "memo", "tool")) + "sec creates under root\n" + "".join(f"sec deletes {it}\n" for it in ("plans", "memo",
+      "tool")) + "sec level S:A C T:A,B\n" + RELABELED.format("sec"), 0),
     (["--journal", "root.journal", "--at", "0", STANDARD, "sec"], SEC, 0),
 ]
 

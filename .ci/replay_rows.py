@@ -38,35 +38,30 @@ FORGED = [
 
 # Lines that are a journal, and what the replay says.
 MISPLACED = [
-    ([CLIMB[0], CLIMB[2], CLIMB[3], CLIMB[4], CLIMB[5]], "1 Number at 1"),
-    ([CLIMB[0], CLIMB[0]], "1 Number at 1"),
-    ([CLIMB[0], CLIMB[1], CLIMB[3], CLIMB[2]], "1 Number at 2"),
-    ([CLIMB[1], CLIMB[2]], "1 Number at 0"),
+    ([CLIMB[0], CLIMB[2], CLIMB[3], CLIMB[4], CLIMB[5]], "1 Number at 1"), ([CLIMB[0], CLIMB[0]], "1 Number at 1"),
+    ([CLIMB[0], CLIMB[1], CLIMB[3], CLIMB[2]], "1 Number at 2"), ([CLIMB[1], CLIMB[2]], "1 Number at 0"),
     ([*CLIMB[:5], "6 0 1 level 0 yes"], "1 Number at 5"),
     # several at once: the first is told, and of one entry its number
     ([*CLIMB[:3], "3 0 1 level 0 yes", "3 0 1 release read 2 yes", CLIMB[5]], "2 Differs at 3 expected no star"),
-    ([*CLIMB[:2], "1 0 1 get-read 2 yes", "3 0 1 level 0 yes", "3 0 1 release read 2 yes", CLIMB[5]],
-     "1 Number at 2"),
+    ([*CLIMB[:2], "1 0 1 get-read 2 yes", "3 0 1 level 0 yes", "3 0 1 release read 2 yes", CLIMB[5]], "1 Number at 2"),
     ([*CLIMB[:2], "1 0 1 get-read 2 undefined", "3 0 1 level 0 yes", "3 0 1 release read 2 yes", CLIMB[5]],
-     "1 Number at 2"),
+      "1 Number at 2"),
     (["0 0 1 get-read 2 yes", CLIMB[1], "1 0 1 get-read 2 undefined", "3 0 1 level 0 yes", "3 0 1 release read 2 yes",
       CLIMB[5]], "2 Differs at 0 expected no star"),
 ]
 
 # A journal, and entries that stand in it in place of its own, to which the rules reply in the same way.
 ANSWERED_ALIKE = [
-    (CLIMB, ["5 0 1 level 1 yes"]),
-    (CLIMB, ["5 0 1 release write 1 yes"]),
+    (CLIMB, ["5 0 1 level 1 yes"]), (CLIMB, ["5 0 1 release write 1 yes"]),
     # what was made below the object is deleted, and not the object
     (FAMILY, ["10 0 2 delete 5 yes"]),
     # sessions of large numbers
     (CLIMB, ["0 4294967295 1 get-read 2 no star", "1 65536 1 level 1 yes", "3 64 1 level 0 no star",
-             "5 4294967294 1 level 0 yes"]),
+     "5 4294967294 1 level 0 yes"]),
     # an entry that no script asks for, since no level of the start has that number
     (CLIMB, ["5 0 0 level 9 undefined"]),
     # nor any category beyond the first two, up to the last of 256
-    (CLIMB, ["5 0 0 level 0:63,64,255 undefined"]),
-    (CLIMB, ["5 0 0 level 0:200 undefined"]),
+    (CLIMB, ["5 0 0 level 0:63,64,255 undefined"]), (CLIMB, ["5 0 0 level 0:200 undefined"]),
 ]
 
 # What stands in an entry in place of its own: replies of each kind, with each reason; and subjects that there are, the

@@ -150,15 +150,10 @@ MATRIX_READ = [(4, [('["read"]', '["read","write","append","execute","read","wri
 
 # What stands in the member accesses of the small file, and why it is then refused, or what is counted.
 ACCESSES = [
-    ((1, 2, 1), "[]"),
-    ((1, 2, 1), '[{"subject":"s","object":"o","modes":[]}]'),
-    ((1, 2, 1, 1), f"[{CELL}]"),
-    ((1, 2, 1, 1), f"[{CELL},{CELL}]"),
-    ((1, 2, 1, 1), '[{"subject":"s","object":"o","modes":["read","read"]}]'),
-    *[("2 Members", text) for text in ("null", "{}", "0", '"s"', "[0]", "[null]", "[[]]", "[{}]")],
-    ("2 Members", CELL),
-    ("2 Members", '[{"subject":"s","object":"o"}]'),
-    ("2 Members", '[{"subject":"s","object":"o","modes":"read"}]'),
+    ((1, 2, 1), "[]"), ((1, 2, 1), '[{"subject":"s","object":"o","modes":[]}]'), ((1, 2, 1, 1), f"[{CELL}]"),
+    ((1, 2, 1, 1), f"[{CELL},{CELL}]"), ((1, 2, 1, 1), '[{"subject":"s","object":"o","modes":["read","read"]}]'),
+    *[("2 Members", text) for text in ("null", "{}", "0", '"s"', "[0]", "[null]", "[[]]", "[{}]")], ("2 Members", CELL),
+    ("2 Members", '[{"subject":"s","object":"o"}]'), ("2 Members", '[{"subject":"s","object":"o","modes":"read"}]'),
     ("2 Members", '[{"subject":"s","object":"o","modes":[0]}]'),
     ("2 Members", '[{"subject":0,"object":"o","modes":["read"]}]'),
     ("2 Members", '[{"subject":"s","object":"o","modes":["read"],"extra":0}]'),
@@ -173,11 +168,9 @@ ACCESSES = [
 
 # An access of the standard file, and why it is then refused, or what is counted.
 STANDARD_ACCESSES = [
-    ((4, 4, 12, 1), "ann", "plans", "read"),
-    ((4, 4, 12, 1), "sec", "plans", "write"),
+    ((4, 4, 12, 1), "ann", "plans", "read"), ((4, 4, 12, 1), "sec", "plans", "write"),
     # (star, discretionary security, integrity)
-    ("7 Start 10 NotSecure", "bob", "memo", "read"),
-    ("7 Start 10 NotSecure", "ann", "plans", "append"),
+    ("7 Start 10 NotSecure", "bob", "memo", "read"), ("7 Start 10 NotSecure", "ann", "plans", "append"),
     ("7 Start 10 NotSecure", "sec", "memo", "write"),
 ]
 
@@ -204,17 +197,13 @@ TWO_FAULTS = [("2 Members", [('"modes"', '"mode"'), (LEVELS, "[]")]),
 # where it is read.
 UNKNOWN_PARENT = ',{"name":"x","parent":"y","security":"U","integrity":"lo"}'
 COUNTS = [
-    (256, 1, "", ""),
-    (1, 4096, "", ""),
-    (257, 1, "", "7 Start 2 TooManySubjects"),
-    (1, 4097, "", "7 Start 3 TooManyObjects"),
-    (257, 4097, "", "7 Start 2 TooManySubjects"),
+    (256, 1, "", ""), (1, 4096, "", ""), (257, 1, "", "7 Start 2 TooManySubjects"),
+    (1, 4097, "", "7 Start 3 TooManyObjects"), (257, 4097, "", "7 Start 2 TooManySubjects"),
     (0, 4097, "", "7 Start 1 NoSubjects"),
     (1, 4096, ',{"name":"x","parent":"o0","security":"Q","integrity":"lo"}', "5 Label"),
     (1, 4096, UNKNOWN_PARENT, "6 Unknown"),
     (1, 4096, ',{"name":"x","parent":"x","security":"U","integrity":"lo"}', "7 Start 3 TooManyObjects"),
     # the numbers 65,536 and 65,540 are no others
-    (1, 65_537, "", "7 Start 3 TooManyObjects"),
-    (1, 65_540, UNKNOWN_PARENT, "6 Unknown"),
+    (1, 65_537, "", "7 Start 3 TooManyObjects"), (1, 65_540, UNKNOWN_PARENT, "6 Unknown"),
     (1, 65_541, "", "7 Start 3 TooManyObjects"),
 ]
