@@ -1,15 +1,13 @@
 """What there is to tell of a subject or of an object: `mls about`, with answers that were worked out by hand, and with what abouts.py tells over
 random journals."""
 import abouts
-import marks
 import time_rows
-from outside import EXAMPLES, TOP, in_its_folder, put, ran_program, same
+from asking import HELD, NO_TIME, OPENED, STANDARD, asks, put_faulty, put_marks, shown_below
+from outside import in_its_folder, put
 from question_rows import RELABELED
 
-STANDARD, HELD = (f"{EXAMPLES}/{it}.json" for it in ("standard", "held"))
-EXAMPLE = "mls about --journal held.journal examples/held.json"
-# The journal of the example in FORMATS.md.
-OPENED = b"0 0 0 get-read 1 yes\n1 0 1 get-read 2 no star\n2 0 0 release read 1 yes\n3 0 0 get-read 1 yes\n4 0 2 get-write 0 yes\n"
+EXAMPLE = "mls about --journal held.journal examples/held.json "
+about, refused, not_understood = asks("about")
 
 # Objects 4 and 5 are made, the second below the first, and deleted with it; bob is given what is taken again, and what isn't given.
 JOURNAL = b"""0 0 2 get-write 0 yes
@@ -44,32 +42,26 @@ PLANS = (
 OBJECT_4 = "object #4 security U integrity lo parent root\nchild #5\nbob read yes\nsec append yes\naccess bob read #4\naccess sec append #4\n"
 
 # What is told without a journal.
-OPENING = [
-    ([STANDARD, "bob"], BOB + "bob level C\n", 0),
-    ([STANDARD, "aud"], AUD, 0),
-    ([STANDARD, "memo"], "object memo security C integrity lo parent root\nann read no integrity, never\nbob read no star, level C\n"
-     "sec append yes\nsec write no integrity, never\n", 0),
-    ([STANDARD, "root"], "object root security U integrity hi\nchild plans\nchild memo\nchild tool\nsec write yes\n", 0),
-    ([STANDARD, "#1"], PLANS, 0),
-    (["--as-object", STANDARD, "plans"], PLANS, 0),
-    ([STANDARD, "#4"], "", 4),
-    ([STANDARD, "#65535"], "", 4),
-]
+OPENING = [([STANDARD, "bob"], BOB + "bob level C\n", 0), ([STANDARD, "aud"], AUD, 0),
+           ([STANDARD, "memo"],
+            "object memo security C integrity lo parent root\nann read no integrity, never\nbob read no star, level C\n"
+            "sec append yes\nsec write no integrity, never\n", 0),
+           ([STANDARD, "root"],
+            "object root security U integrity hi\nchild plans\nchild memo\nchild tool\nsec write yes\n", 0),
+           ([STANDARD, "#1"], PLANS, 0), (["--as-object", STANDARD, "plans"], PLANS, 0), ([STANDARD, "#4"], "", 4),
+           ([STANDARD, "#65535"], "", 4)]
 # What is told with the journal above.
-TOLD = [
-    (["bob"], BOB + "bob level C\n2 entries, 1 denied, last 9\n" + "".join(TO_BOB), 0),
-    (["--at", "5", "bob"], BOB + "permit bob read #4: yes\naccess bob read #4\nbob level C\n1 entry, 0 denied, last 4\n" + TO_BOB[0], 0),
-    (["--at", "0", "bob"], BOB + "bob level C\n0 entries, 0 denied\n", 0),
-    (["aud"], AUD + "0 entries, 0 denied\n", 0),
-    (["#4"], "".join(ON_4), 0),
-    (["--at", "9", "#4"], OBJECT_4 + "".join(ON_4[:4]), 0),
-    (["--at", "1", "#4"], "", 4),
-    (["#5"], "8 session 0 sec create #4 U lo: created 5\n11 session 0 sec delete #4: yes\n", 0),
-    (["--at", "8", "#5"], "", 4),
-    (["--at", "9", "#5"], "object #5 security U integrity lo parent #4\n8 session 0 sec create #4 U lo: created 5\n", 0),
-    (["plans"], PLANS, 0),
-    (["#6"], "", 4),
-]
+TOLD = [(["bob"], BOB + "bob level C\n2 entries, 1 denied, last 9\n" + "".join(TO_BOB), 0),
+        (["--at", "5", "bob"], BOB
+         + "permit bob read #4: yes\naccess bob read #4\nbob level C\n1 entry, 0 denied, last 4\n" + TO_BOB[0], 0),
+        (["--at", "0", "bob"], BOB + "bob level C\n0 entries, 0 denied\n", 0),
+        (["aud"], AUD + "0 entries, 0 denied\n", 0), (["#4"], "".join(ON_4), 0),
+        (["--at", "9", "#4"], OBJECT_4 + "".join(ON_4[:4]), 0), (["--at", "1", "#4"], "", 4),
+        (["#5"], "8 session 0 sec create #4 U lo: created 5\n11 session 0 sec delete #4: yes\n", 0),
+        (["--at", "8", "#5"], "", 4),
+        (["--at", "9", "#5"],
+         "object #5 security U integrity lo parent #4\n8 session 0 sec create #4 U lo: created 5\n", 0),
+        (["plans"], PLANS, 0), (["#6"], "", 4)]
 
 FIRST, SECOND = b"2026-11-27T10:00:00.000000Z", b"2026-11-27T11:00:00.000000Z"
 MARKED = [
@@ -83,31 +75,17 @@ MARKED = [
 ]
 
 # Words that name nothing, with the nearest name: of subjects and then of objects, and of objects alone.
-UNNAMED = [
-    ("memmo", " (memo?)", " (memo?)"), ("boob", " (bob?)", " (root?)"), ("toob", " (tool?)", " (tool?)"), ("meb", " (bob?)", " (memo?)"),
-    ("an", " (ann?)", ""), ("#01", "", ""), ("#65536", "", ""), ("#", "", ""), ("", "", ""), ("$x", "", ""), (35 * "p", "", ""),
-]
-
-
-def about(words, text, status):
-    words = ["about", *words]
-    same((words, *ran_program(words)), (words, status, text.encode(), b""))
-
-
-def refused(words, told, status=1):
-    words = ["about", *words]
-    same((words, *ran_program(words)), (words, status, b"", told.encode()))
+UNNAMED = [("memmo", " (memo?)", " (memo?)"), ("boob", " (bob?)", " (root?)"), ("toob", " (tool?)", " (tool?)"),
+           ("meb", " (bob?)", " (memo?)"), ("an", " (ann?)", ""), ("#01", "", ""), ("#65536", "", ""), ("#", "", ""),
+           ("", "", ""), ("$x", "", ""), (35 * "p", "", "")]
 
 
 def about_in_the_documents():
     """The examples of FORMATS.md, as they stand there."""
     put("held.journal", OPENED)
-    with open(f"{TOP}/docs/FORMATS.md", encoding="ascii") as page:
-        _, *found = page.read().split(f"\n    $ {EXAMPLE} ")
-    same(len(found), 2)
-    for it in found:
-        name, *lines = it.split("\n\n")[0].rstrip("\n").split("\n")
-        about(["--journal", "held.journal", HELD, name], "".join(f"{line[4:]}\n" for line in lines), 0)
+    first, second = shown_below(EXAMPLE)
+    for name, text in (first, second):
+        about(["--journal", "held.journal", HELD, name], text)
 
 
 def about_what_a_start_opens_with():
@@ -126,7 +104,7 @@ def about_what_a_journal_tells():
 
 def about_with_times():
     put("about.journal", JOURNAL)
-    put("about.marks", marks.text_of(marks.made(JOURNAL, [3, 9], [FIRST, SECOND])))
+    put_marks("about.marks", JOURNAL, [3, 9], [FIRST, SECOND])
     for words, text, status in MARKED:
         about(["--journal", "about.journal", "--marks", "about.marks", *words[:-1], STANDARD, words[-1]], text, status)
 
@@ -142,38 +120,31 @@ def about_names_that_two_have():
 
 def names_that_nothing_has():
     for word, near, near_object in UNNAMED:
-        refused([STANDARD, "--", word], f"mls: {word}: bad name{near}\n")
-        refused(["--as-object", STANDARD, "--", word], f"mls: {word}: bad name{near_object}\n")
-    refused(["--as-object", STANDARD, "bob"], "mls: bob: bad name\n")
+        refused([STANDARD, "--", word], f"{word}: bad name{near}")
+        refused(["--as-object", STANDARD, "--", word], f"{word}: bad name{near_object}")
+    refused(["--as-object", STANDARD, "bob"], "bob: bad name")
 
 
 def faults_of_about_in_their_order():
-    put("about.journal", JOURNAL)
-    put("torn.journal", JOURNAL[:-1])
-    put("forged.journal", JOURNAL.replace(b"no authority", b"yes"))
-    put("empty.json", b"")
-    put("none.marks", b"x\n")
-    refused(["--journal", "no.journal", "no.json", "file"], "mls: no.json: file\n")
-    refused(["--journal", "no.journal", "empty.json", "file"], "mls: no.journal: file\n")
-    refused(["--journal", "about.journal", "--marks", "no.marks", STANDARD, "file"], "mls: no.marks: file\n")
-    refused(["--journal", "about.journal", "--marks", "none.marks", STANDARD, "file"], "mls: none.marks: line 1: mark\n")
-    refused(["empty.json", "file"], "mls: empty.json: start 1 Json\n")
-    refused(["--journal", "torn.journal", STANDARD, "file"], "mls: torn.journal: line 12: entry 1 BadForm\n")
-    refused(["--journal", "forged.journal", STANDARD, "file"], "mls: forged.journal: replay 2 Differs at 5 expected no authority\n", 3)
-    refused(["--journal", "about.journal", "--at", "13", STANDARD, "file"], "mls: about.journal: at most 12\n")
-    refused(["--journal", "about.journal", "--at", "12", STANDARD, "file"], "mls: file: bad name\n")
+    put_faulty(JOURNAL, b"no authority")
+    asked = lambda journal, *words: ["--journal", journal, *words, "file"]
+    refused(asked("no.journal", "no.json"), "no.json: file")
+    refused(asked("no.journal", "empty.json"), "no.journal: file")
+    refused(asked("opened.journal", "--marks", "no.marks", STANDARD), "no.marks: file")
+    refused(asked("opened.journal", "--marks", "none.marks", STANDARD), "none.marks: line 1: mark")
+    refused(["empty.json", "file"], "empty.json: start 1 Json")
+    refused(asked("torn.journal", STANDARD), "torn.journal: line 12: entry 1 BadForm")
+    refused(asked("forged.journal", STANDARD), "forged.journal: replay 2 Differs at 5 expected no authority", 3)
+    refused(asked("opened.journal", "--at", "13", STANDARD), "opened.journal: at most 12")
+    refused(asked("opened.journal", "--at", "12", STANDARD), "file: bad name")
 
 
 def words_that_ask_about_nothing():
     put("about.journal", JOURNAL)
-    rows = [[STANDARD], [STANDARD, "bob", "ann"], ["--at", "0", STANDARD, "bob"], ["--marks", "m", STANDARD, "bob"], []]
-    rows += [["--journal", "about.journal", "--when", "2026-11-27", STANDARD, "bob"]]
-    rows += [["--journal", "about.journal", "--marks", "m", "--at", "1", "--when", "2026-11-27", STANDARD, "bob"]]
-    rows += [["--journal", "about.journal", "--at", "x", STANDARD, "bob"], ["--as-object", "x", STANDARD, "bob"]]
-    for words in rows:
-        status, output, error = ran_program(["about", *words])
-        same((words, status, output, bool(error)), (words, 2, b"", True))
-    refused(["--journal", "j", "--marks", "m", "--when", "now", STANDARD, "bob"], f"mls: --when now: {time_rows.NO_TIME}\n", 2)
+    asked, of, when = ["--journal", "about.journal"], [STANDARD, "bob"], ["--when", "2026-11-27"]
+    not_understood([STANDARD], [*of, "ann"], ["--at", "0", *of], ["--marks", "m", *of], [], [*asked, *when, *of])
+    not_understood([*asked, "--marks", "m", "--at", "1", *when, *of], [*asked, "--at", "x", *of], ["--as-object", "x", *of])
+    refused(["--journal", "j", "--marks", "m", "--when", "now", *of], f"--when now: {NO_TIME}", 2)
 
 
 def about_by_chance(world):
@@ -198,9 +169,8 @@ def about_by_chance(world):
     about([world.start, name], *abouts.of_object([world.opening], o))
 
 
-CHECKS = [*map(in_its_folder, [
-    about_in_the_documents, about_what_a_start_opens_with, about_what_a_journal_tells, about_with_times, about_names_that_two_have,
-    names_that_nothing_has, faults_of_about_in_their_order, words_that_ask_about_nothing,
-])]
+CHECKS = [*map(in_its_folder, [about_in_the_documents, about_what_a_start_opens_with, about_what_a_journal_tells,
+           about_with_times, about_names_that_two_have, names_that_nothing_has, faults_of_about_in_their_order,
+           words_that_ask_about_nothing, ])]
 # (it is asked of random starts and journals)
 OF_WORLDS = [about_by_chance]

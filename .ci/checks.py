@@ -23,30 +23,24 @@ from rooms import TOP, draw, listed, minutes, processors
 FILES, PROGRAM, PROOF, MINUTES = range(4)
 # About how many seconds of a processor it takes, over a trial where that is enough: those that take longest begin.
 Check = collections.namedtuple("Check", "name words needs seconds")
-CHECKS = [
-    Check("library", (".ci/check-c",), PROOF, 900),
-    Check("refusals", (".ci/check-refusals",), MINUTES, 400),
-    Check("fuzzers", (".ci/fuzz", "--short"), PROGRAM, 200),
-    Check("service", (".ci/check-durable", "lines", "marks"), PROGRAM, 190),
-    Check("segments", (".ci/check-durable", "segments"), PROGRAM, 180),
-    Check("crashes", (".ci/check-durable", "crashes"), PROGRAM, 170),
-    Check("questions", (".ci/check-questions", "rows"), PROGRAM, 160),
-    Check("worlds", (".ci/check-questions", "worlds"), PROGRAM, 150),
-    Check("rows", (".ci/check-rows",), PROGRAM, 90),
-    Check("runs", (".ci/check-runs",), PROGRAM, 80),
-    Check("starts", (".ci/check-starts",), PROGRAM, 60),
-    Check("program", (".ci/check-program",), PROGRAM, 50),
-    Check("scripts", (".ci/check-scripts",), PROGRAM, 40),
-    Check("installation", (".ci/check-install",), PROGRAM, 30),
-    Check("front", (".ci/check-mlsd", "--short"), PROOF, 60),
-    Check("database", ("integrations/postgresql/check",), PROGRAM, 60),
-    Check("replicas", ("integrations/etcd/check", "--short"), PROOF, 60),
-    Check("guard", ("integrations/guard/check", "--short"), PROGRAM, 40),
-    Check("tutorial", (".ci/check-tutorial",), PROGRAM, 20),
-    Check("mutants", ("bin/mutants", "--read"), FILES, 1),
-    Check("links", (".ci/check-links",), FILES, 1),
-    Check("quotations", (".ci/check-quotes",), FILES, 1),
-]
+CHECKS = [Check("library", (".ci/check-c", ), PROOF, 900), Check("refusals", (".ci/check-refusals", ), MINUTES, 400),
+          Check("fuzzers", (".ci/fuzz", "--short"), PROGRAM, 200),
+          Check("service", (".ci/check-durable", "lines", "marks"), PROGRAM, 190),
+          Check("segments", (".ci/check-durable", "segments"), PROGRAM, 180),
+          Check("crashes", (".ci/check-durable", "crashes"), PROGRAM, 170),
+          Check("questions", (".ci/check-questions", "rows"), PROGRAM, 160),
+          Check("worlds", (".ci/check-questions", "worlds"), PROGRAM, 150),
+          Check("rows", (".ci/check-rows", ), PROGRAM, 90), Check("runs", (".ci/check-runs", ), PROGRAM, 80),
+          Check("starts", (".ci/check-starts", ), PROGRAM, 60), Check("program", (".ci/check-program", ), PROGRAM, 50),
+          Check("scripts", (".ci/check-scripts", ), PROGRAM, 40),
+          Check("installation", (".ci/check-install", ), PROGRAM, 30),
+          Check("front", (".ci/check-mlsd", "--short"), PROOF, 60),
+          Check("database", ("integrations/postgresql/check", ), PROGRAM, 60),
+          Check("replicas", ("integrations/etcd/check", "--short"), PROOF, 60),
+          Check("guard", ("integrations/guard/check", "--short"), PROGRAM, 40),
+          Check("tutorial", (".ci/check-tutorial", ), PROGRAM, 20),
+          Check("mutants", ("bin/mutants", "--read"), FILES, 1), Check("links", (".ci/check-links", ), FILES, 1),
+          Check("quotations", (".ci/check-quotes", ), FILES, 1)]
 COUNTS = re.compile(r"(\d+) passed, (\d+) failed(?:, (\d+) skipped)?")
 SKIPPED = re.compile(r"^.*: skipped: .*\n", re.M)
 

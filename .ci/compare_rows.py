@@ -1,8 +1,9 @@
 """Comparisons of the examples with variants of themselves, with answers that were worked out by hand from docs/POLICY.md and docs/FORMATS.md."""
 import json
 
-from outside import EXAMPLES, TOP, examples, put, ran_program, same
-from question_rows import MEMO, OFFICE, STANDARD, STRANGE
+from asking import OFFICE, STANDARD, asks, put_faulty, shown_below
+from outside import EXAMPLES, examples, put, ran_program
+from question_rows import MEMO, STRANGE
 
 # sec makes #4, permits it to ann, who is below it; then ann takes the label that she has.
 MADE = (
@@ -154,12 +155,9 @@ STARTS = [
 
 # a start, another, a journal of the first, and what is told of them
 JOURNALS = [
-    (as_it_is, newer, MEMO, "entry 1 bob get-read memo: no star > yes\n"),
-    (as_it_is, newer, MADE, ""),
-    (as_it_is, without_bob, MEMO, "entry 1 bob get-read memo: no star > undefined\n"),
-    (as_it_is, reordered, MEMO, ""),
-    (as_it_is, reordered, MADE, ""),
-    (as_it_is, reordered, STRANGE, ""),
+    (as_it_is, newer, MEMO, "entry 1 bob get-read memo: no star > yes\n"), (as_it_is, newer, MADE, ""),
+    (as_it_is, without_bob, MEMO, "entry 1 bob get-read memo: no star > undefined\n"), (as_it_is, reordered, MEMO, ""),
+    (as_it_is, reordered, MADE, ""), (as_it_is, reordered, STRANGE, ""),
     (as_it_is, of_other_categories, MADE, "entry 4 ann level S:A: yes > undefined\n"),
     (as_it_is, of_other_levels, MADE,
      "entry 1 sec create root S:B hi: created 4 > undefined\nentry 2 sec give read ann #4: yes > undefined\n"
@@ -167,8 +165,7 @@ JOURNALS = [
     (as_it_is, without_write, MADE,
      "entry 0 sec get-write root: yes > no discretionary\nentry 1 sec create root S:B hi: created 4 > no authority\n"
      "entry 2 sec give read ann #4: yes > undefined\nentry 3 ann get-read #4: no simple > undefined\n"),
-    (profile_2, as_it_is, AGAIN, ""),
-    (profile_2, newer, AGAIN, ""),
+    (profile_2, as_it_is, AGAIN, ""), (profile_2, newer, AGAIN, ""),
     (without_write, profile_2, DENIED,
      "entry 0 sec get-write root: no discretionary > yes\nentry 1 sec delete tool: no authority > yes\n"
      "entry 2 sec create root U hi: no authority > created 3\nentry 3 bob get-execute tool: yes > undefined\n"),
@@ -182,12 +179,11 @@ def variant(name, change):
     return put(name, json.dumps(data).encode())
 
 
+answered, refused, not_understood = asks("compare")
+
+
 def told(words, text):
-    same((words, *ran_program(["compare", *words])), (words, 4 if text else 0, text.encode(), b""))
-
-
-def refused(words, text, status=1):
-    same((words, *ran_program(["compare", *words])), (words, status, b"", text.encode()))
+    answered(words, text, 4 if text else 0)
 
 
 def starts_that_are_compared():
@@ -198,11 +194,8 @@ def starts_that_are_compared():
 
 def example_of_the_documents():
     """The example of docs/FORMATS.md."""
-    with open(f"{TOP}/docs/FORMATS.md", encoding="utf-8") as page:
-        _, found = page.read().split("    $ mls compare examples/standard.json new.json\n")
-    lines = found[:found.index("\n\n") + 1].split("\n")
-    text = "\n".join(it[4:] for it in lines).replace("new.json", variant("new.json", newer))
-    told([STANDARD, "new.json"], text)
+    shown = dict(shown_below("mls compare examples/standard.json new.json"))
+    told([STANDARD, variant("new.json", newer)], shown[""])
 
 
 def journals_that_are_asked_of_another_start():
@@ -211,23 +204,19 @@ def journals_that_are_asked_of_another_start():
 
 
 def faults_of_a_comparison():
-    put("torn.journal", MEMO[:-1])
-    put("forged.journal", MEMO.replace(b"no star", b"yes"))
-    put("empty.json", b"")
+    put_faulty(MEMO)
     put("broken.json", b"{")
-    refused(["no.json", "none.json", "absent.journal"], "mls: no.json: file\n")
-    refused(["empty.json", "none.json", "absent.journal"], "mls: none.json: file\n")
-    refused(["empty.json", "broken.json", "absent.journal"], "mls: absent.journal: file\n")
-    refused(["empty.json", "broken.json", "torn.journal"], "mls: empty.json: start 1 Json\n")
-    refused([STANDARD, "broken.json", "torn.journal"], "mls: broken.json: start 1 Json\n")
-    refused([STANDARD, "broken.json", "forged.journal"], "mls: broken.json: start 1 Json\n")
-    refused([STANDARD, STANDARD, "torn.journal"], "mls: torn.journal: line 3: entry 1 BadForm\n")
-    refused([STANDARD, STANDARD, "forged.journal"], "mls: forged.journal: replay 2 Differs at 1 expected no star\n", 3)
-    refused(["empty.json", "broken.json"], "mls: empty.json: start 1 Json\n")
-    refused([STANDARD, "broken.json"], "mls: broken.json: start 1 Json\n")
-    for words in ([STANDARD], [], [STANDARD, STANDARD, "j", "k"], ["--at", "0", STANDARD, STANDARD]):
-        status, output, error = ran_program(["compare", *words])
-        same((words, status, output, bool(error)), (words, 2, b"", True))
+    refused(["no.json", "none.json", "absent.journal"], "no.json: file")
+    refused(["empty.json", "none.json", "absent.journal"], "none.json: file")
+    refused(["empty.json", "broken.json", "absent.journal"], "absent.journal: file")
+    refused(["empty.json", "broken.json", "torn.journal"], "empty.json: start 1 Json")
+    refused([STANDARD, "broken.json", "torn.journal"], "broken.json: start 1 Json")
+    refused([STANDARD, "broken.json", "forged.journal"], "broken.json: start 1 Json")
+    refused([STANDARD, STANDARD, "torn.journal"], "torn.journal: line 3: entry 1 BadForm")
+    refused([STANDARD, STANDARD, "forged.journal"], "forged.journal: replay 2 Differs at 1 expected no star", 3)
+    refused(["empty.json", "broken.json"], "empty.json: start 1 Json")
+    refused([STANDARD, "broken.json"], "broken.json: start 1 Json")
+    not_understood([STANDARD], [], [STANDARD, STANDARD, "j", "k"], ["--at", "0", STANDARD, STANDARD])
 
 
 def examples_compared():

@@ -34,21 +34,17 @@ def label_line(what, scheme, other, label, there):
 
 def subject_lines(first, second, s, t):
     what, trusted = f"subject {first.subjects[s]}", lambda state, n: "yes" if n in state.trusted else "no"
-    return [
-        *label_line(f"{what} maximum", first.security, second.security, first.maximum[s], second.maximum[t]),
-        *label_line(f"{what} current", first.security, second.security, first.current[s], second.current[t]),
-        *label_line(f"{what} integrity", first.integrity, second.integrity, first.own[s], second.own[t]),
-        *changed(f"{what} trusted", trusted(first, s), trusted(second, t)),
-    ]
+    return [*label_line(f"{what} maximum", first.security, second.security, first.maximum[s], second.maximum[t]),
+            *label_line(f"{what} current", first.security, second.security, first.current[s], second.current[t]),
+            *label_line(f"{what} integrity", first.integrity, second.integrity, first.own[s], second.own[t]),
+            *changed(f"{what} trusted", trusted(first, s), trusted(second, t))]
 
 
 def object_lines(first, second, o, p):
     what, parent = f"object {first.objects[o]}", lambda state, n: state.objects[state.parent[n]] if n in state.parent else "(none)"
-    return [
-        *changed(f"{what} parent", parent(first, o), parent(second, p)),
-        *label_line(f"{what} security", first.security, second.security, first.label[o], second.label[p]),
-        *label_line(f"{what} integrity", first.integrity, second.integrity, first.trust[o], second.trust[p]),
-    ]
+    return [*changed(f"{what} parent", parent(first, o), parent(second, p)),
+            *label_line(f"{what} security", first.security, second.security, first.label[o], second.label[p]),
+            *label_line(f"{what} integrity", first.integrity, second.integrity, first.trust[o], second.trust[p])]
 
 
 def alone(words, here, there):

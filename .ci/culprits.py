@@ -3,10 +3,8 @@ words over random starts whose names are near to each other."""
 import functools
 
 # What the words behind the subject and the action's word are: a mode, a subject, an object, a label.
-OPERANDS = {
-    "check": "mo", "get-execute": "o", "get-read": "o", "get-append": "o", "get-write": "o", "release": "mo", "give": "mso", "rescind": "mso",
-    "create": "oci", "delete": "o", "level": "c", "relabel": "oc",
-}
+OPERANDS = {"check": "mo", "get-execute": "o", "get-read": "o", "get-append": "o", "get-write": "o", "release": "mo",
+            "give": "mso", "rescind": "mso", "create": "oci", "delete": "o", "level": "c", "relabel": "oc"}
 LONGEST, FAR = 34, 2
 LETTERS = "abA-"
 

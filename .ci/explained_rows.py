@@ -4,15 +4,15 @@ import subprocess
 
 import question_texts as texts
 import question_worlds as worlds
-from outside import EXAMPLES, PROGRAM, SECONDS, TOP, in_its_folder, put, ran_program, same
-from question_rows import EXPLAINED, GIVEN, HELD, MEMO, STANDARD, STRANGE
+from asking import HELD, STANDARD, asks, put_faulty, shown_below
+from outside import PROGRAM, SECONDS, in_its_folder, put, ran_program, same
+from question_rows import EXPLAINED, GIVEN, MEMO, STRANGE
 
 # The command of the example in FORMATS.md, over the journal of examples/standard.script.
 EXAMPLE = "mls journal --explain --reply no examples/standard.json standard.journal"
 READ, DENIED = (texts.under(dict((line, text) for line, text, _ in EXPLAINED)[asked]) for asked in ("ann get-read plans", "bob get-read memo"))
-MEMO_LINES = [
-    "0 session 0 ann get-read plans: yes\n" + READ, "1 session 0 bob get-read memo: no star\n" + DENIED, "2 session 0 ann release read plans: yes\n",
-]
+MEMO_LINES = ["0 session 0 ann get-read plans: yes\n" + READ, "1 session 0 bob get-read memo: no star\n" + DENIED,
+              "2 session 0 ann release read plans: yes\n"]
 GIVEN_LINES = [
     "0 session 0 sec get-write root: yes\n  discretionary holds: sec is permitted write of root\n  simple holds: maximum T:A,B dominates U of root\n"
     "  star holds: sec is trusted\n  integrity holds: hi of sec equals hi of root\n",
@@ -23,10 +23,8 @@ GIVEN_LINES = [
     "  integrity holds: hi of plans dominates lo of bob\n  remedy: none by level\n",
     "4 session 0 ann give read bob plans: no authority\n  authority fails: ann does not hold write on root\n",
 ]
-UNDEFINED = (
-    "2 session 1 sec relabel #4 9:7: undefined\n  security label outside the scheme: 9:7\n"
-    "3 session 1 #9 give read #9 #9: undefined\n  unknown subject: #9\n  inactive object: #9\n"
-)
+UNDEFINED = ("2 session 1 sec relabel #4 9:7: undefined\n  security label outside the scheme: 9:7\n"
+              "3 session 1 #9 give read #9 #9: undefined\n  unknown subject: #9\n  inactive object: #9\n")
 # Of examples/held.json, in which ann holds read on plans: accesses in the way stand below their condition here too.
 IN_THE_WAY = b"0 0 0 level 0 no star\n1 0 0 release read 1 yes\n2 0 0 level 0 yes\n"
 IN_THE_WAY_LINES = [
@@ -38,36 +36,15 @@ IN_THE_WAY_LINES = [
 
 # What is asked of which journal, and which lines are printed.
 LISTED = [
-    ([STANDARD, "memo.journal"], MEMO_LINES),
-    (["--reply", "no", STANDARD, "memo.journal"], MEMO_LINES[1:2]),
-    (["--by", "ann", "--from", "1", STANDARD, "memo.journal"], MEMO_LINES[2:]),
-    (["--to", "0", STANDARD, "memo.journal"], MEMO_LINES[:1]),
-    (["--session", "1", STANDARD, "memo.journal"], []),
-    ([STANDARD, "given.journal"], GIVEN_LINES),
-    (["--subject", "bob", STANDARD, "given.journal"], GIVEN_LINES[1:]),
-    (["--object", "root", STANDARD, "given.journal"], GIVEN_LINES[:1]),
-    (["--by", "bob", STANDARD, "given.journal"], GIVEN_LINES[3:4]),
-    (["--from", "2", "--to", "3", STANDARD, "strange.journal"], [UNDEFINED]),
-    ([HELD, "way.journal"], IN_THE_WAY_LINES),
-    ([HELD, "empty.journal"], []),
+    ([STANDARD, "memo.journal"], MEMO_LINES), (["--reply", "no", STANDARD, "memo.journal"], MEMO_LINES[1:2]),
+    (["--by", "ann", "--from", "1", STANDARD, "memo.journal"], MEMO_LINES[2:]), (["--to", "0", STANDARD, "memo.journal"], MEMO_LINES[:1]),
+    (["--session", "1", STANDARD, "memo.journal"], []), ([STANDARD, "given.journal"], GIVEN_LINES),
+    (["--subject", "bob", STANDARD, "given.journal"], GIVEN_LINES[1:]), (["--object", "root", STANDARD, "given.journal"], GIVEN_LINES[:1]),
+    (["--by", "bob", STANDARD, "given.journal"], GIVEN_LINES[3:4]), (["--from", "2", "--to", "3", STANDARD, "strange.journal"], [UNDEFINED]),
+    ([HELD, "way.journal"], IN_THE_WAY_LINES), ([HELD, "empty.journal"], []),
 ]
-
-
-def quoted():
-    """What FORMATS.md prints below the command of its example."""
-    with open(f"{TOP}/docs/FORMATS.md", encoding="ascii") as file:
-        lines = file.read().split(f"\n    $ {EXAMPLE}\n")[1].splitlines()
-    count = next(place for place, line in enumerate(lines) if not line.startswith("    "))
-    return "".join(f"{line[4:]}\n" for line in lines[:count])
-
-
-def answered(words, text):
-    found = ran_program(["journal", "--explain", *words])
-    same((words, *found), (words, 0 if text else 4, text.encode(), b""))
-
-
-def refused(words, told, status=1):
-    same((words, *ran_program(["journal", *words])), (words, status, b"", told.encode()))
+answered = asks("journal", "--explain")[0]
+_, refused, not_understood = asks("journal")
 
 
 def put_journals():
@@ -78,35 +55,32 @@ def put_journals():
 def entries_that_are_listed_and_explained():
     put_journals()
     for words, lines in LISTED:
-        answered(words, "".join(lines))
-    _, *asked, _, _ = EXAMPLE.split()[2:]
-    answered([*asked, f"{EXAMPLES}/standard.json", "memo.journal"], quoted())
+        answered(words, lines)
+    (_, text), = shown_below(EXAMPLE)
+    answered([*EXAMPLE.split()[3:-2], STANDARD, "memo.journal"], text)
 
 
 def faults_of_entries_that_are_explained():
     """As without `--explain`; two forms at once ask for nothing."""
     put_journals()
-    put("torn.journal", MEMO[:-1])
-    put("forged.journal", MEMO.replace(b"no star", b"yes"))
+    put_faulty(MEMO)
     names = ["--explain", "--object", "file", "--by", "yan"]
-    refused([*names, "no.json", "memo.journal"], "mls: no.json: file\n")
-    refused([*names, STANDARD, "torn.journal"], "mls: torn.journal: line 3: entry 1 BadForm\n")
-    refused([*names, STANDARD, "forged.journal"], "mls: forged.journal: replay 2 Differs at 1 expected no star\n", 3)
-    refused([*names, "--subject", "zoe", STANDARD, "memo.journal"], "mls: zoe: bad name (bob?)\n")
-    refused([*names, STANDARD, "memo.journal"], "mls: yan: bad name (ann?)\n")
-    refused([*names[:3], STANDARD, "memo.journal"], "mls: file: bad name\n")
-    refused(["--explain", "--from", "2", "--to", "1", "no.json", "no.journal"], "mls: --from 2: above --to 1\n", 2)
-    for first, second in (("--explain", "--json"), ("--json", "--explain"), ("--explain", "--summary"), ("--summary", "--explain"),
-                          ("--explain", "--explain")):
-        status, output, error = ran_program(["journal", first, second, STANDARD, "memo.journal"])
-        same((first, second, status, output, bool(error)), (first, second, 2, b"", True))
+    refused([*names, "no.json", "memo.journal"], "no.json: file")
+    refused([*names, STANDARD, "torn.journal"], "torn.journal: line 3: entry 1 BadForm")
+    refused([*names, STANDARD, "forged.journal"], "forged.journal: replay 2 Differs at 1 expected no star", 3)
+    refused([*names, "--subject", "zoe", STANDARD, "memo.journal"], "zoe: bad name (bob?)")
+    refused([*names, STANDARD, "memo.journal"], "yan: bad name (ann?)")
+    refused([*names[:3], STANDARD, "memo.journal"], "file: bad name")
+    refused(["--explain", "--from", "2", "--to", "1", "no.json", "no.journal"], "--from 2: above --to 1", 2)
+    for forms in ("--explain --json", "--json --explain", "--explain --summary", "--summary --explain", "--explain --explain"):
+        not_understood([*forms.split(), STANDARD, "memo.journal"])
 
 
 def entries_that_are_written_in_pieces():
     """More lines than are written at once, and standard output that takes none, of them or of few."""
     put("memo.journal", MEMO)
     put("many.journal", b"".join(b"%d 0 0 get-read 1 yes\n" % number for number in range(1_000)))
-    answered([STANDARD, "many.journal"], "".join(f"{number} session 0 ann get-read plans: yes\n{READ}" for number in range(1_000)))
+    answered([STANDARD, "many.journal"], [f"{number} session 0 ann get-read plans: yes\n{READ}" for number in range(1_000)])
     for journal in ("memo.journal", "many.journal"):
         with open("/dev/full", "wb") as full:
             words = [PROGRAM, "journal", "--explain", STANDARD, journal]
@@ -127,8 +101,7 @@ def entries_listed_and_explained(world):
     same("".join(line + texts.under(told) for line, told in zip(lines, alone)), text)
 
 
-CHECKS = [*map(in_its_folder, [
-    entries_that_are_listed_and_explained, faults_of_entries_that_are_explained, entries_that_are_written_in_pieces,
-])]
+CHECKS = [*map(in_its_folder, [entries_that_are_listed_and_explained, faults_of_entries_that_are_explained,
+           entries_that_are_written_in_pieces, ])]
 # (it is asked of random starts and journals)
 OF_WORLDS = [entries_listed_and_explained]

@@ -32,13 +32,12 @@ def start_file():
     names = [f"s{n}" for n in range(9)]
     objects = [{"name": "root", "parent": None, "security": "U", "integrity": "lo"}]
     objects += [{"name": f"o{n}", "parent": "root", "security": "U", "integrity": "lo"} for n in range(1, 6)]
-    return json.dumps({
-        "security": {"levels": ["U", "S"], "categories": ["a"]},
-        "integrity": {"levels": ["lo"], "categories": []},
-        "subjects": [{"name": it, "maximum": "S:a", "current": "U", "integrity": "lo", "trusted": n % 2 == 0} for n, it in enumerate(names)],
-        "objects": objects,
-        "matrix": [{"subject": s, "object": o["name"], "modes": list(MODES)} for s in names for o in objects],
-    })
+    return json.dumps({"security": {"levels": ["U", "S"], "categories": ["a"]},
+                       "integrity": {"levels": ["lo"], "categories": []},
+                       "subjects": [{"name": it, "maximum": "S:a", "current": "U", "integrity": "lo",
+                        "trusted": n % 2 == 0} for n, it in enumerate(names)], "objects": objects,
+                       "matrix": [{"subject": s, "object": o["name"], "modes": list(MODES)} for s in names
+                        for o in objects]})
 
 
 def drawn_line(draw):

@@ -333,14 +333,7 @@ def kill_before_each_call_on_marks():
             goes_on("d", b"", due, written)
 
 
-CHECKS = [*map(in_its_folder, [
-    marks_of_a_journal_that_is_cut,
-    start_over_marks,
-    marks_that_are_no_end_of_a_segment,
-    marks_begun_later,
-    segment_that_is_forged_with_its_marks,
-    marks_of_an_archive,
-    state_that_is_forged_under_marks,
-    kills_between_segments_that_are_marked,
-])]
+CHECKS = [*map(in_its_folder, [marks_of_a_journal_that_is_cut, start_over_marks, marks_that_are_no_end_of_a_segment,
+           marks_begun_later, segment_that_is_forged_with_its_marks, marks_of_an_archive,
+           state_that_is_forged_under_marks, kills_between_segments_that_are_marked, ])]
 OVER_THE_SHIM = [*map(in_its_folder, [sync_of_marks_before_a_segment_is_closed, kill_before_each_call_on_marks])]

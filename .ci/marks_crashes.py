@@ -368,7 +368,6 @@ def loop_of_a_supervisor():
 
 
 CHECKS = [*map(in_its_folder, [kills_under_a_client_that_is_marked, crashes_of_the_machine, marks_torn_at_each_byte])]
-OVER_THE_SHIM = [*map(in_its_folder, [
-    both_disks_that_fail, lock_and_read_of_marks_that_fail, recovery_of_both_that_is_killed, marks_before_answers, marks_that_are_synced,
-    sync_of_marks_that_fails_while_it_waits, clock_that_goes_back_and_fails, loop_of_a_supervisor,
-])]
+OVER_THE_SHIM = [*map(in_its_folder, [both_disks_that_fail, lock_and_read_of_marks_that_fail,
+                  recovery_of_both_that_is_killed, marks_before_answers, marks_that_are_synced,
+                  sync_of_marks_that_fails_while_it_waits, clock_that_goes_back_and_fails, loop_of_a_supervisor, ])]

@@ -115,9 +115,8 @@ def section(page, title):
 
 def tables(part):
     """The tables by their captions: of each the rows of its bodies, with the texts of the cells."""
-    return {
-        it.one("caption").text(): [row.texts("th", "td") for body in it.all("tbody") for row in body.all("tr")] for it in part.all("table")
-    }
+    return {it.one("caption").text(): [row.texts("th", "td") for body in it.all("tbody") for row in body.all("tr")]
+             for it in part.all("table")}
 
 
 def more(part):

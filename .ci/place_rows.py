@@ -49,30 +49,28 @@ MISSING = [f"{it}: missing" for it in (
     "/subjects/0/integrity", "/objects/0/security", "/objects/0/integrity", "/objects/1/security", "/objects/1/integrity",
 )]
 
-UNKNOWN_MEMBERS = [
-    *[f"{it}/extra: unknown member" for it in ("", "/security", "/integrity", "/subjects/0", "/objects/0", "/objects/1", "/matrix/0")],
-    "/security: missing", "/subjects: missing", "/matrix: missing", "/matrix: missing", "/access: unknown member", "/security/levels: missing",
-    "/security/categories: missing", "/subjects/0/maximum: missing", "/subjects/0/trusted: missing", "/objects/0/parent: missing",
-    "/matrix/0/modes: missing", "/objects/1/name: missing",
-]
+UNKNOWN_MEMBERS = [*[f"{it}/extra: unknown member" for it in ("", "/security", "/integrity", "/subjects/0",
+                    "/objects/0", "/objects/1", "/matrix/0")], "/security: missing", "/subjects: missing",
+                   "/matrix: missing", "/matrix: missing", "/access: unknown member", "/security/levels: missing",
+                   "/security/categories: missing", "/subjects/0/maximum: missing", "/subjects/0/trusted: missing",
+                   "/objects/0/parent: missing", "/matrix/0/modes: missing", "/objects/1/name: missing"]
 
-TYPES = [
-    *times(5, "/security: not an object"),
-    *times(3, "/security/levels: not a list"), *times(3, "/security/levels/0: not a string"), "/security/levels/1: not a string",
-    "/security/categories: not a list", *times(2, "/security/categories/0: not a string"), "/security/categories: not a list",
-    "/integrity: not an object",
-    *times(3, "/subjects: not a list"), *times(3, "/subjects/0: not an object"),
-    *times(3, "/subjects/0/name: not a string"), *times(2, "/subjects/0/maximum: not a string"), *times(2, "/subjects/0/current: not a string"),
-    *times(2, "/subjects/0/integrity: not a string"), *times(4, "/subjects/0/trusted: not true or false"),
-    "/objects: empty", *times(3, "/objects: not a list"), *times(2, "/objects/0: not an object"),
-    *times(2, "/objects/0/name: not a string"), *times(5, "/objects/0/parent: not null"), *times(2, "/objects/0/security: not a string"),
-    "/objects/0/integrity: not a string",
-    *times(3, "/objects/1: not an object"), "/objects/1/name: not a string", *times(3, "/objects/1/parent: not a string"),
-    "/objects/1/security: not a string", "/objects/1/integrity: not a string",
-    *times(3, "/matrix: not a list"), *times(3, "/matrix/0: not an object"),
-    *times(2, "/matrix/0/subject: not a string"), *times(2, "/matrix/0/object: not a string"), *times(3, "/matrix/0/modes: not a list"),
-    *times(3, "/matrix/0/modes/0: not a string"), "/matrix/0/modes/1: not a string",
-]
+TYPES = [*times(5, "/security: not an object"), *times(3, "/security/levels: not a list"),
+         *times(3, "/security/levels/0: not a string"), "/security/levels/1: not a string",
+         "/security/categories: not a list", *times(2, "/security/categories/0: not a string"),
+         "/security/categories: not a list", "/integrity: not an object", *times(3, "/subjects: not a list"),
+         *times(3, "/subjects/0: not an object"), *times(3, "/subjects/0/name: not a string"),
+         *times(2, "/subjects/0/maximum: not a string"), *times(2, "/subjects/0/current: not a string"),
+         *times(2, "/subjects/0/integrity: not a string"), *times(4, "/subjects/0/trusted: not true or false"),
+         "/objects: empty", *times(3, "/objects: not a list"), *times(2, "/objects/0: not an object"),
+         *times(2, "/objects/0/name: not a string"), *times(5, "/objects/0/parent: not null"),
+         *times(2, "/objects/0/security: not a string"), "/objects/0/integrity: not a string",
+         *times(3, "/objects/1: not an object"), "/objects/1/name: not a string",
+         *times(3, "/objects/1/parent: not a string"), "/objects/1/security: not a string",
+         "/objects/1/integrity: not a string", *times(3, "/matrix: not a list"), *times(3, "/matrix/0: not an object"),
+         *times(2, "/matrix/0/subject: not a string"), *times(2, "/matrix/0/object: not a string"),
+         *times(3, "/matrix/0/modes: not a list"), *times(3, "/matrix/0/modes/0: not a string"),
+         "/matrix/0/modes/1: not a string"]
 
 # (a member that the file has twice counts as its last value)
 TWICE_WRONG = ["/subjects/0/trusted: not true or false"]
@@ -82,41 +80,35 @@ OTHER_JSON = ["/security: missing", *times(6, "/: not an object"), "/security/le
 # Where JSON breaks off: at the end, where a part begins that is no whole one, behind a number out of range, behind the bracket that nests too deep.
 NO_JSON = ["line 1, column 0", "line 1, column 1", "line 1, column 1", "line 1, column 1", "line 1, column 3", "line 1, column 4", "line 1, column 11",
            "line 1, column 1", "not UTF-8", "line 1, column 1", "line 1, column 129"]
-MORE_NO_JSON = [
-    (b'{"security": [1,]', "/: line 1, column 17"), (b'{\n "a": 1\n "b": 2\n}', "/: line 3, column 2"), (b'{"a": tru}', "/: line 1, column 7"),
-    (b'{"a":1.}', "/: line 1, column 6"), (b'["a\\x"]', "/: line 1, column 2"),
-    (b"[\xff]", "/: not UTF-8"), (b'{}\n\n  "\xc3"', "/: not UTF-8"), (b"{}\n\n  x", "/: line 3, column 3"),
-]
+MORE_NO_JSON = [(b'{"security": [1,]', "/: line 1, column 17"), (b'{\n "a": 1\n "b": 2\n}', "/: line 3, column 2"),
+                (b'{"a": tru}', "/: line 1, column 7"), (b'{"a":1.}', "/: line 1, column 6"),
+                (b'["a\\x"]', "/: line 1, column 2"), (b"[\xff]", "/: not UTF-8"), (b'{}\n\n  "\xc3"', "/: not UTF-8"),
+                (b"{}\n\n  x", "/: line 3, column 3")]
 
 VALUES = [None, "/subjects/0/trusted: not true or false", None, "/subjects/0/name: bad name"]
 
-SCHEMES = [
-    "/security/levels: no level", "/security/levels: more than 16", "/security/categories: more than 256", *times(3, "/security/levels/1: bad name"),
-    *times(2, "/security/categories/0: bad name"), "/security/levels/1: repeated name", "/security/categories/2: repeated name",
-    "/integrity/levels: no level", "/integrity/levels/1: repeated name", "/integrity/categories/1: repeated name",
-    "/security/levels/1: repeated name", *times(2, "/security/levels: no level"),
-]
+SCHEMES = ["/security/levels: no level", "/security/levels: more than 16", "/security/categories: more than 256",
+           *times(3, "/security/levels/1: bad name"), *times(2, "/security/categories/0: bad name"),
+           "/security/levels/1: repeated name", "/security/categories/2: repeated name", "/integrity/levels: no level",
+           "/integrity/levels/1: repeated name", "/integrity/categories/1: repeated name",
+           "/security/levels/1: repeated name", *times(2, "/security/levels: no level")]
 
 LABEL_PLACES = ["/subjects/0/maximum", "/subjects/0/current", "/subjects/0/integrity", "/objects/0/security", "/objects/0/integrity",
                 "/objects/1/security", "/objects/1/integrity"]
 LABEL_ENDS = [*times(4, "bad form"), *times(2, "unknown category"), *times(2, "repeated category")]
 NO_LABELS = ["bad form", "unknown level", "unknown level", "bad form", "bad form", "unknown level"]
 
-NAMES = [
-    *times(8, "/subjects/0/name: bad name"), *times(8, "/objects/0/name: bad name"), *times(8, "/objects/1/name: bad name"),
-    "/subjects/1/name: repeated name", "/objects/1/name: repeated name", "/objects/2/name: repeated name",
-]
+NAMES = [*times(8, "/subjects/0/name: bad name"), *times(8, "/objects/0/name: bad name"),
+         *times(8, "/objects/1/name: bad name"), "/subjects/1/name: repeated name", "/objects/1/name: repeated name",
+         "/objects/2/name: repeated name"]
 
-UNKNOWN = [
-    *times(4, "/objects/1/parent: no such object"), *times(3, "/matrix/0/subject: no such subject"), *times(2, "/matrix/0/object: no such object"),
-    *times(2, "/matrix/0/modes/0: no such mode"), "/matrix/0/modes/1: no such mode", *times(2, "/matrix/0/modes/0: no such mode"),
-]
+UNKNOWN = [*times(4, "/objects/1/parent: no such object"), *times(3, "/matrix/0/subject: no such subject"),
+           *times(2, "/matrix/0/object: no such object"), *times(2, "/matrix/0/modes/0: no such mode"),
+           "/matrix/0/modes/1: no such mode", *times(2, "/matrix/0/modes/0: no such mode")]
 
-STARTS = [
-    "/subjects: no subject", "/objects/1/parent: not before it, in a cycle", "/objects/1/parent: not before it",
-    "/subjects/0/current: maximum does not dominate it",
-    "/objects/1/security: does not dominate the parent's", "/objects/1/integrity: the parent's does not dominate it",
-]
+STARTS = ["/subjects: no subject", "/objects/1/parent: not before it, in a cycle", "/objects/1/parent: not before it",
+          "/subjects/0/current: maximum does not dominate it", "/objects/1/security: does not dominate the parent's",
+          "/objects/1/integrity: the parent's does not dominate it"]
 
 ACCESSES = [
     *times(4, "/accesses: not a list"), *times(3, "/accesses/0: not an object"), "/accesses/0/subject: missing", "/accesses: not a list",
@@ -129,17 +121,14 @@ STANDARD_ACCESSES = ["star", "discretionary", "integrity"]
 
 PROFILES = [*times(18, "/profile: not 1 or 2"), "/: line 1, column 12", "/: line 1, column 12"]
 
-TWO_FAULTS = [
-    "/matrix/0/modes: missing", "/subjects/0/trusted: not true or false", "/integrity/levels: no level", "/security/levels/1: repeated name",
-    "/objects/1/name: repeated name", "/objects/1/name: bad name", "/objects/1/integrity: unknown level", "/objects/1/integrity: unknown category",
-    "/matrix/0/modes/0: no such mode", "/matrix/0/object: no such object", "/matrix/0/modes: missing",
-]
+TWO_FAULTS = ["/matrix/0/modes: missing", "/subjects/0/trusted: not true or false", "/integrity/levels: no level",
+              "/security/levels/1: repeated name", "/objects/1/name: repeated name", "/objects/1/name: bad name",
+              "/objects/1/integrity: unknown level", "/objects/1/integrity: unknown category",
+              "/matrix/0/modes/0: no such mode", "/matrix/0/object: no such object", "/matrix/0/modes: missing"]
 
-COUNTS = [
-    "/subjects: more than 256", "/objects: more than 4096", "/subjects: more than 256", "/subjects: no subject",
-    "/objects/4096/security: unknown level", "/objects/4096/parent: no such object", "/objects: more than 4096", "/objects: more than 4096",
-    "/objects/65540/parent: no such object", "/objects: more than 4096",
-]
+COUNTS = ["/subjects: more than 256", "/objects: more than 4096", "/subjects: more than 256", "/subjects: no subject",
+          "/objects/4096/security: unknown level", "/objects/4096/parent: no such object", "/objects: more than 4096",
+          "/objects: more than 4096", "/objects/65540/parent: no such object", "/objects: more than 4096"]
 
 # Keys that a line can't have as they are.
 KEYS = [("a/b", "a~1b"), ("a~b", "a~0b"), ("~1", "~01"), ("", ""), ("a b", r"a\x20b"), ("\n", r"\x0a"), ('"', '"'), ("\\", r"\x5c"),
@@ -181,12 +170,11 @@ SEVERAL = [
 ]
 
 # Accesses of the standard file, and what is told of each of their modes, if anything.
-SEVERAL_ACCESSES = (
-    [("ann", "plans", ["read", "write", "append"]), ("bob", "memo", ["read", "read", "execute"]), ("sec", "memo", ["append", "write"]),
-     ("bob", "plans", ["append"]), ("aud", "plans", ["read"])],
-    ["/accesses/0/modes/2: discretionary", "/accesses/1/modes/0: star", "/accesses/1/modes/1: star", "/accesses/1/modes/2: discretionary",
-     "/accesses/2/modes/1: integrity", "/accesses/3/modes/0: integrity"],
-)
+SEVERAL_ACCESSES = ([("ann", "plans", ["read", "write", "append"]), ("bob", "memo", ["read", "read", "execute"]),
+                     ("sec", "memo", ["append", "write"]), ("bob", "plans", ["append"]), ("aud", "plans", ["read"])],
+                    ["/accesses/0/modes/2: discretionary", "/accesses/1/modes/0: star", "/accesses/1/modes/1: star",
+                     "/accesses/1/modes/2: discretionary", "/accesses/2/modes/1: integrity",
+                     "/accesses/3/modes/0: integrity"])
 
 
 def members_left_out():
@@ -501,9 +489,8 @@ def random_damages():
     assert told > DAMAGES * 3 // 4, f"only {told} damages"
 
 
-CHECKS = [
-    members_left_out, unknown_members, many_unknown_members, values_of_other_types, texts_that_are_no_json, files_that_are_cut,
-    numbers_and_surrogates, schemes,
-    labels_in_each_place, names_of_subjects_and_objects, names_that_stand_for_nothing, starts_that_are_refused, accesses, profiles, two_faults_at_once,
-    several_places, changes_of_the_standard_file, files_of_many_subjects_and_objects, files_of_one_name_or_of_many_cells, random_damages,
-]
+CHECKS = [members_left_out, unknown_members, many_unknown_members, values_of_other_types, texts_that_are_no_json,
+          files_that_are_cut, numbers_and_surrogates, schemes, labels_in_each_place, names_of_subjects_and_objects,
+          names_that_stand_for_nothing, starts_that_are_refused, accesses, profiles, two_faults_at_once, several_places,
+          changes_of_the_standard_file, files_of_many_subjects_and_objects, files_of_one_name_or_of_many_cells,
+          random_damages]

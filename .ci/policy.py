@@ -69,9 +69,8 @@ class State:
         self.next = len(self.objects)
 
     def triples(self, rows):
-        return {
-            (self.subjects.index(it["subject"]), self.objects.index(it["object"]), MODES.index(mode)) for it in rows for mode in it["modes"]
-        }
+        return {(self.subjects.index(it["subject"]), self.objects.index(it["object"]), MODES.index(mode)) for it in rows
+                 for mode in it["modes"]}
 
     # names
 
@@ -158,12 +157,9 @@ class State:
             integrity = said(strict, own, "dominates", trust)
         else:
             integrity = said(strict, own, "equals", trust)
-        return [
-            ("discretionary", permitted, f"{name} is {'' if permitted else 'not '}permitted {word} of {thing}", []),
-            ("simple", self.simple(s, label, mode), simple, []),
-            ("star", self.star(s, current, label, mode), star, []),
-            ("integrity", strict, integrity, []),
-        ]
+        return [("discretionary", permitted, f"{name} is {'' if permitted else 'not '}permitted {word} of {thing}", []),
+                ("simple", self.simple(s, label, mode), simple, []),
+                ("star", self.star(s, current, label, mode), star, []), ("integrity", strict, integrity, [])]
 
     def of_release(self, s, mode, o):
         return []
@@ -186,14 +182,13 @@ class State:
         alters = (s, p, 2) in self.accesses or self.writes(s, p)
         above, below = dominates(label, self.label[p]), dominates(self.trust[p], trust)
         free = self.next < OBJECTS
-        return [
-            ("authority", alters, f"{name} holds {'append or write' if alters else 'neither append nor write'} on {thing}", []),
-            ("compatibility", above,
-             said(above, f"new {self.security.text(label)}", "dominates", f"{self.security.text(self.label[p])} of {thing}"), []),
-            ("integrity", below,
-             said(below, f"{self.integrity.text(self.trust[p])} of {thing}", "dominates", f"new {self.integrity.text(trust)}"), []),
-            ("full", free, f"next number is {self.next}" if free else "no number is left", []),
-        ]
+        return [("authority", alters,
+                 f"{name} holds {'append or write' if alters else 'neither append nor write'} on {thing}", []),
+                ("compatibility", above, said(above, f"new {self.security.text(label)}", "dominates",
+                 f"{self.security.text(self.label[p])} of {thing}"), []),
+                ("integrity", below, said(below, f"{self.integrity.text(self.trust[p])} of {thing}", "dominates",
+                 f"new {self.integrity.text(trust)}"), []),
+                ("full", free, f"next number is {self.next}" if free else "no number is left", [])]
 
     def of_delete(self, s, o):
         if o == 0:
@@ -210,10 +205,8 @@ class State:
             basis = self.trusts(s)[1]
         else:
             basis = f"{'not ' if failing else ''}all that {self.subject(s)} holds meets star at {new}"
-        return [
-            ("ceiling", ceiling, said(ceiling, f"maximum {self.security.text(self.maximum[s])}", "dominates", new), []),
-            ("star", not failing, basis, [f"{self.object(o)} {MODES[x]}" for _, o, x in failing]),
-        ]
+        return [("ceiling", ceiling, said(ceiling, f"maximum {self.security.text(self.maximum[s])}", "dominates", new),
+                 []), ("star", not failing, basis, [f"{self.object(o)} {MODES[x]}" for _, o, x in failing])]
 
     def of_relabel(self, s, o, label):
         name, thing, sec = self.subject(s), self.object(o), self.security.text
@@ -221,11 +214,9 @@ class State:
         if s in self.trusted or o == 0:
             holds, authority = self.trusts(s)
         else:
-            parts = [
-                (self.controls(s, o), holding(self.controls(s, o), name, self.object(self.parent[o]))),
-                (dominates(self.current[s], self.label[o]), f"current {sec(self.current[s])}"),
-                (dominates(label, self.label[o]), new),
-            ]
+            parts = [(self.controls(s, o), holding(self.controls(s, o), name, self.object(self.parent[o]))),
+                     (dominates(self.current[s], self.label[o]), f"current {sec(self.current[s])}"),
+                     (dominates(label, self.label[o]), new)]
             holds = all(it for it, _ in parts)
             authority = ", ".join([parts[0][1]] + [said(it, word, "dominates", old) for it, word in parts[1:]])
         below = all(dominates(self.label[it], label) for it in self.children(o))
@@ -239,12 +230,10 @@ class State:
         simple = [it for it in held if not self.simple(it[0], label, it[2])]
         star = [it for it in held if not self.star(it[0], self.current[it[0]], label, it[2])]
         told = lambda rows: [f"{self.subject(t)} {MODES[x]}" for t, _, x in rows]
-        return [
-            ("authority", holds, authority, []),
-            ("compatibility", above and below, fits, []),
-            ("simple", not simple, f"{'not ' if simple else ''}all that observe {thing} meet simple at {new}", told(simple)),
-            ("star", not star, f"{'not ' if star else ''}all that hold {thing} meet star at {new}", told(star)),
-        ]
+        return [("authority", holds, authority, []), ("compatibility", above and below, fits, []),
+                ("simple", not simple, f"{'not ' if simple else ''}all that observe {thing} meet simple at {new}",
+                 told(simple)),
+                ("star", not star, f"{'not ' if star else ''}all that hold {thing} meet star at {new}", told(star))]
 
     # what a granted request changes
 
@@ -316,16 +305,10 @@ class State:
         return granted
 
 
-KINDS = {
-    **{f"get-{mode}": ("mode", "object") for mode in MODES},
-    "release": ("mode", "object"),
-    "give": ("mode", "subject", "object"),
-    "rescind": ("mode", "subject", "object"),
-    "create": ("object", "security", "integrity"),
-    "delete": ("object",),
-    "level": ("security",),
-    "relabel": ("object", "security"),
-}
+KINDS = {**{f"get-{mode}": ("mode", "object") for mode in MODES}, "release": ("mode", "object"),
+         "give": ("mode", "subject", "object"), "rescind": ("mode", "subject", "object"),
+         "create": ("object", "security", "integrity"), "delete": ("object", ), "level": ("security", ),
+         "relabel": ("object", "security")}
 
 
 def said(holds, one, verb, other):

@@ -3,9 +3,9 @@ import os
 import pty
 import subprocess
 
-from outside import EXAMPLES, PROGRAM, SECONDS, put, ran_program, same
+from asking import HELD, OFFICE, STANDARD, asks, put_faulty
+from outside import PROGRAM, SECONDS, put, ran_program, same
 
-STANDARD, OFFICE, HELD = (f"{EXAMPLES}/{it}.json" for it in ("standard", "office", "held"))
 # The journal of examples/standard.script.
 MEMO = b"0 0 0 get-read 1 yes\n1 0 1 get-read 2 no star\n2 0 0 release read 1 yes\n"
 # A journal with a level that no scheme has, and with objects and subjects that aren't there.
@@ -20,16 +20,10 @@ GIVEN = (
     b"4 0 0 give read 1 1 no authority\n"
 )
 
-ASKED = [
-    ("bob get-read memo", "no star\n", 4),
-    ("ann get-read plans", "yes\n", 0),
-    ("  ann   get-read plans ", "yes\n", 0),
-    ("ann check read plans", "not held\n", 4),
-    ("#0 get-read #1", "yes\n", 0),
-    ("#9 get-read #1", "undefined\n", 4),
-    ("ann release read plans", "yes\n", 0),
-    ("sec create root S:B hi", "no authority\n", 4),
-]
+ASKED = [("bob get-read memo", "no star\n", 4), ("ann get-read plans", "yes\n", 0),
+         ("  ann   get-read plans ", "yes\n", 0), ("ann check read plans", "not held\n", 4),
+         ("#0 get-read #1", "yes\n", 0), ("#9 get-read #1", "undefined\n", 4), ("ann release read plans", "yes\n", 0),
+         ("sec create root S:B hi", "no authority\n", 4)]
 
 EXPLAINED = [
     ("bob get-read memo",
@@ -87,11 +81,10 @@ HELD_EXPLAINED = [
     ("ann check read plans", "held\n", 0),
 ]
 
-BAD_LINES = [
-    ("", "form"), ("   ", "form"), ("; ann get-read plans", "form"), ("ann get-read", "form"), ("ann get-read plans\n", "form"),
-    ("ann get-read plans\nbob get-read memo", "form"), ("ann get-read $x", "form"), ("$x = sec create root U hi", "form"),
-    ("ann frob plans", "form"), ("ann get-read #01", "form"), ("zoe get-reads plan", "form"), ("zoe get-read plan extra", "form"),
-]
+BAD_LINES = [("", "form"), ("   ", "form"), ("; ann get-read plans", "form"), ("ann get-read", "form"),
+             ("ann get-read plans\n", "form"), ("ann get-read plans\nbob get-read memo", "form"),
+             ("ann get-read $x", "form"), ("$x = sec create root U hi", "form"), ("ann frob plans", "form"),
+             ("ann get-read #01", "form"), ("zoe get-reads plan", "form"), ("zoe get-read plan extra", "form")]
 
 # Lines of which a word names nothing, with what is told of it: the first such word, and the nearest name that can stand there.
 WRONG_WORDS = [
@@ -110,23 +103,18 @@ WRONG_WORDS = [
     ("sec create root " + 9000 * "x" + " hi", "label: " + 9000 * "x"),
 ]
 
-WHO = [
-    (["memo"], "ann read no integrity, never\nbob read no star, level C\nsec append yes\nsec write no integrity, never\n", 0),
-    (["memo", "read"], "ann read no integrity, never\nbob read no star, level C\n", 4),
-    (["#2", "append"], "sec append yes\n", 0),
-    (["tool", "append"], "", 4),
-    (["#9"], "", 4),
-    (["plans"], "ann read yes\nann write yes\nbob append no integrity, never\nsec write yes\naud read yes\n", 0),
-]
+WHO = [(["memo"],
+        "ann read no integrity, never\nbob read no star, level C\nsec append yes\nsec write no integrity, never\n", 0),
+       (["memo", "read"], "ann read no integrity, never\nbob read no star, level C\n", 4),
+       (["#2", "append"], "sec append yes\n", 0), (["tool", "append"], "", 4), (["#9"], "", 4),
+       (["plans"], "ann read yes\nann write yes\nbob append no integrity, never\nsec write yes\naud read yes\n", 0)]
 
 SUBJECTS = (
     "subject ann maximum S:A current S:A integrity hi\nsubject bob maximum C current U integrity lo\n"
     "subject sec maximum T:A,B current U integrity hi trusted\nsubject aud maximum S:A current U integrity hi trusted\n"
 )
-OBJECTS = (
-    "object root security U integrity hi\nobject plans security S:A integrity hi parent root\n"
-    "object memo security C integrity lo parent root\nobject tool security U integrity lo parent root\n"
-)
+OBJECTS = ("object root security U integrity hi\nobject plans security S:A integrity hi parent root\n"
+            "object memo security C integrity lo parent root\nobject tool security U integrity lo parent root\n")
 PERMISSIONS = (
     "permit ann read plans\npermit ann write plans\npermit ann read memo\npermit ann execute tool\npermit bob append plans\n"
     "permit bob read memo\npermit bob execute tool\npermit sec write root\npermit sec write plans\npermit sec append memo\n"
@@ -141,16 +129,14 @@ RELABELED = (
 )
 SEC = "sec gives and rescinds root\nsec level S:A C T:A,B\n" + RELABELED.format("sec")
 POWERS = [
-    ([STANDARD], "ann level C U\nbob level C\n" + SEC + "aud gives and rescinds root\naud level S:A C\n" + RELABELED.format("aud"), 0),
-    ([STANDARD, "sec"], SEC, 0),
-    ([STANDARD, "#2"], SEC, 0),
-    (["--down", STANDARD], DOWN.format("sec") + DOWN.format("aud"), 0),
-    (["--down", STANDARD, "bob"], "", 4),
+    ([STANDARD], "ann level C U\nbob level C\n" + SEC + "aud gives and rescinds root\naud level S:A C\n"
+     + RELABELED.format("aud"), 0), ([STANDARD, "sec"], SEC, 0), ([STANDARD, "#2"], SEC, 0),
+    (["--down", STANDARD], DOWN.format("sec") + DOWN.format("aud"), 0), (["--down", STANDARD, "bob"], "", 4),
     ([STANDARD, "#9"], "", 4),
     # sec writes the root: permissions on what is below it, and the objects themselves, are sec's
-    (["--journal", "root.journal", STANDARD, "sec"],
-     "".join(f"sec gives and rescinds {it}\n" for it in ("root", "plans", "memo", "tool")) + "sec creates under root\n"
-     + "".join(f"sec deletes {it}\n" for it in ("plans", "memo", "tool")) + "sec level S:A C T:A,B\n" + RELABELED.format("sec"), 0),
+    (["--journal", "root.journal", STANDARD, "sec"], "".join(f"sec gives and rescinds {it}\n" for it in ("root",
+      "plans", "memo", "tool")) + "sec creates under root\n" + "".join(f"sec deletes {it}\n" for it in ("plans", "memo",
+      "tool")) + "sec level S:A C T:A,B\n" + RELABELED.format("sec"), 0),
     (["--journal", "root.journal", "--at", "0", STANDARD, "sec"], SEC, 0),
 ]
 
@@ -160,13 +146,11 @@ LATTICE = (
     '"T:A,B" [label="T:A,B\\nsec maximum"];\n"S:A" -> "T:A,B";\n"C" -> "S:A";\n"U" -> "C";\n}\n'
 )
 
-STRANGE_EXPLAINED = [
-    (2, "undefined\nsecurity label outside the scheme: 9:7\n"),
-    (3, "undefined\nunknown subject: #9\ninactive object: #9\n"),
-    (4, "undefined\nunknown subject: #8\ninactive object: #9\n"),
-    (5, "undefined\nsecurity label outside the scheme: 9\nintegrity label outside the scheme: 5\n"),
-    (7, "undefined\ninactive object: #4\n"),
-]
+STRANGE_EXPLAINED = [(2, "undefined\nsecurity label outside the scheme: 9:7\n"),
+                     (3, "undefined\nunknown subject: #9\ninactive object: #9\n"),
+                     (4, "undefined\nunknown subject: #8\ninactive object: #9\n"),
+                     (5, "undefined\nsecurity label outside the scheme: 9\nintegrity label outside the scheme: 5\n"),
+                     (7, "undefined\ninactive object: #4\n")]
 
 LISTED = [
     ([], "0 session 0 sec get-write root: yes\n1 session 0 sec create root S:B hi: created 4\n2 session 1 sec relabel #4 9:7: undefined\n"
@@ -201,27 +185,21 @@ LISTED = [
 ]
 
 # What is asked of the journal GIVEN, and the entries that are listed.
-TO_BOB = [
-    "1 session 0 sec give read bob plans: yes\n", "2 session 0 sec rescind read bob plans: yes\n",
-    "3 session 0 bob get-read plans: no discretionary\n", "4 session 0 ann give read bob plans: no authority\n",
-]
-ABOUT = [
-    (["--subject", "bob"], "".join(TO_BOB), 0),
-    (["--by", "bob"], TO_BOB[2], 0),
-    (["--subject", "bob", "--by", "sec"], TO_BOB[0] + TO_BOB[1], 0),
-    (["--subject", "sec"], "0 session 0 sec get-write root: yes\n" + TO_BOB[0] + TO_BOB[1], 0),
-    (["--subject", "bob", "--reply", "yes"], TO_BOB[0] + TO_BOB[1], 0),
-    (["--subject", "bob", "--reply", "no authority"], TO_BOB[3], 0),
-    (["--subject", "aud"], "", 4),
-    (["--summary", "--subject", "bob"], "entries 4\nann no 1\nbob no 1\nsec yes 2\nno discretionary 1\nno authority 1\n", 0),
-    (["--summary", "--by", "bob"], "entries 1\nbob no 1\nno discretionary 1\n", 0),
-]
+TO_BOB = ["1 session 0 sec give read bob plans: yes\n", "2 session 0 sec rescind read bob plans: yes\n",
+          "3 session 0 bob get-read plans: no discretionary\n", "4 session 0 ann give read bob plans: no authority\n"]
+ABOUT = [(["--subject", "bob"], "".join(TO_BOB), 0), (["--by", "bob"], TO_BOB[2], 0),
+         (["--subject", "bob", "--by", "sec"], TO_BOB[0] + TO_BOB[1], 0),
+         (["--subject", "sec"], "0 session 0 sec get-write root: yes\n" + TO_BOB[0] + TO_BOB[1], 0),
+         (["--subject", "bob", "--reply", "yes"], TO_BOB[0] + TO_BOB[1], 0),
+         (["--subject", "bob", "--reply", "no authority"], TO_BOB[3], 0), (["--subject", "aud"], "", 4),
+         (["--summary", "--subject", "bob"],
+          "entries 4\nann no 1\nbob no 1\nsec yes 2\nno discretionary 1\nno authority 1\n", 0),
+         (["--summary", "--by", "bob"], "entries 1\nbob no 1\nno discretionary 1\n", 0)]
 
 # Words with which no reply begins.
-NO_REPLIES = [
-    "", " ", "denied", "creat", "No", "no ", " no", "no sta", "no star ", "no  star", "no stars", "no yes", "nostar", "yes no", "yes ", "created ",
-    "created 04", "created 65536", "created -1", "created x", "created  4", "created 4 ", "created4", "undefined 4", "no star\n",
-]
+NO_REPLIES = ["", " ", "denied", "creat", "No", "no ", " no", "no sta", "no star ", "no  star", "no stars", "no yes",
+              "nostar", "yes no", "yes ", "created ", "created 04", "created 65536", "created -1", "created x",
+              "created  4", "created 4 ", "created4", "undefined 4", "no star\n"]
 
 # A start file with members that are written twice, the names of which are told; what stands within a value that doesn't count isn't.
 TWICE = [
@@ -236,25 +214,17 @@ TWICE = [
     ([('"name": "aud"', '"na\\u006de": "ann", "maximum": "U", "name": "aud"')], ["/subjects/3/name", "/subjects/3/maximum"]),
 ]
 
-STATES = [
-    ([], "profile 1\nnext 4\n" + SUBJECTS + OBJECTS + PERMISSIONS, 0),
-    (["--at", "1"], "profile 1\nnext 4\n" + SUBJECTS + OBJECTS + PERMISSIONS + "access ann read plans\n", 0),
-]
+STATES = [([], "profile 1\nnext 4\n" + SUBJECTS + OBJECTS + PERMISSIONS, 0),
+          (["--at", "1"], "profile 1\nnext 4\n" + SUBJECTS + OBJECTS + PERMISSIONS + "access ann read plans\n", 0)]
 
-LINTED = [
-    (STANDARD, "dead: ann read memo: integrity\ndead: ann execute tool: integrity\ndead: bob append plans: integrity\n"
-     "dead: sec write memo: integrity\ndownflow: sec: 2 pairs, as plans to root\n", 4),
-    (OFFICE, "dead: petra read salaries: simple\ndead: petra read inbox: integrity\n"
-     "downflow: desk: 2 pairs, as staff to office\n", 4),
-]
+LINTED = [(STANDARD,
+           "dead: ann read memo: integrity\ndead: ann execute tool: integrity\ndead: bob append plans: integrity\n"
+           "dead: sec write memo: integrity\ndownflow: sec: 2 pairs, as plans to root\n", 4),
+          (OFFICE, "dead: petra read salaries: simple\ndead: petra read inbox: integrity\n"
+           "downflow: desk: 2 pairs, as staff to office\n", 4)]
 
 
-def answered(words, text, status):
-    same((words, *ran_program(words)), (words, status, text.encode(), b""))
-
-
-def refused(words, told, status=1):
-    same((words, *ran_program(words)), (words, status, b"", told.encode()))
+answered, refused, not_understood = asks()
 
 
 def on_terminal(words):
@@ -273,35 +243,34 @@ def lines_that_are_asked():
 
 
 def lines_that_are_explained():
-    for line, text, status in EXPLAINED:
-        answered(["explain", STANDARD, line], text, status)
-    for line, text, status in HELD_EXPLAINED:
-        answered(["explain", HELD, line], text, status)
+    for start, rows in ((STANDARD, EXPLAINED), (HELD, HELD_EXPLAINED)):
+        for line, text, status in rows:
+            answered(["explain", start, line], text, status)
 
 
 def lines_that_ask_nothing():
     for line, fault in BAD_LINES:
         for command in ("ask", "explain"):
-            refused([command, STANDARD, line], f"mls: line: bad {fault}\n")
-    refused(["ask", STANDARD, "a" * 20001], "mls: line: bad form\n")
+            refused([command, STANDARD, line], f"line: bad {fault}")
+    refused(["ask", STANDARD, "a" * 20001], "line: bad form")
 
 
 def words_that_name_nothing():
     for line, told in WRONG_WORDS:
         for command in ("ask", "explain"):
-            refused([command, STANDARD, line], f"mls: line: bad {told}\n")
+            refused([command, STANDARD, line], f"line: bad {told}")
     for word, told in (("memmo", " (memo?)"), ("memo ", " (memo?)"), ("pl\u00e4n", " (plans?)"), ("mo", ""), ("ann", ""), ("#01", ""), ("", ""),
                        (34 * "p", ""), ("plans" + 30 * "s", "")):
-        refused(["who", STANDARD, word], f"mls: {word}: bad name{told}\n")
+        refused(["who", STANDARD, word], f"{word}: bad name{told}")
     put("memo.journal", MEMO)
-    refused(["ask", "--journal", "memo.journal", STANDARD, "ann get-red plans"], "mls: line: bad form\n")
-    refused(["ask", "--journal", "memo.journal", STANDARD, "ann get-read plns"], "mls: line: bad name: plns (plans?)\n")
+    refused(["ask", "--journal", "memo.journal", STANDARD, "ann get-red plans"], "line: bad form")
+    refused(["ask", "--journal", "memo.journal", STANDARD, "ann get-read plns"], "line: bad name: plns (plans?)")
 
 
 def where_a_check_points():
     """On a terminal the line of a refused start is followed by the command that tells where its fault applies."""
     put("empty.json", b"")
-    refused(["check", "empty.json"], "mls: empty.json: start 1 Json\n")
+    refused(["check", "empty.json"], "empty.json: start 1 Json")
     for words, told in ((["check", "empty.json"], "mls: empty.json: start 1 Json\r\nmls lint empty.json tells where\r\n"),
                         (["check", "none.json"], "mls: none.json: file\r\n"), (["lattice", "empty.json"], "mls: empty.json: start 1 Json\r\n")):
         same((words, *on_terminal(words)), (words, 1, told))
@@ -310,18 +279,19 @@ def where_a_check_points():
 def subjects_who_may():
     for words, text, status in WHO:
         answered(["who", STANDARD, *words], text, status)
-    refused(["who", STANDARD, "nobody"], "mls: nobody: bad name\n")
-    refused(["who", STANDARD, "$x"], "mls: $x: bad name\n")
+    refused(["who", STANDARD, "nobody"], "nobody: bad name")
+    refused(["who", STANDARD, "$x"], "$x: bad name")
 
 
 def entries_that_are_explained():
     put("strange.journal", STRANGE)
-    for number, text in STRANGE_EXPLAINED:
-        answered(["explain", STANDARD, "--journal", "strange.journal", "--at", str(number)], text, 4)
     put("memo.journal", MEMO)
-    answered(["explain", STANDARD, "--journal", "memo.journal", "--at", "1"], EXPLAINED[0][1], 4)
-    refused(["explain", STANDARD, "--journal", "memo.journal", "--at", "3"], "mls: memo.journal: no entry 3\n")
-    refused(["explain", STANDARD, "--journal", "memo.journal", "--at", "4"], "mls: memo.journal: at most 3\n")
+    asked = lambda journal, number: ["explain", STANDARD, "--journal", journal, "--at", str(number)]
+    for number, text in STRANGE_EXPLAINED:
+        answered(asked("strange.journal", number), text, 4)
+    answered(asked("memo.journal", 1), EXPLAINED[0][1], 4)
+    refused(asked("memo.journal", 3), "memo.journal: no entry 3")
+    refused(asked("memo.journal", 4), "memo.journal: at most 3")
 
 
 def states_before_entries():
@@ -332,37 +302,32 @@ def states_before_entries():
 
 
 def faults_in_their_order():
-    put("memo.journal", MEMO)
-    put("torn.journal", MEMO[:-1])
-    put("forged.journal", MEMO.replace(b"no star", b"yes"))
-    put("empty.json", b"")
+    put_faulty(MEMO)
     line = "ann get-read"
-    asked = lambda start, journal, *more: ["ask", start, "--journal", journal, "--at", "9", *more, line]
-    refused(asked("no.json", "no.journal"), "mls: no.json: file\n")
-    refused(asked("empty.json", "no.journal"), "mls: no.journal: file\n")
-    refused(asked("empty.json", "torn.journal"), "mls: empty.json: start 1 Json\n")
-    refused(asked(STANDARD, "torn.journal"), "mls: torn.journal: line 3: entry 1 BadForm\n")
-    refused(asked(STANDARD, "forged.journal"), "mls: forged.journal: replay 2 Differs at 1 expected no star\n", 3)
-    refused(asked(STANDARD, "memo.journal"), "mls: memo.journal: at most 3\n")
-    refused(["ask", STANDARD, line], "mls: line: bad form\n")
+    asked = lambda start, journal: ["ask", start, "--journal", journal, "--at", "9", line]
+    refused(asked("no.json", "no.journal"), "no.json: file")
+    refused(asked("empty.json", "no.journal"), "no.journal: file")
+    refused(asked("empty.json", "torn.journal"), "empty.json: start 1 Json")
+    refused(asked(STANDARD, "torn.journal"), "torn.journal: line 3: entry 1 BadForm")
+    refused(asked(STANDARD, "forged.journal"), "forged.journal: replay 2 Differs at 1 expected no star", 3)
+    refused(asked(STANDARD, "opened.journal"), "opened.journal: at most 3")
+    refused(["ask", STANDARD, line], "line: bad form")
 
 
 def words_that_no_question_has():
-    for words in (["ask", STANDARD], ["ask", STANDARD, "--at", "0", "ann get-read plans"], ["explain", STANDARD], ["who", STANDARD],
-                  ["who", STANDARD, "memo", "see"], ["explain", STANDARD, "--journal", "j"], ["ask"]):
-        status, output, error = ran_program(words)
-        same((words, status, output, bool(error)), (words, 2, b"", True))
+    not_understood(["ask", STANDARD], ["ask", STANDARD, "--at", "0", "ann get-read plans"], ["explain", STANDARD], ["who", STANDARD],
+                   ["who", STANDARD, "memo", "see"], ["explain", STANDARD, "--journal", "j"], ["ask"])
 
 
 def listed_entries():
     put("strange.journal", STRANGE)
+    asked = lambda words: ["journal", *words, STANDARD, "strange.journal"]
     for words, text, status in LISTED:
-        answered(["journal", *words, STANDARD, "strange.journal"], text, status)
-    refused(["journal", "--subject", "zoe", STANDARD, "strange.journal"], "mls: zoe: bad name (bob?)\n")
-    refused(["journal", "--object", "file", STANDARD, "strange.journal"], "mls: file: bad name\n")
-    refused(["journal", "--by", "zoe", STANDARD, "strange.journal"], "mls: zoe: bad name (bob?)\n")
-    refused(["journal", "--object", "file", "--by", "yan", "--subject", "zoe", STANDARD, "strange.journal"], "mls: zoe: bad name (bob?)\n")
-    refused(["journal", "--object", "file", "--by", "yan", "--subject", "ann", STANDARD, "strange.journal"], "mls: yan: bad name (ann?)\n")
+        answered(asked(words), text, status)
+    for words, told in (("--subject zoe", "zoe: bad name (bob?)"), ("--object file", "file: bad name"), ("--by zoe", "zoe: bad name (bob?)"),
+                        ("--object file --by yan --subject zoe", "zoe: bad name (bob?)"),
+                        ("--object file --by yan --subject ann", "yan: bad name (ann?)")):
+        refused(asked(words.split()), told)
 
 
 def entries_about_a_subject():
@@ -372,32 +337,33 @@ def entries_about_a_subject():
 
 
 def words_that_begin_no_reply():
-    for words in NO_REPLIES:
-        refused(["journal", f"--reply={words}", "no.json", "no.journal"], f"mls: --reply {words}: begins no reply\n", 2)
-    refused(["journal", "--from", "7", "--to", "6", "no.json", "no.journal"], "mls: --from 7: above --to 6\n", 2)
-    refused(["journal", "--to", "0", "--from", str(2 ** 64 - 1), "no.json", "no.journal"], f"mls: --from {2 ** 64 - 1}: above --to 0\n", 2)
-    refused(["journal", "--from", "7", "--to", "6", "--reply", "denied", "no.json", "no.journal"], "mls: --reply denied: begins no reply\n", 2)
+    rows = [([f"--reply={words}"], f"--reply {words}: begins no reply") for words in NO_REPLIES]
+    most = 2 ** 64 - 1
+    rows += [(["--from", "7", "--to", "6"], "--from 7: above --to 6"), (["--to", "0", "--from", str(most)], f"--from {most}: above --to 0"),
+             (["--from", "7", "--to", "6", "--reply", "denied"], "--reply denied: begins no reply")]
+    for words, told in rows:
+        refused(["journal", *words, "no.json", "no.journal"], told, 2)
 
 
 def states_of_a_journal():
     put("memo.journal", MEMO)
     for words, text, status in STATES:
         answered(["state", *words, STANDARD, "memo.journal"], text, status)
-    refused(["state", "--at", "4", STANDARD, "memo.journal"], "mls: memo.journal: at most 3\n")
+    refused(["state", "--at", "4", STANDARD, "memo.journal"], "memo.journal: at most 3")
 
 
 def powers_of_subjects():
     put("root.journal", b"0 0 2 get-write 0 yes\n")
     for words, text, status in POWERS:
         answered(["powers", *words], text, status)
-    refused(["powers", STANDARD, "carl"], "mls: carl: bad name\n")
-    refused(["powers", "--journal", "root.journal", "--at", "2", STANDARD], "mls: root.journal: at most 1\n")
+    refused(["powers", STANDARD, "carl"], "carl: bad name")
+    refused(["powers", "--journal", "root.journal", "--at", "2", STANDARD], "root.journal: at most 1")
 
 
 def drawing_of_the_standard_start():
-    answered(["lattice", STANDARD], LATTICE, 0)
+    answered(["lattice", STANDARD], LATTICE)
     put("empty.json", b"")
-    refused(["lattice", "empty.json"], "mls: empty.json: start 1 Json\n")
+    refused(["lattice", "empty.json"], "empty.json: start 1 Json")
 
 
 def suspicious_examples():
@@ -429,9 +395,8 @@ def one_repeat_and_nothing_else():
         answered(["lint", "once.json"], text, status)
 
 
-CHECKS = [
-    lines_that_are_asked, lines_that_are_explained, lines_that_ask_nothing, words_that_name_nothing, where_a_check_points, subjects_who_may,
-    entries_that_are_explained, states_before_entries, faults_in_their_order, words_that_no_question_has, listed_entries, states_of_a_journal,
-    suspicious_examples, powers_of_subjects, drawing_of_the_standard_start, entries_about_a_subject, words_that_begin_no_reply,
-    members_that_are_repeated, one_repeat_and_nothing_else,
-]
+CHECKS = [lines_that_are_asked, lines_that_are_explained, lines_that_ask_nothing, words_that_name_nothing,
+          where_a_check_points, subjects_who_may, entries_that_are_explained, states_before_entries,
+          faults_in_their_order, words_that_no_question_has, listed_entries, states_of_a_journal, suspicious_examples,
+          powers_of_subjects, drawing_of_the_standard_start, entries_about_a_subject, words_that_begin_no_reply,
+          members_that_are_repeated, one_repeat_and_nothing_else]

@@ -36,13 +36,9 @@ def entry_of(line):
 def listed(state, entries, subject=None, by=None, object=None, session=None, reply=None, first=0, last=None):
     """The entries that meet all that is asked for."""
     words = reply.split() if reply else []
-    return [
-        it for it in entries
-        if (subject is None or subject in it.subjects()) and (by is None or it.subject == by)
-        and (object is None or object in it.objects())
-        and (session is None or it.session == session) and it.reply.split()[: len(words)] == words
-        and it.number >= first and (last is None or it.number <= last)
-    ]
+    return [it for it in entries if (subject is None or subject in it.subjects()) and (by is None or it.subject == by)
+             and (object is None or object in it.objects()) and (session is None or it.session == session)
+             and it.reply.split()[: len(words)] == words and it.number >= first and (last is None or it.number <= last)]
 
 
 def entry_line(state, entry):

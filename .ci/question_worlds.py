@@ -44,16 +44,13 @@ def start(rnd):
         ":" + ",".join(names["categories"][it] for it in sorted(label[1])) if label[1] else "")
     data["subjects"] = subject_rows(rnd, text(data["security"]), text(data["integrity"]))
     data["objects"] = object_rows(rnd, text(data["security"]), text(data["integrity"]))
-    data["matrix"] = [
-        {"subject": s["name"], "object": o["name"], "modes": [it for it in MODES if rnd.random() < 0.6]}
-        for s in data["subjects"] for o in data["objects"] if o["parent"] is None or rnd.random() < 0.8
-    ]
+    data["matrix"] = [{"subject": s["name"], "object": o["name"], "modes": [it for it in MODES if rnd.random() < 0.6]}
+                       for s in data["subjects"] for o in data["objects"] if o["parent"] is None or rnd.random() < 0.8]
     data["profile"] = rnd.choice((1, 2))
     opening = State(json.dumps(data))
-    data["accesses"] = [
-        {"subject": opening.subject(s), "object": opening.object(o), "modes": [MODES[x]]}
-        for s, o, x in sorted(opening.matrix) if rnd.random() < 0.2 and opening.decide(s, (f"get-{MODES[x]}", x, o)) == "yes"
-    ]
+    data["accesses"] = [{"subject": opening.subject(s), "object": opening.object(o), "modes": [MODES[x]]} for s, o,
+                        x in sorted(opening.matrix) if rnd.random() < 0.2 and opening.decide(s, (f"get-{MODES[x]}", x,
+                         o)) == "yes"]
     return json.dumps(data, indent=1)
 
 
@@ -156,13 +153,9 @@ def lines_of(entries):
 
 def some_filter(rnd, state, entries):
     """Words by which `mls journal` is asked for some of these entries, and what they ask for, as question_texts.listed takes it."""
-    filters = {
-        "subject": (entries[0].subject, f"#{entries[0].subject}"),
-        "by": (entries[-1].subject, f"#{entries[-1].subject}"),
-        "object": (0, state.objects[0]),
-        "session": (1, "1"),
-        "reply": (rnd.choice(("no", "yes", "no star", "created", "undefined")),) * 2,
-    }
+    filters = {"subject": (entries[0].subject, f"#{entries[0].subject}"),
+               "by": (entries[-1].subject, f"#{entries[-1].subject}"), "object": (0, state.objects[0]),
+               "session": (1, "1"), "reply": (rnd.choice(("no", "yes", "no star", "created", "undefined")), ) * 2}
     first, last = sorted(rnd.sample(range(len(entries)), 2))
     asked = {name: filters[name] for name in filters if rnd.random() < 0.4}
     words = [it for name, (_, word) in asked.items() for it in (f"--{name}", word)] + ["--from", str(first), "--to", str(last)]

@@ -1,34 +1,15 @@
 """Two journals over the standard start, worked out by hand, and what a replay says of them where they are changed."""
 
 # Bob climbs to read memo, and may climb down once he has released it.
-CLIMB = [
-    "0 0 1 get-read 2 no star",
-    "1 0 1 level 1 yes",
-    "2 0 1 get-read 2 yes",
-    "3 0 1 level 0 no star",
-    "4 0 1 release read 2 yes",
-    "5 0 1 level 0 yes",
-]
+CLIMB = ["0 0 1 get-read 2 no star", "1 0 1 level 1 yes", "2 0 1 get-read 2 yes", "3 0 1 level 0 no star",
+         "4 0 1 release read 2 yes", "5 0 1 level 0 yes"]
 
 # Objects are made below one another and deleted with the uppermost, and their numbers aren't given again.
-FAMILY = [
-    "0 0 2 get-write 0 yes",
-    "1 0 2 create 0 0 1 created 4",
-    "2 0 2 give write 2 4 yes",
-    "3 0 2 get-write 4 yes",
-    "4 0 2 create 4 1 1 created 5",
-    "5 0 2 give write 2 5 yes",
-    "6 0 2 get-write 5 yes",
-    "7 0 2 create 5 2:0 1 created 6",
-    "8 0 2 give read 0 6 yes",
-    "9 0 0 get-read 6 yes",
-    "10 0 2 delete 4 yes",
-    "11 0 0 get-read 6 undefined",
-    "12 0 0 release read 5 undefined",
-    "13 0 2 delete 0 no root",
-    "14 0 2 create 0 0 1 created 7",
-    "15 0 0 delete 1 no authority",
-]
+FAMILY = ["0 0 2 get-write 0 yes", "1 0 2 create 0 0 1 created 4", "2 0 2 give write 2 4 yes", "3 0 2 get-write 4 yes",
+          "4 0 2 create 4 1 1 created 5", "5 0 2 give write 2 5 yes", "6 0 2 get-write 5 yes",
+          "7 0 2 create 5 2:0 1 created 6", "8 0 2 give read 0 6 yes", "9 0 0 get-read 6 yes", "10 0 2 delete 4 yes",
+          "11 0 0 get-read 6 undefined", "12 0 0 release read 5 undefined", "13 0 2 delete 0 no root",
+          "14 0 2 create 0 0 1 created 7", "15 0 0 delete 1 no authority"]
 
 # A journal, entries that stand in it in place of its own (each begins with its place), and what the replay says.
 FORGED = [
@@ -57,35 +38,30 @@ FORGED = [
 
 # Lines that are a journal, and what the replay says.
 MISPLACED = [
-    ([CLIMB[0], CLIMB[2], CLIMB[3], CLIMB[4], CLIMB[5]], "1 Number at 1"),
-    ([CLIMB[0], CLIMB[0]], "1 Number at 1"),
-    ([CLIMB[0], CLIMB[1], CLIMB[3], CLIMB[2]], "1 Number at 2"),
-    ([CLIMB[1], CLIMB[2]], "1 Number at 0"),
+    ([CLIMB[0], CLIMB[2], CLIMB[3], CLIMB[4], CLIMB[5]], "1 Number at 1"), ([CLIMB[0], CLIMB[0]], "1 Number at 1"),
+    ([CLIMB[0], CLIMB[1], CLIMB[3], CLIMB[2]], "1 Number at 2"), ([CLIMB[1], CLIMB[2]], "1 Number at 0"),
     ([*CLIMB[:5], "6 0 1 level 0 yes"], "1 Number at 5"),
     # several at once: the first is told, and of one entry its number
     ([*CLIMB[:3], "3 0 1 level 0 yes", "3 0 1 release read 2 yes", CLIMB[5]], "2 Differs at 3 expected no star"),
-    ([*CLIMB[:2], "1 0 1 get-read 2 yes", "3 0 1 level 0 yes", "3 0 1 release read 2 yes", CLIMB[5]],
-     "1 Number at 2"),
+    ([*CLIMB[:2], "1 0 1 get-read 2 yes", "3 0 1 level 0 yes", "3 0 1 release read 2 yes", CLIMB[5]], "1 Number at 2"),
     ([*CLIMB[:2], "1 0 1 get-read 2 undefined", "3 0 1 level 0 yes", "3 0 1 release read 2 yes", CLIMB[5]],
-     "1 Number at 2"),
+      "1 Number at 2"),
     (["0 0 1 get-read 2 yes", CLIMB[1], "1 0 1 get-read 2 undefined", "3 0 1 level 0 yes", "3 0 1 release read 2 yes",
       CLIMB[5]], "2 Differs at 0 expected no star"),
 ]
 
 # A journal, and entries that stand in it in place of its own, to which the rules reply in the same way.
 ANSWERED_ALIKE = [
-    (CLIMB, ["5 0 1 level 1 yes"]),
-    (CLIMB, ["5 0 1 release write 1 yes"]),
+    (CLIMB, ["5 0 1 level 1 yes"]), (CLIMB, ["5 0 1 release write 1 yes"]),
     # what was made below the object is deleted, and not the object
     (FAMILY, ["10 0 2 delete 5 yes"]),
     # sessions of large numbers
     (CLIMB, ["0 4294967295 1 get-read 2 no star", "1 65536 1 level 1 yes", "3 64 1 level 0 no star",
-             "5 4294967294 1 level 0 yes"]),
+     "5 4294967294 1 level 0 yes"]),
     # an entry that no script asks for, since no level of the start has that number
     (CLIMB, ["5 0 0 level 9 undefined"]),
     # nor any category beyond the first two, up to the last of 256
-    (CLIMB, ["5 0 0 level 0:63,64,255 undefined"]),
-    (CLIMB, ["5 0 0 level 0:200 undefined"]),
+    (CLIMB, ["5 0 0 level 0:63,64,255 undefined"]), (CLIMB, ["5 0 0 level 0:200 undefined"]),
 ]
 
 # What stands in an entry in place of its own: replies of each kind, with each reason; and subjects that there are, the

@@ -7,11 +7,11 @@ import marks
 import question_texts as texts
 import spans
 import usages
+from asking import HELD, OPENED, STANDARD, asks, put_faulty, put_marks
 from outside import EXAMPLES, examples, in_its_folder, put, ran_program, same
 from pages import (
     bar_of, denial_lines, drawn, lattice_lines, more, page_of, power_lines, section, span_lines, summary_counts, tables, usage_lines,
 )
-from span_rows import HELD, OPENED, STANDARD
 from time_rows import marks_by_chance
 
 SHOWN = 2_000
@@ -26,23 +26,19 @@ def said(*words):
 
 def by_commands(start, journal, *with_marks):
     """What the commands print that a page names."""
-    return {
-        "summary": said("journal", "--summary", start, journal),
-        "denials": said("journal", "--explain", "--reply", "no", *with_marks, start, journal),
-        "powers": said("powers", "--journal", journal, start),
-        "held": said("held", start, journal),
-        "usage": said("usage", start, journal),
-    }
+    return {"summary": said("journal", "--summary", start, journal),
+            "denials": said("journal", "--explain", "--reply", "no", *with_marks, start, journal),
+            "powers": said("powers", "--journal", journal, start), "held": said("held", start, journal),
+            "usage": said("usage", start, journal)}
 
 
 def by_policy(world):
     """The same as the policy in Python has it, from all states one by one."""
     states = [world.before(number) for number in range(len(world.entries) + 1)]
     denied = [it for it in world.entries if it.reply.startswith("no ")]
-    told = {
-        "summary": texts.summary(world.opening, world.entries), "denials": texts.explained_journal(world.before, world.opening, denied),
-        "powers": texts.powers(world.last), "held": spans.listed(states, world.entries), "usage": usages.listed(states, world.entries),
-    }
+    told = {"summary": texts.summary(world.opening, world.entries),
+            "denials": texts.explained_journal(world.before, world.opening, denied), "powers": texts.powers(world.last),
+            "held": spans.listed(states, world.entries), "usage": usages.listed(states, world.entries)}
     return {key: text for key, (text, status) in told.items()}
 
 
@@ -52,8 +48,7 @@ def reported(*words):
     return page_of(output)
 
 
-def refused(words, told, status=1):
-    same((words, *ran_program(["report", *words])), (words, status, b"", told.encode()))
+_, refused, not_understood = asks("report")
 
 
 def first(lines):
@@ -152,17 +147,15 @@ def a_page_by_hand():
     same(tables(section(page, "Verified")), {"When this page was written": [["Entries that were replayed", "5"]]})
     part = section(page, "Entries")
     same(part.all("p")[1].text(), "5 entries: 4 granted, 1 denied, 0 undefined.")
-    same(tables(part), {
-        "Denied, by reason": [["star", "1"]],
-        "By the subject that asked": [["ann", "3", "0", "0"], ["bob", "0", "1", "0"], ["sec", "1", "0", "0"]],
-    })
+    same(tables(part),
+         {"Denied, by reason": [["star", "1"]], "By the subject that asked": [["ann", "3", "0", "0"], ["bob", "0", "1",
+          "0"], ["sec", "1", "0", "0"]], })
     bars = [bar_of(it) for it in part.all("svg")]
     same(bars, [(0, 1, 1), (0, 3, 3), None, None, None, (0, 1, 3), None, (0, 1, 3), None, None])
-    same(denial_lines(page), [
-        "1 session 0 bob get-read memo: no star", "  discretionary holds: bob is permitted read of memo",
-        "  simple holds: maximum C dominates C of memo", "  star fails: current U does not dominate C of memo",
-        "  integrity holds: lo of memo dominates lo of bob", "  remedy: bob level C",
-    ])
+    same(denial_lines(page),
+         ["1 session 0 bob get-read memo: no star", "  discretionary holds: bob is permitted read of memo",
+          "  simple holds: maximum C dominates C of memo", "  star fails: current U does not dominate C of memo",
+          "  integrity holds: lo of memo dominates lo of bob", "  remedy: bob level C", ])
     same(span_lines(page), (
         ["ann read plans: start to 2, release", "ann read plans: 3 on", "sec write root: 4 on"], [(0, 3, 6), (4, 2, 6), (5, 1, 6)]))
     same(lattice_lines(page), (
@@ -192,10 +185,9 @@ def pages_with_marks():
     made = marks.made(OPENED, [1, 4], [TIME, TIME])
     put("held.marks", marks.text_of(made))
     page = page_agrees(HELD, "held.journal", "--marks", "held.marks")
-    same(tables(section(page, "Verified"))["When this page was written"], [
-        ["Entries that were replayed", "5"], ["Digest of the last mark", made[-1].digest.hex()],
-        ["Times of the marks", f"{TIME.decode()} to {TIME.decode()}"], ["Entries behind the last mark", "1"],
-    ])
+    same(tables(section(page, "Verified"))["When this page was written"],
+         [["Entries that were replayed", "5"], ["Digest of the last mark", made[-1].digest.hex()],
+          ["Times of the marks", f"{TIME.decode()} to {TIME.decode()}"], ["Entries behind the last mark", "1"], ])
     same(denial_lines(page)[0], f"[{TIME.decode()}] 1 session 0 bob get-read memo: no star")
     put("none.marks", b"")
     page_agrees(HELD, "held.journal", "--marks", "none.marks")
@@ -232,25 +224,19 @@ def pages_of_many_lines():
 
 
 def faults_of_pages_in_their_order():
-    put("held.journal", OPENED)
-    put("torn.journal", OPENED[:-1])
-    put("forged.journal", OPENED.replace(b"no star", b"yes"))
-    put("empty.json", b"")
-    put("good.marks", marks.text_of(marks.made(OPENED, [5], [TIME])))
-    put("torn.marks", marks.text_of(marks.made(OPENED, [5], [TIME]))[:-1])
-    put("other.marks", marks.text_of(marks.made(OPENED.replace(b"star", b"root"), [5], [TIME])))
-    refused(["no.json", "no.journal"], "mls: no.json: file\n")
-    refused(["--marks", "no.marks", "empty.json", "no.journal"], "mls: no.marks: file\n")
-    refused(["--marks", "torn.marks", "empty.json", "no.journal"], "mls: no.journal: file\n")
-    refused(["--marks", "other.marks", "empty.json", "held.journal"], "mls: other.marks: differs at entry 4\n", 3)
-    refused(["empty.json", "torn.journal"], "mls: empty.json: start 1 Json\n")
-    refused([HELD, "torn.journal"], "mls: torn.journal: line 5: entry 1 BadForm\n")
-    refused([HELD, "forged.journal"], "mls: forged.journal: replay 2 Differs at 1 expected no star\n", 3)
-    status, output, error = ran_program(["report", "--marks", "torn.marks", HELD, "held.journal"])
-    same((status, output, error), (1, b"", b"mls: torn.marks: torn before entry 0\n"))
-    for words in ([HELD], [], [HELD, "held.journal", "more"], ["--at", "1", HELD, "held.journal"]):
-        status, output, error = ran_program(["report", *words])
-        same((words, status, output, bool(error)), (words, 2, b"", True))
+    put_faulty()
+    put_marks("good.marks", OPENED, [5], [TIME])
+    put("torn.marks", open("good.marks", "rb").read()[:-1])
+    put_marks("other.marks", OPENED.replace(b"star", b"root"), [5], [TIME])
+    refused(["no.json", "no.journal"], "no.json: file")
+    refused(["--marks", "no.marks", "empty.json", "no.journal"], "no.marks: file")
+    refused(["--marks", "torn.marks", "empty.json", "no.journal"], "no.journal: file")
+    refused(["--marks", "other.marks", "empty.json", "opened.journal"], "other.marks: differs at entry 4", 3)
+    refused(["empty.json", "torn.journal"], "empty.json: start 1 Json")
+    refused([HELD, "torn.journal"], "torn.journal: line 5: entry 1 BadForm")
+    refused([HELD, "forged.journal"], "forged.journal: replay 2 Differs at 1 expected no star", 3)
+    refused(["--marks", "torn.marks", HELD, "opened.journal"], "torn.marks: torn before entry 0")
+    not_understood([HELD], [], [HELD, "opened.journal", "more"], ["--at", "1", HELD, "opened.journal"])
 
 
 def pages_by_chance(world):
@@ -260,8 +246,7 @@ def pages_by_chance(world):
     page_agrees(world.start, world.journal, "--marks", "chance.marks")
 
 
-CHECKS = [*map(in_its_folder, [
-    a_page_by_hand, pages_of_the_examples, pages_with_marks, pages_of_hostile_files, pages_of_many_lines, faults_of_pages_in_their_order,
-])]
+CHECKS = [*map(in_its_folder, [a_page_by_hand, pages_of_the_examples, pages_with_marks, pages_of_hostile_files,
+           pages_of_many_lines, faults_of_pages_in_their_order, ])]
 # (it is asked of random starts and journals)
 OF_WORLDS = [pages_by_chance]

@@ -10,10 +10,10 @@ import question_worlds as worlds
 import snapshot_rows as snapshots
 import spans
 import usages
-from outside import EXAMPLES, TOP, in_its_folder, put, ran_program, same
+from asking import REUSED, STANDARD, asks, documents, shown_below
+from outside import in_its_folder, put, ran_program, same
 from policy import MODES, State
 
-STANDARD, REUSED = (f"{EXAMPLES}/{it}.json" for it in ("standard", "reused"))
 # The journal of the example of `state --start` in FORMATS.md: sec makes object 4, and gives bob read on it.
 JOURNAL = b"0 0 2 get-write 0 yes\n1 0 2 create 0 2:1 1 created 4\n2 0 2 give read 1 4 yes\n"
 NEXT = b"0 0 2 create 0 0 0 created 5\n1 0 2 give read 1 5 yes\n2 0 1 get-read 4 no simple\n3 0 1 get-read 5 yes\n"
@@ -43,12 +43,11 @@ LISTED = [
     (["held", "--object", "#4"], "", 4),
 ]
 # Maps that aren't that of the start, and one that is another start's.
-UNFIT = [
-    b"", MAP[:-1], MAP + b"\n", MAP + b"5 5 #5\n", MAP[:-5], MAP.replace(b"2 2 memo", b"2 2 mem"), MAP.replace(b"0 0 root\n1 1 plans\n", b"1 1 plans\n0 0 root\n"),
-    MAP.replace(b"4 4 #4", b"4 4 #5"), MAP.replace(b"4 4 #4", b"4 5 #5"), MAP.replace(b"4 4 #4", b"4 4 o5"), MAP.replace(b"3 3 tool", b"3 3  tool"),
-    MAP.replace(b"3 3 tool", b"3 03 tool"), MAP.replace(b"3 3 tool", b"3 tool"), MAP.replace(b"1 1", b"1 -1"), MAP.replace(b"\n", b"\r\n"),
-    MAP.replace(b"plans", b"pl\xffns"), b"\x00" + MAP,
-]
+UNFIT = [b"", MAP[:-1], MAP + b"\n", MAP + b"5 5 #5\n", MAP[:-5], MAP.replace(b"2 2 memo", b"2 2 mem"),
+         MAP.replace(b"0 0 root\n1 1 plans\n", b"1 1 plans\n0 0 root\n"), MAP.replace(b"4 4 #4", b"4 4 #5"),
+         MAP.replace(b"4 4 #4", b"4 5 #5"), MAP.replace(b"4 4 #4", b"4 4 o5"), MAP.replace(b"3 3 tool", b"3 3  tool"),
+         MAP.replace(b"3 3 tool", b"3 03 tool"), MAP.replace(b"3 3 tool", b"3 tool"), MAP.replace(b"1 1", b"1 -1"),
+         MAP.replace(b"\n", b"\r\n"), MAP.replace(b"plans", b"pl\xffns"), b"\x00" + MAP]
 
 
 def rotated():
@@ -63,15 +62,14 @@ def rotated():
     return text.decode()
 
 
+answered, refused, not_understood = asks()
+
+
 def asked(words, text, status):
     words = [words[0], "--after", "reused.map", *words[1:], "next.json", "next.journal"]
-    same((words, *ran_program(words)), (words, status, text.encode(), b""))
+    answered(words, text, status)
     if "--json" in words:
         json_rows.rows_of(words[0], text.encode())
-
-
-def refused(words, told, status=1):
-    same((words, *ran_program(words)), (words, status, b"", told.encode()))
 
 
 def content(name):
@@ -88,15 +86,11 @@ def a_map_of_a_state():
 def maps_in_the_documents():
     """The examples of FORMATS.md, as they stand there."""
     rotated()
-    with open(f"{TOP}/docs/FORMATS.md", encoding="ascii") as page:
-        text = page.read()
-    same(text.count("\n    $ cat reused.map\n" + "".join(f"    {it}\n" for it in MAP.decode().splitlines())), 1)
+    same(documents().count("\n    $ cat reused.map\n" + "".join(f"    {it}\n" for it in MAP.decode().splitlines())), 1)
     put("next.journal", NEXT[: NEXT.index(b"3 0")])
-    _, *found = text.split(f"\n    $ {EXAMPLE} ")
-    same(len(found), 2)
-    for words, it in zip((["journal"], ["journal", "--object", "#4"]), found):
-        _, *lines = it.split("\n\n")[0].rstrip("\n").split("\n")
-        asked(words, "".join(f"{line[4:]}\n" for line in lines), 0)
+    shown = [text for _, text in shown_below(f"{EXAMPLE} ")]
+    for words, text in zip((["journal"], ["journal", "--object", "#4"]), shown, strict=True):
+        asked(words, text, 0)
 
 
 def files_that_are_there():
@@ -104,12 +98,12 @@ def files_that_are_there():
     put("reused.journal", JOURNAL)
     put("there", b"kept\n")
     for path in ("there", ".", "none/map", ""):
-        refused(["state", "--start", f"--map={path}", REUSED, "reused.journal"], f"mls: {path}: file\n")
+        refused(["state", "--start", f"--map={path}", REUSED, "reused.journal"], f"{path}: file")
     same(content("there"), b"kept\n")
     os.symlink("nowhere", "link")
-    refused(["state", "--start", "--map", "link", REUSED, "reused.journal"], "mls: link: file\n")
+    refused(["state", "--start", "--map", "link", REUSED, "reused.journal"], "link: file")
     put("torn.journal", JOURNAL[:-1])
-    refused(["state", "--start", "--map", "unmade", REUSED, "torn.journal"], "mls: torn.journal: line 3: entry 1 BadForm\n")
+    refused(["state", "--start", "--map", "unmade", REUSED, "torn.journal"], "torn.journal: line 3: entry 1 BadForm")
     same((os.path.exists("unmade"), os.path.exists("nowhere")), (False, False))
 
 
@@ -124,34 +118,32 @@ def what_is_told_after():
 
 def objects_that_no_map_has():
     rotated()
+    asked = lambda command, *words: [command, "--after", "reused.map", *words, "next.json", "next.journal"]
     for command in ("journal", "held"):
         for word in ("o4", "#5", "#0", "4", "+#4", "+#05", "+#4096", "roots", ""):
-            refused([command, "--after", "reused.map", f"--object={word}", "next.json", "next.journal"], f"mls: {word}: bad name\n")
-        refused([command, "--after", "reused.map", "--object", "x", "--subject", "zoe", "next.json", "next.journal"], "mls: zoe: bad name (bob?)\n")
-    refused(["journal", "--after", "reused.map", "--object", "x", "--by", "zoe", "next.json", "next.journal"], "mls: zoe: bad name (bob?)\n")
+            refused(asked(command, f"--object={word}"), f"{word}: bad name")
+        refused(asked(command, "--object", "x", "--subject", "zoe"), "zoe: bad name (bob?)")
+    refused(asked("journal", "--object", "x", "--by", "zoe"), "zoe: bad name (bob?)")
 
 
 def maps_that_do_not_fit():
     rotated()
     put("torn.journal", NEXT[:-1])
     put("empty.json", b"")
-    for map_text in UNFIT:
-        put("other.map", map_text)
-        for command in ("journal", "held", "usage"):
-            refused([command, "--after", "other.map", "next.json", "torn.journal"], "mls: other.map: map\n")
     for command in ("journal", "held", "usage"):
-        files = [command, "--after", "other.map"]
-        refused([*files, "empty.json", "torn.journal"], "mls: empty.json: start 1 Json\n")
-        refused([command, "--after", "none.map", "empty.json", "torn.journal"], "mls: none.map: file\n")
-        refused([command, "--after", "none.map", "next.json", "none.journal"], "mls: none.journal: file\n")
-        refused([command, "--after", "reused.map", "next.json", "torn.journal"], "mls: torn.journal: line 4: entry 1 BadForm\n")
-    refused(["held", "--after", "reused.map", "--at", "9", "next.json", "next.journal"], "mls: next.journal: at most 4\n")
+        for text in UNFIT:
+            put("other.map", text)
+            refused([command, "--after", "other.map", "next.json", "torn.journal"], "other.map: map")
+        refused([command, "--after", "other.map", "empty.json", "torn.journal"], "empty.json: start 1 Json")
+        refused([command, "--after", "none.map", "empty.json", "torn.journal"], "none.map: file")
+        refused([command, "--after", "none.map", "next.json", "none.journal"], "none.journal: file")
+        refused([command, "--after", "reused.map", "next.json", "torn.journal"], "torn.journal: line 4: entry 1 BadForm")
+    refused(["held", "--after", "reused.map", "--at", "9", "next.json", "next.journal"], "next.journal: at most 4")
 
 
 def words_that_have_no_map():
-    for words in (["state", "--map", "m", STANDARD, "j"], ["who", "--after", "m", STANDARD, "memo"], ["state", "--start", "--after", "m", STANDARD, "j"]):
-        status, output, error = ran_program(words)
-        same((words, status, output, bool(error)), (words, 2, b"", True))
+    not_understood(["state", "--map", "m", STANDARD, "j"], ["who", "--after", "m", STANDARD, "memo"],
+                   ["state", "--start", "--after", "m", STANDARD, "j"])
 
 
 def rotation_by_chance(world):
@@ -217,14 +209,12 @@ def names_of_all_numbers():
     known = content("full.map")
     same(known.splitlines()[-1], b"4095 4095 #4095")
     full = ["journal", "--after", "full.map", "next.json", "next.journal"]
-    same(ran_program(full), (0, b"0 session 0 sec give read bob #4095: yes\n", b""))
+    answered(full, "0 session 0 sec give read bob #4095: yes\n")
     put("full.map", known.replace(b"4095 4095 #4095", b"4095 4096 #4096"))
-    refused(full, "mls: full.map: map\n")
+    refused(full, "full.map: map")
 
 
-CHECKS = [*map(in_its_folder, [
-    a_map_of_a_state, names_of_all_numbers, maps_in_the_documents, files_that_are_there, what_is_told_after, objects_that_no_map_has, maps_that_do_not_fit,
-    words_that_have_no_map,
-])]
+CHECKS = [*map(in_its_folder, [a_map_of_a_state, names_of_all_numbers, maps_in_the_documents, files_that_are_there,
+           what_is_told_after, objects_that_no_map_has, maps_that_do_not_fit, words_that_have_no_map, ])]
 # (it is asked of random starts and journals)
 OF_WORLDS = [rotation_by_chance]

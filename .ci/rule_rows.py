@@ -168,10 +168,7 @@ JOURNAL = """\
 
 # A start of one untrusted subject, which may write the root. Both are at the upper of two levels, in security and in
 # integrity.
-ONE = {
-    "security": {"levels": ["L", "H"], "categories": []},
-    "integrity": {"levels": ["lo", "hi"], "categories": []},
-    "subjects": [{"name": "one", "maximum": "H", "current": "H", "integrity": "hi", "trusted": False}],
-    "objects": [{"name": "root", "parent": None, "security": "H", "integrity": "hi"}],
-    "matrix": [{"subject": "one", "object": "root", "modes": ["write"]}],
-}
+ONE = {"security": {"levels": ["L", "H"], "categories": []}, "integrity": {"levels": ["lo", "hi"], "categories": []},
+       "subjects": [{"name": "one", "maximum": "H", "current": "H", "integrity": "hi", "trusted": False}],
+       "objects": [{"name": "root", "parent": None, "security": "H", "integrity": "hi"}],
+       "matrix": [{"subject": "one", "object": "root", "modes": ["write"]}]}

@@ -181,13 +181,7 @@ def run_beside_a_run():
     same(run_of("beside"), (0, CLIMB_OUTPUT, b""))
 
 
-CHECKS = [
-    journal_of_a_service_that_runs,
-    files_of_the_run_itself,
-    journal_that_another_has_locked,
-    refused_run_leaves_its_journal,
-    journal_that_is_made_anew,
-    mode_of_a_journal_that_is_made,
-    journal_that_is_no_regular_file,
-]
+CHECKS = [journal_of_a_service_that_runs, files_of_the_run_itself, journal_that_another_has_locked,
+          refused_run_leaves_its_journal, journal_that_is_made_anew, mode_of_a_journal_that_is_made,
+          journal_that_is_no_regular_file]
 OVER_THE_SHIM = [calls_on_the_file_of_a_journal, run_beside_a_run]

@@ -18,11 +18,10 @@ def about_a_state(journal, start=STANDARD, at=None, line=LINE, name="plans", sub
     """The words of each question about one state."""
     before = [] if at is None else ["--at", str(at)]
     seen = ["--journal", journal, *before, start]
-    return [
-        ["ask", *seen, line], ["ask", *seen, "ann check read plans"], ["explain", *seen, line], ["who", *seen, name], ["who", *seen, name, "read"],
-        ["powers", *seen], ["powers", *seen, subject], ["state", *before, start, journal], ["state", "--start", *before, start, journal],
-        *([] if at is None else [["explain", *seen]]),
-    ]
+    return [["ask", *seen, line], ["ask", *seen, "ann check read plans"], ["explain", *seen, line],
+            ["who", *seen, name], ["who", *seen, name, "read"], ["powers", *seen], ["powers", *seen, subject],
+            ["state", *before, start, journal], ["state", "--start", *before, start, journal],
+            *([] if at is None else [["explain", *seen]])]
 
 
 def said(words, journal, whole):
@@ -318,17 +317,6 @@ def service_beside_the_readers():
     is_alike(["replay", STANDARD, "s"], "s", "whole")
 
 
-CHECKS = [*map(in_its_folder, [
-    each_question_at_each_cut,
-    each_state,
-    objects_that_were_made,
-    names_of_another_start,
-    faults_of_questions,
-    state_that_was_forged,
-    segment_that_is_damaged,
-    replay_of_segments,
-    files_in_an_archive,
-    files_that_a_crash_left,
-    link_to_the_journal,
-    service_beside_the_readers,
-])]
+CHECKS = [*map(in_its_folder, [each_question_at_each_cut, each_state, objects_that_were_made, names_of_another_start,
+           faults_of_questions, state_that_was_forged, segment_that_is_damaged, replay_of_segments, files_in_an_archive,
+           files_that_a_crash_left, link_to_the_journal, service_beside_the_readers, ])]

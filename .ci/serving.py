@@ -21,18 +21,14 @@ STANDARD = f"{EXAMPLES}/standard.json"
 # A line over the standard start whose answer doesn't depend on what was asked before, with that answer, and with what its
 # entry has after the number of its session; None where it has no entry. `session` is that number, where the line tells it.
 Line = collections.namedtuple("Line", "asked answer entry session", defaults=[None])
-LINES = [
-    Line(b"ann get-read plans\n", b"yes\n", b"0 get-read 1 yes"),
-    Line(b"ann release read plans\n", b"yes\n", b"0 release read 1 yes"),
-    Line(b"bob get-read memo\n", b"no star\n", b"1 get-read 2 no star"),
-    Line(b"ann get-append plans\n", b"no discretionary\n", b"0 get-append 1 no discretionary"),
-    Line(b"sec get-write root\n", b"yes\n", b"2 get-write 0 yes"),
-    Line(b"#300 get-read #3\n", b"undefined\n", b"300 get-read 3 undefined"),
-    Line(b"bob check append plans\n", b"not held\n", None),
-    Line(b"ann frob plans\n", b"bad form\n", None),
-    Line(b"zoe get-read plans\n", b"bad name\n", None),
-    Line(b"; a note\n", b"", None),
-]
+LINES = [Line(b"ann get-read plans\n", b"yes\n", b"0 get-read 1 yes"),
+         Line(b"ann release read plans\n", b"yes\n", b"0 release read 1 yes"),
+         Line(b"bob get-read memo\n", b"no star\n", b"1 get-read 2 no star"),
+         Line(b"ann get-append plans\n", b"no discretionary\n", b"0 get-append 1 no discretionary"),
+         Line(b"sec get-write root\n", b"yes\n", b"2 get-write 0 yes"),
+         Line(b"#300 get-read #3\n", b"undefined\n", b"300 get-read 3 undefined"),
+         Line(b"bob check append plans\n", b"not held\n", None), Line(b"ann frob plans\n", b"bad form\n", None),
+         Line(b"zoe get-read plans\n", b"bad name\n", None), Line(b"; a note\n", b"", None)]
 # (those that have an entry)
 REQUESTS = [line for line in LINES if line.entry]
 

@@ -1,9 +1,10 @@
 """What `mls state --start` prints: texts that were worked out by hand from docs/POLICY.md and docs/FORMATS.md, and the start file of any state
 in Python, from docs/FORMATS.md over the policy of policy.py."""
 import json
-import os
 
 import question_worlds as worlds
+from asking import REUSED as IN_REUSED
+from asking import STANDARD, asks, said, shown_below
 from outside import EXAMPLES, example, examples, needs_proof, put, ran_program, same
 from policy import KINDS, MODES, State, words_of
 
@@ -11,20 +12,13 @@ from policy import KINDS, MODES, State, words_of
 NOBODY = 4000
 
 
-def said(*words):
-    status, output, error = ran_program(words)
-    assert not error, f"{words}: {error}"
-    return output.decode(), status
+_, refused, not_understood = asks("state", "--start")
 
 
 def snapshot(*words):
     text, status = said("state", "--start", *words)
     same(status, 0)
     return text
-
-
-def refused(words, error, status=1):
-    same(ran_program(["state", "--start", *words]), (status, b"", error.encode()))
 
 
 # the start file of a state, in Python
@@ -53,10 +47,6 @@ def rows(key, members):
     return f' "{key}": [' + (",".join("\n  " + it for it in members) + "\n " if members else "") + "]"
 
 
-def members(row):
-    return json.dumps(row)
-
-
 def start_text(state):
     sec, own = state.security.text, state.integrity.text
     objects, named = order(state), names(state)
@@ -67,22 +57,17 @@ def start_text(state):
         for s in sorted(state.maximum):
             for o in objects:
                 modes = [it for x, it in enumerate(MODES) if (s, o, x) in table]
-                found += [members({"subject": state.subjects[s], "object": name[o], "modes": modes})] if modes else []
+                found += [json.dumps({"subject": state.subjects[s], "object": name[o], "modes": modes})] if modes else []
         return found
 
-    parts = [
-        f' "profile": {state.profile}',
-        f' "security": {members(state.security._asdict())}',
-        f' "integrity": {members(state.integrity._asdict())}',
-        rows("subjects", [
-            members({"name": state.subjects[s], "maximum": sec(state.maximum[s]), "current": sec(state.current[s]), "integrity": own(state.own[s]),
-                     "trusted": s in state.trusted}) for s in sorted(state.maximum)]),
-        rows("objects", [
-            members({"name": name[o], "parent": name[state.parent[o]] if o else None, "security": sec(state.label[o]), "integrity": own(state.trust[o])})
-            for o in objects]),
-        rows("matrix", cells(state.matrix)),
-        rows("accesses", cells(state.accesses)),
-    ]
+    parts = [f' "profile": {state.profile}', f' "security": {json.dumps(state.security._asdict())}',
+             f' "integrity": {json.dumps(state.integrity._asdict())}',
+             rows("subjects", [json.dumps({"name": state.subjects[s], "maximum": sec(state.maximum[s]),
+              "current": sec(state.current[s]), "integrity": own(state.own[s]), "trusted": s in state.trusted})
+              for s in sorted(state.maximum)]),
+             rows("objects", [json.dumps({"name": name[o], "parent": name[state.parent[o]] if o else None,
+              "security": sec(state.label[o]), "integrity": own(state.trust[o])}) for o in objects]),
+             rows("matrix", cells(state.matrix)), rows("accesses", cells(state.accesses))]
     return "{\n" + ",\n".join(parts) + "\n}\n"
 
 
@@ -137,29 +122,16 @@ def by_number(state, action):
 # worked out by hand
 
 # sec holds write on the root, has made an object in it, and gave bob read on that.
-REUSED = (
-    b"0 0 2 get-write 0 yes\n1 0 2 create 0 2:1 1 created 4\n2 0 2 give read 1 4 yes\n"
-)
-AGAIN = {
-    "profile": 2,
-    "security": {"levels": ["U", "S"], "categories": ["A"]},
-    "integrity": {"levels": ["lo", "hi"], "categories": []},
-    "subjects": [
-        {"name": "sec", "maximum": "S:A", "current": "U", "integrity": "hi", "trusted": True},
-        {"name": "ann", "maximum": "S", "current": "U", "integrity": "lo", "trusted": False},
-    ],
-    "objects": [
-        {"name": "root", "parent": None, "security": "U", "integrity": "hi"},
-        {"name": "a", "parent": "root", "security": "U", "integrity": "hi"},
-        {"name": "o4", "parent": "root", "security": "U", "integrity": "lo"},
-        {"name": "b", "parent": "a", "security": "U", "integrity": "hi"},
-    ],
-    "matrix": [
-        {"subject": "sec", "object": "root", "modes": ["write"]},
-        {"subject": "sec", "object": "a", "modes": ["write"]},
-        {"subject": "ann", "object": "o4", "modes": ["read"]},
-    ],
-}
+REUSED = b"0 0 2 get-write 0 yes\n1 0 2 create 0 2:1 1 created 4\n2 0 2 give read 1 4 yes\n"
+AGAIN = {"profile": 2, "security": {"levels": ["U", "S"], "categories": ["A"]},
+         "integrity": {"levels": ["lo", "hi"], "categories": []},
+         "subjects": [{"name": "sec", "maximum": "S:A", "current": "U", "integrity": "hi", "trusted": True},
+          {"name": "ann", "maximum": "S", "current": "U", "integrity": "lo", "trusted": False}, ],
+         "objects": [{"name": "root", "parent": None, "security": "U", "integrity": "hi"}, {"name": "a",
+          "parent": "root", "security": "U", "integrity": "hi"}, {"name": "o4", "parent": "root", "security": "U",
+          "integrity": "lo"}, {"name": "b", "parent": "a", "security": "U", "integrity": "hi"}, ],
+         "matrix": [{"subject": "sec", "object": "root", "modes": ["write"]}, {"subject": "sec", "object": "a",
+          "modes": ["write"]}, {"subject": "ann", "object": "o4", "modes": ["read"]}, ]}
 # The numbers of a and b are used again, for children of the object 4, whose own name has to be another than o4.
 AGAIN_SCRIPT = b"""\
 sec get-write root
@@ -214,21 +186,10 @@ AGAIN_BEFORE = """\
 """
 
 
-def quoted():
-    """The example of docs/FORMATS.md."""
-    with open(f"{os.path.dirname(EXAMPLES)}/docs/FORMATS.md", encoding="ascii") as page:
-        lines = iter(page.read().split("\n"))
-    next(it for it in lines if it.startswith("    $ mls state --start"))
-    found = []
-    for line in lines:
-        if not line.startswith("    "):
-            return "".join(f"{it[4:]}\n" for it in found)
-        found.append(line)
-
-
 def state_in_the_documents():
     put("reused.journal", REUSED)
-    same(snapshot(f"{EXAMPLES}/reused.json", "reused.journal"), quoted())
+    first = next(shown_below("mls state --start"))
+    same(snapshot(IN_REUSED, "reused.journal"), first[1])
 
 
 def made_again():
@@ -283,16 +244,14 @@ def services_that_go_on():
 
 
 def faults_of_snapshots():
-    standard = f"{EXAMPLES}/standard.json"
     put("one.journal", b"0 0 0 get-read 1 yes\n")
     put("torn.journal", b"0 0 0 get-read 1 yes")
     put("forged.journal", b"0 0 0 get-read 1 no star\n")
-    refused(["--at", "2", standard, "one.journal"], "mls: one.journal: at most 1\n")
-    refused([standard, "torn.journal"], "mls: torn.journal: line 1: entry 1 BadForm\n")
-    refused([standard, "forged.journal"], "mls: forged.journal: replay 2 Differs at 0 expected yes\n", 3)
-    refused(["no.json", "one.journal"], "mls: no.json: file\n")
-    status, output, error = ran_program(["state", "--start", standard])
-    same((status, output, bool(error)), (2, b"", True))
+    refused(["--at", "2", STANDARD, "one.journal"], "one.journal: at most 1")
+    refused([STANDARD, "torn.journal"], "torn.journal: line 1: entry 1 BadForm")
+    refused([STANDARD, "forged.journal"], "forged.journal: replay 2 Differs at 0 expected yes", 3)
+    refused(["no.json", "one.journal"], "no.json: file")
+    not_understood([STANDARD])
 
 
 def many_cells(objects):
@@ -312,9 +271,8 @@ def texts_at_their_limit():
     same(said("check", put("fits.next.json", text.encode())), ("subjects 256\nobjects 500\ncells 128000\nsecure yes\n", 0))
     long = many_cells(590)
     assert len(long) <= 8_388_608, len(long)
-    refused([put("long.json", long), none], "mls: output: too long\n")
+    refused([put("long.json", long), none], "output: too long")
 
 
-CHECKS = [
-    state_in_the_documents, made_again, starts_that_stay, journals_of_the_examples, services_that_go_on, faults_of_snapshots, texts_at_their_limit,
-]
+CHECKS = [state_in_the_documents, made_again, starts_that_stay, journals_of_the_examples, services_that_go_on,
+          faults_of_snapshots, texts_at_their_limit]

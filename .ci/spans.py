@@ -35,9 +35,7 @@ def listed(states, entries, subject=None, object=None, mode=None, first=0, last=
     """What `mls held` prints of the spans that meet all that is asked for, and its status: of those in which some state is from `first` to
     `last`."""
     asked = range(first, len(states) if last is None else min(last + 1, len(states)))
-    found = [
-        it for it in spans(states)
-        if (subject is None or it.access[0] == subject) and (object is None or it.access[1] == object)
-        and (mode is None or it.access[2] == mode) and any(it.first <= state <= it.last for state in asked)
-    ]
+    found = [it for it in spans(states) if (subject is None or it.access[0] == subject) and (object is None
+              or it.access[1] == object) and (mode is None or it.access[2] == mode) and any(it.first <= state <= it.last
+              for state in asked)]
     return "".join(line_of(states[0], entries, it, marks) for it in found), 0 if found else 4

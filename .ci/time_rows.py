@@ -6,25 +6,14 @@ import subprocess
 import marks
 import question_texts as texts
 import question_worlds as worlds
-from outside import EXAMPLES, PROGRAM, SECONDS, in_its_folder, put, ran_program, same, some
+from asking import NO_TIME, STANDARD, asks, packed, put_marks, said
+from outside import PROGRAM, SECONDS, in_its_folder, put, ran_program, same, some
 from policy import explained, who, words_of
 
-STANDARD = f"{EXAMPLES}/standard.json"
 MICROSECOND, SECOND = 1_000, marks.SECOND
 DAY = 86_400 * SECOND
 LINE = "ann get-read plans"
-# What is told of a word that is no time.
-NO_TIME = "no time such as 2026-11-27T12:12:26Z or 2026-11-27"
-
-
-def said(*words):
-    status, output, error = ran_program(words)
-    assert not error, f"{words}: {error}"
-    return output.decode(), status
-
-
-def refused(words, told, status=1):
-    same((words, *ran_program(words)), (words, status, b"", told.encode()))
+_, refused, not_understood = asks()
 
 
 # times
@@ -131,12 +120,11 @@ def entries_by_times(world):
             words += ["--by", "#0"]
             entries = [it for it in entries if it.subject == 0]
         what = (words, [it.time for it in found])
-        listed = [
-            ([], lambda: with_times(found, entries, lambda it: texts.entry_line(opening, it))),
-            (["--json"], lambda: objects_with_times(found, entries, lambda it: texts.entry_json(opening, it))),
-            (["--summary"], lambda: texts.summary(opening, entries)),
-            (["--explain"], lambda: with_times(found, entries, lambda it: texts.explained_entry(world.before, opening, it))),
-        ]
+        listed = [([], lambda: with_times(found, entries, lambda it: texts.entry_line(opening, it))),
+                  (["--json"], lambda: objects_with_times(found, entries, lambda it: texts.entry_json(opening, it))),
+                  (["--summary"], lambda: texts.summary(opening, entries)),
+                  (["--explain"], lambda: with_times(found, entries, lambda it: texts.explained_entry(world.before,
+                   opening, it)))]
         form, wanted = rnd.choice(listed)
         same((what, form, said("journal", *form, *words, *files)), (what, form, wanted()))
 
@@ -155,7 +143,7 @@ def states_by_times(world):
         of_journal = ["--journal", world.journal, *words, world.start]
         asked += [("explain", *of_journal, line), ("ask", *of_journal, line), ("who", *of_journal, "#0")]
         if last is None:
-            refused(rnd.choice(asked), "mls: start.marks: no mark by then\n")
+            refused(rnd.choice(asked), "start.marks: no mark by then")
             continue
         state = world.before(last + 1)
         text, status = explained(state, s, action)
@@ -184,7 +172,7 @@ def marks_that_differ(world):
     words = [("journal", *beside, world.start, world.journal), ("state", *beside, world.start, world.journal)]
     words += [(it, "--journal", world.journal, *beside, world.start, "#0 get-read #0") for it in ("ask", "explain")]
     words += [("who", "--journal", world.journal, *beside, world.start, "#0"), ("state", "--start", *beside, world.start, world.journal)]
-    refused(rnd.choice(words), f"mls: start.marks: {told}\n", status)
+    refused(rnd.choice(words), f"start.marks: {told}", status)
 
 
 # by hand
@@ -192,33 +180,20 @@ def marks_that_differ(world):
 THREE = b"0 0 0 get-read 1 yes\n1 0 1 get-read 2 no star\n2 0 0 release read 1 yes\n"
 # A clock that goes back between the two marks of the first two entries; the third has none.
 BACK = marks.made(THREE, [1, 2], [b"2026-11-27T11:00:00.000001Z", b"2026-11-27T10:00:00.000000Z"])
-LINES = [
-    "[2026-11-27T11:00:00.000001Z] 0 session 0 ann get-read plans: yes\n", "[2026-11-27T10:00:00.000000Z] 1 session 0 bob get-read memo: no star\n",
-    "[-] 2 session 0 ann release read plans: yes\n",
-]
-# What is asked of it, and the lines that are listed.
-LISTED = [
-    ([], LINES),
-    (["--since", "2026-11-27T10:30:00Z"], LINES),
-    (["--since", "2026-11-27T11:00:00.000001Z"], LINES),
-    (["--since", "2026-11-27T11:00:00.000001001Z"], []),
-    (["--since", "2026-11-27T11:00:00.000000999Z"], LINES),
-    (["--since", "2026-11-28"], []),
-    (["--since", "2026-11-27"], LINES),
-    (["--since=0000-01-01T00:00:00Z"], LINES),
-    (["--until", "2026-11-27T10:30:00Z"], LINES[:2]),
-    (["--until", "2026-11-27T10:00:00Z"], LINES[:2]),
-    (["--until", "2026-11-27T11:00:00+01:00"], LINES[:2]),
-    (["--until", "2026-11-27T09:59:59.999999999Z"], []),
-    (["--until", "2026-11-27T15:30:00+05:30"], LINES[:2]),
-    (["--until", "9999-12-30T22:00:00.999999999Z"], LINES[:2]),
-    (["--until", "2026-11-27"], []),
-    (["--since", "2026-11-27T10:30:00Z", "--until", "2026-11-27T10:30:00Z"], LINES[:2]),
-    (["--since", "2026-11-27T10:30:00Z", "--until", "2026-11-27T10:30:00Z", "--from", "1"], LINES[1:2]),
-    (["--since", "2026-11-27T10:30:00Z", "--to", "0"], LINES[:1]),
-    (["--until", "2026-11-27T10:59:60Z", "--subject", "bob"], LINES[1:2]),
-    (["--until", "2026-11-27T10:30:00Z", "--session", "1"], []),
-]
+LINES = ["[2026-11-27T11:00:00.000001Z] 0 session 0 ann get-read plans: yes\n",
+         "[2026-11-27T10:00:00.000000Z] 1 session 0 bob get-read memo: no star\n",
+         "[-] 2 session 0 ann release read plans: yes\n"]
+# What is asked of it, and which lines are listed.
+LISTED = packed("""
+    : 0 1 2 | --since 2026-11-27T10:30:00Z : 0 1 2 | --since 2026-11-27T11:00:00.000001Z : 0 1 2
+    --since 2026-11-27T11:00:00.000001001Z : | --since 2026-11-27T11:00:00.000000999Z : 0 1 2 | --since 2026-11-28 :
+    --since 2026-11-27 : 0 1 2 | --since=0000-01-01T00:00:00Z : 0 1 2 | --until 2026-11-27T10:30:00Z : 0 1
+    --until 2026-11-27T10:00:00Z : 0 1 | --until 2026-11-27T11:00:00+01:00 : 0 1 | --until 2026-11-27T09:59:59.999999999Z :
+    --until 2026-11-27T15:30:00+05:30 : 0 1 | --until 9999-12-30T22:00:00.999999999Z : 0 1 | --until 2026-11-27 :
+    --since 2026-11-27T10:30:00Z --until 2026-11-27T10:30:00Z : 0 1
+    --since 2026-11-27T10:30:00Z --until 2026-11-27T10:30:00Z --from 1 : 1 | --since 2026-11-27T10:30:00Z --to 0 : 0
+    --until 2026-11-27T10:59:60Z --subject bob : 1 | --until 2026-11-27T10:30:00Z --session 1 :
+""")
 WORDS = [
     "", "x", "now", "2026", "2026-11", "2026-11-31", "2026-02-29", "2026-13-01", "2026-00-01", "2026-01-00", "2026-1-27", "2026.11.27", "20261127",
     "2026-11-27Z", " 2026-11-27", "2026-11-27 ", "2026-11-27T11:00:00", "2026-11-27T11:00:00Z ", "2026-11-27T24:00:00Z", "2026-11-27T11:60:00Z",
@@ -237,8 +212,8 @@ def put_back():
 def entries_of_a_clock_that_goes_back():
     """The first mark of a time or later and the last of a time or earlier, by their places."""
     files = put_back()
-    for words, lines in LISTED:
-        same((words, said("journal", *words, *files)), (words, ("".join(lines), 0 if lines else 4)))
+    for words, places in LISTED:
+        same((words, said("journal", *words, *files)), (words, ("".join(LINES[int(it)] for it in places), 0 if places else 4)))
     json = '{"number":2,"session":0,"subject":0,"subject_name":"ann","action":"release","mode":"read","object":1,"object_name":"plans","reply":"yes"'
     same(said("journal", "--json", "--from", "2", *files), (json + ',"time":null}\n', 0))
     same(said("journal", "--json", "--from", "2", *files[2:]), (json + "}\n", 0))
@@ -259,7 +234,7 @@ def states_of_a_clock_that_goes_back():
             same((when, said(command, *words, "ann check read plans")), (when, answer))
     for command in ("ask", "explain", "who"):
         words = ["--journal", "back.journal", "--marks", "back.marks", "--when", "2026-11-27T09:59:59.999999Z", STANDARD]
-        refused([command, *words, "plans" if command == "who" else LINE], "mls: back.marks: no mark by then\n")
+        refused([command, *words, "plans" if command == "who" else LINE], "back.marks: no mark by then")
 
 
 def marks_beside_a_number():
@@ -284,61 +259,53 @@ def words_that_are_no_times():
     """They are refused before a file is read."""
     for word in some(WORDS, 2):
         for command, option in (("journal", "since"), ("journal", "until"), ("state", "when")):
-            words = [command, "--marks", "no.marks", f"--{option}={word}", "no.json", "no.journal"]
-            refused(words, f"mls: --{option} {word}: {NO_TIME}\n", 2)
+            refused([command, "--marks", "no.marks", f"--{option}={word}", "no.json", "no.journal"], f"--{option} {word}: {NO_TIME}", 2)
     for command in ("ask", "explain", "who"):
-        refused([command, "--journal", "no.journal", "--marks", "no.marks", "--when", "x", "no.json", LINE], f"mls: --when x: {NO_TIME}\n", 2)
+        refused([command, "--journal", "no.journal", "--marks", "no.marks", "--when", "x", "no.json", LINE], f"--when x: {NO_TIME}", 2)
     # (of two the first in this order)
-    both = ["--since=x", "--until=y"]
-    refused(["journal", "--marks", "m", *both, "no.json", "no.journal"], f"mls: --since x: {NO_TIME}\n", 2)
-    refused(["journal", "--marks", "m", *both, "--reply=z", "no.json", "no.journal"], "mls: --reply z: begins no reply\n", 2)
-    refused(["journal", "--marks", "m", *both, "--from=2", "--to=1", "no.json", "no.journal"], "mls: --from 2: above --to 1\n", 2)
+    for words, told in (([], f"--since x: {NO_TIME}"), (["--reply=z"], "--reply z: begins no reply"),
+                        (["--from=2", "--to=1"], "--from 2: above --to 1")):
+        refused(["journal", "--marks", "m", "--since=x", "--until=y", *words, "no.json", "no.journal"], told, 2)
 
 
 def words_that_no_question_of_times_has():
     """--marks without a journal, times without --marks, --when beside --at, and times of other commands."""
-    time = "2026-11-27T11:00:00Z"
-    rows = [["ask", "--marks", "m", STANDARD, LINE], ["explain", "--marks", "m", STANDARD, LINE], ["who", "--marks", "m", STANDARD, "plans"]]
-    rows += [[it, "--journal", "j", "--when", time, STANDARD, LINE] for it in ("ask", "explain", "who")]
-    rows += [["state", "--when", time, STANDARD, "j"], ["journal", "--since", time, STANDARD, "j"], ["journal", "--until", time, STANDARD, "j"]]
-    rows += [["state", "--marks", "m", "--at", "0", "--when", time, STANDARD, "j"], ["journal", "--marks", "m", "--when", time, STANDARD, "j"]]
-    rows += [["ask", "--journal", "j", "--marks", "m", "--at", "0", "--when", time, STANDARD, LINE]]
-    rows += [["explain", "--journal", "j", "--marks", "m", "--when", time, STANDARD], ["lint", "--marks", "m", STANDARD]]
-    rows += [["compare", "--marks", "m", STANDARD, STANDARD, "j"], ["state", "--marks", "m", "--since", time, STANDARD, "j"]]
-    for words in rows:
-        status, output, error = ran_program(words)
-        same((words, status, output, bool(error)), (words, 2, b"", True))
+    time, noted, when = "2026-11-27T11:00:00Z", ["--marks", "m"], ["--when", "2026-11-27T11:00:00Z"]
+    not_understood(["ask", *noted, STANDARD, LINE], ["explain", *noted, STANDARD, LINE], ["who", *noted, STANDARD, "plans"])
+    not_understood(*([it, "--journal", "j", *when, STANDARD, LINE] for it in ("ask", "explain", "who")), ["lint", *noted, STANDARD])
+    not_understood(["state", *when, STANDARD, "j"], ["journal", "--since", time, STANDARD, "j"], ["journal", "--until", time, STANDARD, "j"])
+    not_understood(["state", *noted, "--at", "0", *when, STANDARD, "j"], ["journal", *noted, *when, STANDARD, "j"])
+    not_understood(["ask", "--journal", "j", *noted, "--at", "0", *when, STANDARD, LINE], ["explain", "--journal", "j", *noted, *when, STANDARD])
+    not_understood(["compare", *noted, STANDARD, STANDARD, "j"], ["state", *noted, "--since", time, STANDARD, "j"])
 
 
 def faults_of_times_in_their_order():
     files = put_back()
-    put("empty.json", b"")
-    put("forged.journal", THREE.replace(b"no star", b"yes"))
-    put("torn.marks", marks.text_of(BACK)[:-1])
-    put("none.marks", b"x\n")
-    put("of-forged.marks", marks.text_of(marks.made(THREE.replace(b"no star", b"yes"), [2], [BACK[0].time])))
+    forged = THREE.replace(b"no star", b"yes")
+    for name, content in (("empty.json", b""), ("forged.journal", forged), ("torn.marks", marks.text_of(BACK)[:-1]), ("none.marks", b"x\n")):
+        put(name, content)
+    put_marks("of-forged.marks", forged, [2], [BACK[0].time])
     when = ["--when", "2026-11-26"]
     asked = lambda start, noted, journal, *more: ["state", "--marks", noted, *more, start, journal]
-    refused(asked("no.json", "no.marks", "no.journal"), "mls: no.json: file\n")
-    refused(asked("empty.json", "no.marks", "no.journal"), "mls: no.marks: file\n")
-    refused(asked("empty.json", "none.marks", "no.journal"), "mls: no.journal: file\n")
-    refused(asked("empty.json", "torn.marks", "back.journal"), "mls: torn.marks: torn after entry 0\n")
-    refused(asked("empty.json", "none.marks", "back.journal"), "mls: none.marks: line 1: mark\n")
-    refused(asked("empty.json", "back.marks", "forged.journal", *when), "mls: back.marks: differs at entry 1\n", 3)
-    refused(asked("empty.json", "of-forged.marks", "forged.journal", *when), "mls: of-forged.marks: no mark by then\n")
-    refused(asked("empty.json", "of-forged.marks", "forged.journal"), "mls: empty.json: start 1 Json\n")
-    refused(asked(STANDARD, "of-forged.marks", "forged.journal"), "mls: forged.journal: replay 2 Differs at 1 expected no star\n", 3)
-    refused(asked(STANDARD, "back.marks", "back.journal", *when), "mls: back.marks: no mark by then\n")
-    refused(asked(STANDARD, "back.marks", "back.journal", "--at", "4"), "mls: back.journal: at most 3\n")
-    refused(["journal", "--subject", "zoe", *files[:1], "none.marks", *files[2:]], "mls: none.marks: line 1: mark\n")
-    refused(["journal", "--subject", "zoe", *files], "mls: zoe: bad name (bob?)\n")
+    refused(asked("no.json", "no.marks", "no.journal"), "no.json: file")
+    refused(asked("empty.json", "no.marks", "no.journal"), "no.marks: file")
+    refused(asked("empty.json", "none.marks", "no.journal"), "no.journal: file")
+    refused(asked("empty.json", "torn.marks", "back.journal"), "torn.marks: torn after entry 0")
+    refused(asked("empty.json", "none.marks", "back.journal"), "none.marks: line 1: mark")
+    refused(asked("empty.json", "back.marks", "forged.journal", *when), "back.marks: differs at entry 1", 3)
+    refused(asked("empty.json", "of-forged.marks", "forged.journal", *when), "of-forged.marks: no mark by then")
+    refused(asked("empty.json", "of-forged.marks", "forged.journal"), "empty.json: start 1 Json")
+    refused(asked(STANDARD, "of-forged.marks", "forged.journal"), "forged.journal: replay 2 Differs at 1 expected no star", 3)
+    refused(asked(STANDARD, "back.marks", "back.journal", *when), "back.marks: no mark by then")
+    refused(asked(STANDARD, "back.marks", "back.journal", "--at", "4"), "back.journal: at most 3")
+    refused(["journal", "--subject", "zoe", *files[:1], "none.marks", *files[2:]], "none.marks: line 1: mark")
+    refused(["journal", "--subject", "zoe", *files], "zoe: bad name (bob?)")
     os.mkdir("folder.marks")
-    refused(asked(STANDARD, "folder.marks", "back.journal"), "mls: folder.marks: file\n")
+    refused(asked(STANDARD, "folder.marks", "back.journal"), "folder.marks: file")
 
 
-CHECKS = [*map(in_its_folder, [
-    entries_of_a_clock_that_goes_back, states_of_a_clock_that_goes_back, marks_beside_a_number, words_that_are_no_times, words_that_no_question_of_times_has,
-    faults_of_times_in_their_order,
-])]
+CHECKS = [*map(in_its_folder, [entries_of_a_clock_that_goes_back, states_of_a_clock_that_goes_back,
+           marks_beside_a_number, words_that_are_no_times, words_that_no_question_of_times_has,
+           faults_of_times_in_their_order, ])]
 # (each is asked of random starts and journals)
 OF_WORLDS = [entries_by_times, states_by_times, marks_that_differ]

@@ -1,11 +1,11 @@
 """How permissions were used: `mls usage`, with answers by hand, and with answers that usages.py finds in all states of random journals."""
 import json
 
-import marks
 import time_rows
 import usages
+from asking import HELD, NO_TIME, OPENED, REUSED, STANDARD, asks, journal_of, part_by_chance, put_faulty, put_marks
 from outside import example, in_its_folder, put, ran_program, same
-from span_rows import ANSWERS, HELD, OPENED, REUSED, SCRIPT, STANDARD, journal_of
+from span_rows import ANSWERS, SCRIPT
 
 # Over the journal of the example in FORMATS.md.
 OF_OPENED = """ann read plans: 3 granted, 0 denied, last 3
@@ -29,21 +29,18 @@ WHOLE = {
     "bob execute tool": "", "sec write root": "1 granted, 0 denied, last 0", "sec write plans": "", "sec append memo": "", "sec write memo": "",
     "sec write #4": "1 granted, 0 denied, last 6", "aud read plans": "",
 }
-PART = {
-    **WHOLE, **dict.fromkeys(("ann read plans", "ann read #4", "sec write root"), "1 granted, 0 denied, last start"),
-    "ann read #5": "1 granted, 0 denied, last 9",
-}
+PART = {**WHOLE,
+        **dict.fromkeys(("ann read plans", "ann read #4", "sec write root"), "1 granted, 0 denied, last start"),
+        "ann read #5": "1 granted, 0 denied, last 9"}
 ENDED = {it: "" for it in WHOLE if "#" not in it and it != "ann read plans"}
 BEGUN = {**ENDED, "sec write root": WHOLE["sec write root"]}
 
 
+told_as, refused, not_understood = asks("usage")
+
+
 def answered(words, text):
-    status = 0 if text.endswith(", 0 never granted\n") else 4
-    same((words, *ran_program(["usage", *words])), (words, status, text.encode(), b""))
-
-
-def refused(words, told, status=1):
-    same((words, *ran_program(["usage", *words])), (words, status, b"", told.encode()))
+    told_as(words, text, 0 if text.endswith(", 0 never granted\n") else 4)
 
 
 def text_of(rows):
@@ -58,7 +55,7 @@ def start_of(name, **members):
 
 def permissions_and_their_uses():
     """Permissions of the start and such that are given, over a whole journal and over parts of it."""
-    journal_of(STANDARD, SCRIPT, ANSWERS)
+    journal_of(STANDARD, SCRIPT, ANSWERS, "held.journal")
     order = ["ann read plans", "ann write plans", "ann read memo", "ann execute tool"]
     assert list(WHOLE)[:4] == order
     answered([STANDARD, "held.journal"], text_of(WHOLE))
@@ -84,32 +81,31 @@ def gets_without_the_permission():
     """A get before a permission is given, and one after it is rescinded, are no uses of it; without permissions there is nothing to grant."""
     start = start_of("few.json", matrix=[{"subject": "sec", "object": "root", "modes": ["write"]}])
     script = b"ann get-read root\nsec give read ann root\nann get-read root\nsec rescind read ann root\nann get-read root\n"
-    journal_of(start, script, b"no discretionary\nyes\nyes\nyes\nno discretionary\n")
+    journal_of(start, script, b"no discretionary\nyes\nyes\nyes\nno discretionary\n", "held.journal")
     last = "sec write root: never asked\n"
     answered([start, "held.journal"], f"ann read root: 1 granted, 0 denied, last 2\n{last}2 permissions, 1 never granted\n")
     answered(["--from", "3", start, "held.journal"], f"ann read root: 1 granted, 0 denied, last start\n{last}2 permissions, 1 never granted\n")
     answered(["--to", "1", start, "held.journal"], f"ann read root: never asked\n{last}2 permissions, 2 never granted\n")
     answered(["--from", "4", start, "held.journal"], f"{last}1 permission, 1 never granted\n")
     answered(["--to", "0", start, "held.journal"], f"{last}1 permission, 1 never granted\n")
-    journal_of(start, b"sec get-write root\nsec get-write root\n", b"yes\nyes\n")
+    journal_of(start, b"sec get-write root\nsec get-write root\n", b"yes\nyes\n", "held.journal")
     answered([start, "held.journal"], "sec write root: 2 granted, 0 denied, last 1\n1 permission, 0 never granted\n")
     answered([start_of("none.json", matrix=[]), put("empty.journal", b"")], "0 permissions, 0 never granted\n")
 
 
 def permissions_of_a_number_that_is_used_again():
     script = b"sec get-write root\nann get-read plans\nsec delete plans\n$x = sec create root S:A hi\nsec give read ann $x\nann get-read $x\n"
-    journal_of(REUSED, script, b"yes\nyes\nyes\ncreated 1\nyes\nyes\n")
-    status, output, _ = ran_program(["usage", REUSED, "held.journal"])
-    same((status, output.splitlines()[0]), (4, b"ann read plans: 2 granted, 0 denied, last 5"))
-    status, output, _ = ran_program(["usage", "--from", "3", REUSED, "held.journal"])
-    same((status, output.splitlines()[0]), (4, b"ann read plans: 1 granted, 0 denied, last 5"))
+    journal_of(REUSED, script, b"yes\nyes\nyes\ncreated 1\nyes\nyes\n", "held.journal")
+    for words, count in (([], 2), (["--from", "3"], 1)):
+        status, output, _ = ran_program(["usage", *words, REUSED, "held.journal"])
+        same((status, output.splitlines()[0]), (4, b"ann read plans: %d granted, 0 denied, last 5" % count))
 
 
 def uses_with_times():
     """The times of the last uses, and the states that are asked for by time; where there is none, no permission."""
     put("opened.journal", OPENED)
     times = [b"2026-11-27T10:00:00.000000Z", b"2026-11-27T11:00:00.000000Z"]
-    put("opened.marks", marks.text_of(marks.made(OPENED, [2, 4], times)))
+    put_marks("opened.marks", OPENED, [2, 4], times)
     files = ["--marks", "opened.marks", HELD, "opened.journal"]
     told = OF_OPENED.replace("last 3\n", "last 3 [2026-11-27T11:00:00.000000Z]\n").replace("last 4\n", "last 4 [-]\n")
     told = told.replace("last 1\n", "last 1 [2026-11-27T10:00:00.000000Z]\n")
@@ -129,33 +125,26 @@ def uses_with_times():
 
 
 def faults_of_uses_in_their_order():
-    put("opened.journal", OPENED)
-    put("torn.journal", OPENED[:-1])
-    put("forged.journal", OPENED.replace(b"no star", b"yes"))
-    put("empty.json", b"")
-    refused(["no.json", "no.journal"], "mls: no.json: file\n")
-    refused(["empty.json", "no.journal"], "mls: no.journal: file\n")
-    refused(["empty.json", "torn.journal"], "mls: empty.json: start 1 Json\n")
-    refused([HELD, "torn.journal"], "mls: torn.journal: line 5: entry 1 BadForm\n")
-    refused(["--from", "9", HELD, "forged.journal"], "mls: forged.journal: replay 2 Differs at 1 expected no star\n", 3)
-    refused(["--from", "6", HELD, "opened.journal"], "mls: opened.journal: at most 5\n")
-    refused(["--from", "3", "--to", "2", "no.json", "no.journal"], "mls: --from 3: above --to 2\n", 2)
-    put("none.marks", b"x\n")
-    refused(["--marks", "no.marks", "empty.json", "no.journal"], "mls: no.marks: file\n")
-    refused(["--marks", "none.marks", HELD, "opened.journal"], "mls: none.marks: line 1: mark\n")
+    put_faulty()
+    refused(["no.json", "no.journal"], "no.json: file")
+    refused(["empty.json", "no.journal"], "no.journal: file")
+    refused(["empty.json", "torn.journal"], "empty.json: start 1 Json")
+    refused([HELD, "torn.journal"], "torn.journal: line 5: entry 1 BadForm")
+    refused(["--from", "9", HELD, "forged.journal"], "forged.journal: replay 2 Differs at 1 expected no star", 3)
+    refused(["--from", "6", HELD, "opened.journal"], "opened.journal: at most 5")
+    refused(["--from", "3", "--to", "2", "no.json", "no.journal"], "--from 3: above --to 2", 2)
+    refused(["--marks", "no.marks", "empty.json", "no.journal"], "no.marks: file")
+    refused(["--marks", "none.marks", HELD, "opened.journal"], "none.marks: line 1: mark")
     for option in ("--since", "--until"):
-        refused(["--marks", "no.marks", option, "now", "no.json", "no.journal"], f"mls: {option} now: {time_rows.NO_TIME}\n", 2)
+        refused(["--marks", "no.marks", option, "now", "no.json", "no.journal"], f"{option} now: {NO_TIME}", 2)
 
 
 def words_that_ask_for_no_uses():
     put("opened.journal", OPENED)
-    rows = [[], [HELD], [HELD, "opened.journal", "x"], ["--at", "1", HELD, "opened.journal"], ["--subject", "ann", HELD, "opened.journal"]]
-    rows += [[option, word, HELD, "opened.journal"] for option in ("--from", "--to") for word in ("-1", "x", "", "18446744073709551616")]
-    rows += [[option, "2026-11-27", HELD, "opened.journal"] for option in ("--since", "--until")]
-    rows += [["--marks", "m", "--when", "2026-11-27", HELD, "opened.journal"]]
-    for words in rows:
-        status, output, error = ran_program(["usage", *words])
-        same((words, status, output, bool(error)), (words, 2, b"", True))
+    asked = [HELD, "opened.journal"]
+    not_understood([], [HELD], [*asked, "x"], ["--at", "1", *asked], ["--subject", "ann", *asked], ["--marks", "m", "--when", "2026-11-27", *asked])
+    not_understood(*([option, it, *asked] for option in ("--from", "--to") for it in ("-1", "x", "", "18446744073709551616")))
+    not_understood(*([option, "2026-11-27", *asked] for option in ("--since", "--until")))
 
 
 def uses_by_chance(world):
@@ -163,25 +152,17 @@ def uses_by_chance(world):
     rnd, count = world.rnd, len(world.entries)
     states = [world.before(number) for number in range(count + 1)]
     for turn in range(4):
-        words, asked = [], {}
-        first, last = rnd.randrange(count + 1), rnd.randrange(count + 9)
-        which = rnd.choice(("from", "to", "between")) if turn else "all"
-        if which in ("from", "between"):
-            words, asked = ["--from", str(first)], {"first": first}
-        if which in ("to", "between"):
-            last = max(last, first) if which == "between" else last
-            words, asked = [*words, "--to", str(last)], {**asked, "last": last + 1}
+        _, words, asked = part_by_chance(rnd, count, turn and ("from", "to", "between"))
         if rnd.random() < 0.4:
             found = time_rows.marks_by_chance(rnd, world)
             by_time, asked = time_rows.states_by_chance(rnd, found, asked, True)
             words, asked = [*words, *by_time], {**asked, "marks": found}
         text, status = usages.listed(states, world.entries, **asked)
-        same((words, *ran_program(["usage", *words, world.start, world.journal])), (words, status, text.encode(), b""))
+        told_as([*words, world.start, world.journal], text, status)
 
 
-CHECKS = [*map(in_its_folder, [
-    permissions_and_their_uses, uses_with_times, uses_of_what_a_start_opens_with, gets_without_the_permission, permissions_of_a_number_that_is_used_again,
-    faults_of_uses_in_their_order, words_that_ask_for_no_uses,
-])]
+CHECKS = [*map(in_its_folder, [permissions_and_their_uses, uses_with_times, uses_of_what_a_start_opens_with,
+           gets_without_the_permission, permissions_of_a_number_that_is_used_again, faults_of_uses_in_their_order,
+           words_that_ask_for_no_uses, ])]
 # (it is asked of random starts and journals)
 OF_WORLDS = [uses_by_chance]

@@ -261,8 +261,7 @@ def marks_are_synced_before_they_are_told():
         same((number, (done.returncode, done.stdout, done.stderr)), (number, wanted))
 
 
-CHECKS = [*map(in_its_folder, [
-    what_is_printed, files_that_are_no_regular_ones, faults_of_a_verification, words_of_a_verification, chains_that_begin_elsewhere,
-    forged_journals, one_byte_of_a_journal_that_was_changed, verification_beside_a_service,
-])]
+CHECKS = [*map(in_its_folder, [what_is_printed, files_that_are_no_regular_ones, faults_of_a_verification,
+           words_of_a_verification, chains_that_begin_elsewhere, forged_journals,
+           one_byte_of_a_journal_that_was_changed, verification_beside_a_service, ])]
 OVER_THE_SHIM = [*map(in_its_folder, [marks_are_synced_before_they_are_told])]

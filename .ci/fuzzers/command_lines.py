@@ -77,11 +77,9 @@ class CommandLines(Fuzzer):
     def made(self, rng):
         """The words, what fails or how much room there is, and the files that are laid anew."""
         name, failing = rng.choice(word_inputs.STARTS), None
-        files = {
-            "start": self.pool[name] if rng.random() < 0.7 else rng.choice(self.files[rng.choice([*self.files])]),
-            "journal": journal_inputs.made(rng, self.journals[name]),
-            "script": script_inputs.made(rng, self.starts[name], [])
-        }
+        files = {"start": self.pool[name] if rng.random() < 0.7 else rng.choice(self.files[rng.choice([*self.files])]),
+                 "journal": journal_inputs.made(rng, self.journals[name]),
+                 "script": script_inputs.made(rng, self.starts[name], [])}
         if rng.random() < FAILING:
             return *self.made_to_fail(rng), files
         words = word_inputs.valid(rng)

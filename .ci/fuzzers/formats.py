@@ -13,10 +13,8 @@ MODES = {b"execute": 0, b"read": 1, b"append": 2, b"write": 3}
 REASONS = {word: number for number, word in enumerate(
     b"discretionary simple star integrity authority compatibility ceiling root full".split(), 1)}
 # The operands of each action: a mode, a subject, an object, a security label, an integrity label.
-OPERANDS = {
-    **{b"get-" + mode: "o" for mode in MODES}, b"release": "mo", b"give": "mso", b"rescind": "mso", b"create": "oli",
-    b"delete": "o", b"level": "l", b"relabel": "ol",
-}
+OPERANDS = {**{b"get-" + mode: "o" for mode in MODES}, b"release": "mo", b"give": "mso", b"rescind": "mso",
+            b"create": "oli", b"delete": "o", b"level": "l", b"relabel": "ol"}
 SCRIPT_LIMIT, LINE_LIMIT, START_LIMIT = 1_048_576, 20_000, 8_388_608
 U16, U32, U64 = 1 << 16, 1 << 32, 1 << 64
 

@@ -14,13 +14,10 @@ TOKEN = re.compile(rb"[A-Za-z0-9_-]+|[:,]")
 LEVELS = ["a", "A", "aa", "a-", "_", "-", "0", "00", "9", "level", "Level", "LEVEL", 32 * "x", 31 * "x", "a_b", "z"]
 CATEGORIES = ["a", "A", "aa", *(f"c{number}" for number in range(252)), 32 * "c"]
 NO_NAMES = [b"Q", b"", b"a b", b"a.b", b"lo", b"U", b"c252", 33 * b"x", 30 * b"x", b"\xc3\xa9", b":", b","]
-LARGEST = {
-    "security": {"levels": LEVELS, "categories": CATEGORIES},
-    "integrity": {"levels": CATEGORIES[:16], "categories": LEVELS},
-    "subjects": [{"name": "s", "maximum": "a", "current": "a", "integrity": "a", "trusted": False}],
-    "objects": [{"name": "r", "parent": None, "security": "a", "integrity": "a"}],
-    "matrix": [],
-}
+LARGEST = {"security": {"levels": LEVELS, "categories": CATEGORIES},
+           "integrity": {"levels": CATEGORIES[:16], "categories": LEVELS},
+           "subjects": [{"name": "s", "maximum": "a", "current": "a", "integrity": "a", "trusted": False}],
+           "objects": [{"name": "r", "parent": None, "security": "a", "integrity": "a"}], "matrix": []}
 KINDS, NO_KINDS = (c_calls.SECURITY, c_calls.INTEGRITY), (2, 3, -1, 256, 1 << 16)
 
 

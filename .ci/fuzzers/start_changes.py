@@ -100,10 +100,8 @@ def filled_up(rng, data):
     rows += [with_name(last, f"n{number}") for number in range(count)]
 
 
-CHANGES = [
-    value_changed, string_changed, string_changed, label_changed, label_changed, parent_changed, left_out, emptied,
-    member_added, repeated, moved
-]
+CHANGES = [value_changed, string_changed, string_changed, label_changed, label_changed, parent_changed, left_out,
+           emptied, member_added, repeated, moved]
 FILLED_UP = 0.01
 
 

@@ -148,8 +148,7 @@ def require_secure(subject, is_trusted, thing, mode):
     (maximum, current, own), (label, level) = subject, thing
     is_fit = [mode not in OBSERVES or dominates(maximum, label),
               is_trusted or mode not in OBSERVES or dominates(current, label),
-              is_trusted or mode not in ALTERS or dominates(label, current),
-              mode not in USES or dominates(level, own),
+              is_trusted or mode not in ALTERS or dominates(label, current), mode not in USES or dominates(level, own),
               mode not in ALTERS or dominates(own, level)]
     require(all(is_fit), "7 Start 10 NotSecure")
 

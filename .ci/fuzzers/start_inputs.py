@@ -38,13 +38,9 @@ def text_of(rng, level_and_categories, names):
 
 def subject(rng, number, security, integrity):
     maximum = label(rng, security)
-    return {
-        "name": f"s{number}",
-        "maximum": text_of(rng, maximum, security),
-        "current": text_of(rng, label_below(rng, maximum), security),
-        "integrity": text_of(rng, label(rng, integrity), integrity),
-        "trusted": rng.random() < 0.3,
-    }
+    return {"name": f"s{number}", "maximum": text_of(rng, maximum, security),
+            "current": text_of(rng, label_below(rng, maximum), security),
+            "integrity": text_of(rng, label(rng, integrity), integrity), "trusted": rng.random() < 0.3}
 
 
 def objects(rng, count, security, integrity):
@@ -54,20 +50,14 @@ def objects(rng, count, security, integrity):
         parent = rng.randrange(number)
         labels.append((label(rng, security, labels[parent][0]), label_below(rng, labels[parent][1])))
         parents.append(f"o{parent}")
-    return [{
-        "name": f"o{number}",
-        "parent": parent,
-        "security": text_of(rng, secrecy, security),
-        "integrity": text_of(rng, trust, integrity),
-    } for number, (parent, (secrecy, trust)) in enumerate(zip(parents, labels))]
+    return [{"name": f"o{number}", "parent": parent, "security": text_of(rng, secrecy, security),
+             "integrity": text_of(rng, trust, integrity), } for number,
+            (parent, (secrecy, trust)) in enumerate(zip(parents, labels))]
 
 
 def cell(rng, data):
-    return {
-        "subject": rng.choice(data["subjects"])["name"],
-        "object": rng.choice(data["objects"])["name"],
-        "modes": [rng.choice(MODES) for _ in range(rng.randrange(4))],
-    }
+    return {"subject": rng.choice(data["subjects"])["name"], "object": rng.choice(data["objects"])["name"],
+            "modes": [rng.choice(MODES) for _ in range(rng.randrange(4))]}
 
 
 def held(rng, data):
