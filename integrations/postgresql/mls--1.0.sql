@@ -169,8 +169,8 @@ LANGUAGE sql STABLE SET search_path = pg_catalog AS $$
           'pg_current_snapshot', 'txid_current_snapshot', 'pg_get_multixact_members', 'pg_current_wal_lsn',
           'pg_current_wal_insert_lsn', 'pg_current_wal_flush_lsn', 'pg_control_checkpoint', 'pg_control_system',
           'pg_control_recovery', 'pg_relation_size', 'pg_table_size', 'pg_indexes_size', 'pg_total_relation_size',
-          'pg_database_size', 'pg_tablespace_size', 'currtid2', 'gin_clean_pending_list',
-          'brin_summarize_new_values')))
+          'pg_database_size', 'pg_tablespace_size', 'pg_last_committed_xact', 'pg_xact_commit_timestamp',
+          'pg_xact_commit_timestamp_origin', 'currtid2', 'gin_clean_pending_list', 'brin_summarize_new_values')))
   UNION ALL SELECT 'other database', d.datname, format('REVOKE CONNECT ON DATABASE %I FROM public', d.datname)
     FROM pg_database d
     WHERE d.datallowconn AND d.datname <> current_database() AND has_database_privilege('public', d.oid, 'CONNECT')

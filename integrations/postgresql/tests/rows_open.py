@@ -3,6 +3,8 @@ of it."""
 import os
 import subprocess
 
+from monitor import TOP
+
 
 def found(world, finding):
     return world.ask("postgres", f"SELECT name FROM mls.audit() WHERE finding = '{finding}';").splitlines()
@@ -148,6 +150,34 @@ def test_a_role_sees_its_own_queries(world):
     low.close()
 
 
+def typed():
+    """What DEPLOYING-POSTGRESQL.md has an administrator type into psql, where the roles are there already."""
+    with open(f"{TOP}/docs/DEPLOYING-POSTGRESQL.md", encoding="utf-8") as file:
+        lines = file.read().split("su postgres -c psql <<'END'\n")[1].split("    END\n")[0].splitlines()
+    return "\n".join(line.strip() for line in lines if "CREATE ROLE" not in line)
+
+
+def set_system(world, value):
+    names = ("track_activities", "synchronize_seqscans")
+    for name in names:
+        world.ask("postgres", f"ALTER SYSTEM {value.format(name)};")
+    due = "off\n" * len(names) if "off" in value else "on\n" * len(names)
+    world.ask("postgres", "SELECT pg_reload_conf();")
+    while world.ask("postgres", "".join(f"SHOW {name};" for name in names)) != due:
+        pass
+
+
+def test_the_page_ends_with_nothing_found(world):
+    set_system(world, "SET {} = off")
+    assert world.server.ask("postgres", typed(), "postgres") == ""
+    world.same([("bob", "SELECT 1;", "psql: error: connection to server on socket "
+                                     f"\"{world.folder}/.s.PGSQL.5432\" failed: FATAL:  permission denied for database "
+                                     "\"demo\"\nDETAIL:  User does not have CONNECT privilege.\n"),
+                ("postgres", "DROP DATABASE office; "
+                             "GRANT CONNECT ON DATABASE demo, postgres, template1 TO public;", "")])
+    set_system(world, "RESET {}")
+
+
 def test_counters_go_on_by_leave(world):
     world.same([("postgres", "CREATE SEQUENCE counter; GRANT ALL ON SEQUENCE counter TO ann, bob;", "")])
     with world.opened("nextval_up"):
@@ -163,7 +193,8 @@ def test_the_audit_names_all(world):
     world.same([
         ("postgres", "SELECT finding, name FROM mls.audit() WHERE finding <> 'function that tells';",
          "activity that others see|track_activities\nkey that tells|d.docs_pkey on d.docs\n"
-         "other database|postgres\nother database|template1\ntable without protection|d.scratch\n"),
+         "other database|postgres\nother database|template1\nsetting that tells|synchronize_seqscans\n"
+         "table without protection|d.scratch\n"),
         ("postgres", "CREATE FUNCTION high() RETURNS bigint LANGUAGE sql SECURITY DEFINER AS 'SELECT count(*) "
                      "FROM d.docs'; CREATE EXTENSION hstore;", ""),
         ("bob", "SELECT d.high();", "5\n"),
@@ -180,7 +211,7 @@ def test_the_audit_names_all(world):
                      "CREATE FOREIGN TABLE f (x int) SERVER s; CREATE TABLE hers (label mls.label); "
                      "CALL mls.protect('hers'); ALTER TABLE hers OWNER TO ann; "
                      "SELECT finding, name FROM mls.audit() WHERE name NOT LIKE '%pkey%' AND name <> 'd.scratch'AND "
-                     "finding !~ '^(activity|function|other)';",
+                     "finding !~ '^(activity|function|other|setting)';",
          "WARNING:  wal_level is insufficient to publish logical changes\nforeign table|d.f\nmaterialized view|d.m\n"
          "owner that logs in|d.hers: ann\npublication|p\ntable without protection|d.part1\n"),
         ("postgres", "DROP TABLE parts; DROP MATERIALIZED VIEW m; DROP PUBLICATION p; DROP FOREIGN TABLE f; "
