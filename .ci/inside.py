@@ -10,6 +10,9 @@ import subprocess
 import sys
 
 SIOCGIFFLAGS, SIOCSIFFLAGS, UP = 0x8913, 0x8914, 1
+DEVICES = ("null", "zero", "full", "random", "urandom", "tty")
+ENVIRONMENT = {"PATH": "/usr/sbin:/usr/bin:/sbin:/bin", "HOME": "/root", "USER": "root", "LC_ALL": "C.UTF-8",
+               "DEBIAN_FRONTEND": "noninteractive"}  # fmt: skip
 
 
 def begin_loopback():
@@ -22,17 +25,27 @@ def mount(*words):
     subprocess.run(["mount", *words], check=True)
 
 
+def mount_devices(folder):
+    mount("-t", "tmpfs", "devices", folder)
+    for name in DEVICES:
+        open(f"{folder}/{name}", "wb").close()
+        mount("--bind", f"/dev/{name}", f"{folder}/{name}")
+    os.symlink("/proc/self/fd", f"{folder}/fd")
+    os.mkdir(f"{folder}/shm")
+    os.chmod(f"{folder}/shm", 0o1777)
+
+
 def main(system, *words):
     begin_loopback()
     mount("-t", "proc", "proc", f"{system}/proc")
-    mount("--rbind", "/dev", f"{system}/dev")
-    mount("-t", "tmpfs", "shm", f"{system}/dev/shm")
-    os.chroot(system)
-    os.chdir("/root")
-    # (what a command leaves behind is a child of this one, and ends with it)
-    done = subprocess.run(words, env={"PATH": "/usr/sbin:/usr/bin:/sbin:/bin", "HOME": "/root", "LC_ALL": "C.UTF-8",
-                                      "DEBIAN_FRONTEND": "noninteractive", "USER": "root"})
-    sys.stdout.flush()
+    mount_devices(f"{system}/dev")
+
+    def enter():
+        os.chroot(system)
+        os.chdir("/root")
+
+    # (this process has another root, by which systemctl knows; what a command leaves behind ends with this one)
+    done = subprocess.run(words, env=ENVIRONMENT, preexec_fn=enter)
     os._exit(done.returncode if done.returncode >= 0 else 128 - done.returncode)
 
 

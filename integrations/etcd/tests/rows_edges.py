@@ -143,9 +143,9 @@ def test_a_malformed_digest(world):
     with Single(world.start) as single:
         one, two = (Replica(single, name).begin().serves() for name in ("one", "two"))
         single.etcdctl("put", "mls/digest/x", "12 rubbish", check=True)
-        for it in (one, two, one.begin()):
+        for it in (one, two):
             assert it.ends("mls/digest/x: is no digest: '12 rubbish'") == 3
-        for value in ("", "12", "1000 " + "0" * 63, "0 " + "0" * 64, "1000 " + "0" * 64 + "\n"):
+        for value in ("12 rubbish", "", "12", "1000 " + "0" * 63, "0 " + "0" * 64, "1000 " + "0" * 64 + "\n"):
             single.etcdctl("put", "mls/digest/x", "--", value, check=True)
             assert one.begin().ends("mls/digest/x: is no digest: ") == 3
         single.etcdctl("del", "mls/digest/x", check=True)
@@ -161,8 +161,9 @@ def test_a_rubbish_batch(world):
             one.asks(2)
             number = 1 + one.stats()["batch"]
             single.etcdctl("put", "mls/log", "--", rubbish, check=True)
-            for it in (one, two, one.begin()):
+            for it in (one, two):
                 assert it.ends(f"mls/log: batch {number} is none that a replica writes") == 3, rubbish
+            assert one.begin().ends(f"mls/log: batch {number} is none that a replica writes") == 3, rubbish
             assert one.entries().count(b"\n") == 2
             done = single.log_lines()
             assert done.returncode == 3 and f"mls/log: batch {number} is none" in done.stderr, done
