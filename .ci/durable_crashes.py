@@ -286,16 +286,7 @@ def crash_during_a_recovery():
 
 
 CHECKS = [kills_under_a_client_that_writes]
-OVER_THE_SHIM = [
-    disk_that_fails,
-    lock_and_read_that_fail,
-    writes_that_take_little,
-    answers_wait_for_the_sync,
-    batches_of_long_reads,
-    torn_end_is_kept_before_it_is_cut,
-    folder_of_a_journal_by_a_link,
-    client_that_looks_at_the_synced_copy,
-    batch_that_was_not_synced,
-    batch_that_is_anything,
-    crash_during_a_recovery,
-]
+OVER_THE_SHIM = [disk_that_fails, lock_and_read_that_fail, writes_that_take_little, answers_wait_for_the_sync,
+                 batches_of_long_reads, torn_end_is_kept_before_it_is_cut, folder_of_a_journal_by_a_link,
+                 client_that_looks_at_the_synced_copy, batch_that_was_not_synced, batch_that_is_anything,
+                 crash_during_a_recovery]

@@ -434,26 +434,9 @@ def bytes_of_a_segment():
         same((words, status, output, os.path.exists("b")), (words, 2, b"", False))
 
 
-CHECKS = [*map(in_its_folder, [
-    journal_that_is_cut,
-    service_that_goes_on,
-    objects_that_keep_their_numbers,
-    readers_of_segments,
-    service_without_segments,
-    other_start,
-    segments_elsewhere,
-    segment_that_is_missing,
-    segment_that_is_forged,
-    state_that_is_forged,
-    file_that_is_missing,
-    file_that_is_empty,
-    state_behind_the_entries,
-    state_behind_a_cut,
-    state_behind_the_marks,
-    file_whose_first_line_is_damaged,
-    folder_with_other_names,
-    moments_between_the_steps,
-    kills_between_segments,
-    bytes_of_a_segment,
-])]
+CHECKS = [*map(in_its_folder, [journal_that_is_cut, service_that_goes_on, objects_that_keep_their_numbers,
+               readers_of_segments, service_without_segments, other_start, segments_elsewhere, segment_that_is_missing,
+               segment_that_is_forged, state_that_is_forged, file_that_is_missing, file_that_is_empty,
+               state_behind_the_entries, state_behind_a_cut, state_behind_the_marks, file_whose_first_line_is_damaged,
+               folder_with_other_names, moments_between_the_steps, kills_between_segments, bytes_of_a_segment])]
 OVER_THE_SHIM = [*map(in_its_folder, [step_that_fails, kill_before_each_step])]
