@@ -275,8 +275,9 @@ def sync_of_marks_before_a_segment_is_closed():
         same(steps[place - 1], "sync m")
     # (where the machine is slow MARKS is synced once more before, since a second has passed)
     same(next(step for step in reversed(steps[: closings[0]]) if step != "sync m"), "write m")
-    of_marks = [call for call, name, *_ in calls[: closings[1]] if name == "m"]
-    for call, place in [(it, count) for it in ("write", "sync") for count in range(1, of_marks.count(it) + 1)]:
+    # (of the syncs those that are always there: before the first mark, and before each file is closed)
+    counts = {"write": steps[: closings[1]].count("write m"), "sync": steps[: steps.index("write m")].count("sync m") + 2}
+    for call, place in [(it, count) for it, most in counts.items() for count in range(1, most + 1)]:
         for errno in (ENOSPC, EIO):
             due, status, said, written, error, _ = run_over_a_disk(of="m", call=call, fail=place, errno=errno)
             what = (call, place, errno)
