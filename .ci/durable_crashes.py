@@ -1,31 +1,21 @@
 """What mls serve leaves where it is killed, where the disk fails, and where a crash takes what wasn't synced; and how it goes on."""
-import concurrent.futures
 import glob
 import itertools
 import os
 import random
 import re
 import signal
-import threading
 from errno import EIO, ENOLCK, ENOSPC
 
+import crashing
+from crashing import CALLS, KILLS_OF_A_JOURNAL, asked_in_batches, calls_noted, count_of, cut_line, killed_once, kills, many_recovered, notes_of
 from outside import SECONDS, needs_proof, put, same, shown
 from serving import LINES, REQUESTS, Due, Serving, content, failed, is_kept, ready, served, shim, status_of
 
-KILLS = 300
-# After so many of them the journal begins anew.
-KILLS_OF_A_JOURNAL = 25
-# A kill comes at most so many seconds after the start of the service, or after it was ready.
-LATEST_KILL = 0.03
 # The most bytes of entries that are appended between two syncs, and of a read.
 BATCH = 65_536
 # Batches that a client asks one after the other, each once the one before is answered; the third has no entry.
 BATCHES = [[LINES[0], LINES[2]], [LINES[1]], [LINES[6], LINES[7]], [LINES[3], LINES[4], LINES[5], LINES[8]], [LINES[0]]]
-
-
-def count_of(journal):
-    """How many whole lines a journal has."""
-    return journal.count(b"\n")
 
 
 def recovered(journal, before, due, written, flags=("--recover",)):
@@ -40,74 +30,12 @@ def recovered(journal, before, due, written, flags=("--recover",)):
     return now
 
 
-def cut_line(journal, count):
-    """What is told where what stands behind so many entries was cut off."""
-    place = b"after entry %d" % (count - 1) if count else b"before entry 0"
-    return b"mls: %s: cut %s\n" % (journal.encode(), place)
-
-
-def killed_while_it_serves(rnd, run, due, said, latest=LATEST_KILL):
-    """Kills a service while its client writes and reads: at some moment behind its start, behind the line that says it is ready, or, half of
-    the times, behind its first answer. Returns what it wrote."""
-    behind = rnd.choice((0, len(said), len(said) + 1, len(said) + 1))
-    output = run.read(min(behind, len(said)))
-    run.feed(due.asked, rnd.choice((20, 200, 5_000, 70_000)), closes=False)
-    output += run.read(behind - len(output))
-    killer = threading.Timer(rnd.uniform(0, latest), run.run.kill)
-    killer.start()
-    output += run.run.stdout.read()
-    killer.join()
-    same(run.run.wait(), -signal.SIGKILL)
-    assert said.startswith(output[: len(said)]), shown(output[:100])
-    return output
-
-
-def is_killed_once(rnd, journal, before):
-    """A service is killed at some moment while its client writes and reads; then it is recovered. Returns the journal, and how many bytes of
-    answers the client had got."""
-    due, said = Due(rnd.choices(LINES, k=1_500), count_of(before)), ready(count_of(before))
-    with Serving(journal, "--recover") as run:
-        output = killed_while_it_serves(rnd, run, due, said)
-    written = output[len(said):]
-    is_kept(content(journal), before, due, written)
-    return recovered(journal, before, due, written), len(written)
-
-
 @needs_proof
 def kills_under_a_client_that_writes():
     """300 times: every answer that the client had got is in the journal, and after --recover too."""
-    rnd, before, answered = random.Random(39), b"", []
-    for turn in range(KILLS):
-        if turn % KILLS_OF_A_JOURNAL == 0:
-            put("k", b"")
-            before = b""
-        before, written = is_killed_once(rnd, "k", before)
-        answered.append(written)
-    many = sum(count > 0 for count in answered)
-    assert many > KILLS // 4, f"only {many} were killed after an answer"
-
-
-def asked_in_batches(run, batches, first):
-    """Asks batches, each once the one before is answered, as long as they are; returns what was written in all."""
-    written = b""
-    for batch in batches:
-        due = Due(batch, first)
-        first = due.next
-        try:
-            run.ask(due.asked)
-        except BrokenPipeError:
-            return written
-        part = run.read(len(due.answers))
-        written += part
-        if part != due.answers:
-            return written
-    return written
-
-
-def notes_of(name):
-    """The lines that the shim noted: what was asked, the file, the bytes, and whether it was done."""
-    lines = content(name).decode().splitlines() if os.path.exists(name) else []
-    return [(asked, file, int(count), done == "ok") for asked, file, count, done in (line.split() for line in lines)]
+    once = lambda rnd, before: killed_once(rnd, "k", (), rnd.choices(LINES, k=1_500), before, lambda: content("k"),
+                                           lambda *it: recovered("k", *it))
+    kills(39, crashing.KILLS, KILLS_OF_A_JOURNAL, lambda: put("k", b""), once)
 
 
 FRONT = Due(REQUESTS[:3])
@@ -142,14 +70,10 @@ def calls_of_a_run():
     status, said, written, error = run_over_a_disk()
     same((status, said, written, error), (0, ready(3), Due(ALL, 3).answers, b"mls: f: cut after entry 2\n"))
     same(content("f"), FRONT.journal + Due(ALL, 3).journal)
-    calls = [note for note in notes_of("f.notes") if note[1] != "out"]
+    calls = calls_noted("f.notes")
     kinds = {(asked, file) for asked, file, *_ in calls}
     assert {("write", "f"), ("sync", "f"), ("cut", "f"), ("write", "f.torn"), ("sync", "f.torn")} <= kinds, kinds
     return calls
-
-
-# What is told of the calls that are counted.
-CALLS = {"write": "append", "sync": "sync", "cut": "cut"}
 
 
 def is_left_well(calls, errno, said, written, error):
@@ -186,7 +110,7 @@ def disk_that_fails():
             for front in (0, 1, 7, 30) if call[0] == "write" else (0,):
                 status, said, written, error = run_over_a_disk(fail=place, errno=errno, front=front)
                 same((call, status), (call, status_of(CALLS[call[0]])))
-                noted = [it for it in notes_of("f.notes") if it[1] != "out"]
+                noted = calls_noted("f.notes")
                 same((call, len(noted), noted[-1][:2], noted[-1][3]), (call, place, call[:2], False))
                 is_left_well(calls[:place], errno, said, written, error)
     status, _, written, _ = run_over_a_disk(fail=len(calls) + 1, errno=EIO)
@@ -288,25 +212,6 @@ def client_that_looks_at_the_synced_copy():
         same(run.end(), (0, b"", b""))
 
 
-def many_recovered(files, judge):
-    """Recovers files side by side, each by a service of its own, and judges each by its content before, the status, and its content after."""
-
-    def one(numbered):
-        place, file = numbered
-        name = put(f"crash{place}", file)
-        try:
-            status, output, error = served(b"", name, "--recover")
-            judge(file, status, output, error.replace(name.encode(), b"t"), content(name))
-        finally:
-            for it in (name, f"{name}.torn"):
-                if os.path.exists(it):
-                    os.remove(it)
-
-    with concurrent.futures.ThreadPoolExecutor(len(os.sched_getaffinity(0))) as pool:
-        for _ in pool.map(one, enumerate(files)):
-            pass
-
-
 def killed_between_append_and_sync():
     """The journal as it was at the last sync, and what a kill before the next one left behind it."""
     status, said, written, _ = run_over_a_disk(kill=1 + last_append(calls_of_a_run(), 3))
@@ -381,16 +286,7 @@ def crash_during_a_recovery():
 
 
 CHECKS = [kills_under_a_client_that_writes]
-OVER_THE_SHIM = [
-    disk_that_fails,
-    lock_and_read_that_fail,
-    writes_that_take_little,
-    answers_wait_for_the_sync,
-    batches_of_long_reads,
-    torn_end_is_kept_before_it_is_cut,
-    folder_of_a_journal_by_a_link,
-    client_that_looks_at_the_synced_copy,
-    batch_that_was_not_synced,
-    batch_that_is_anything,
-    crash_during_a_recovery,
-]
+OVER_THE_SHIM = [disk_that_fails, lock_and_read_that_fail, writes_that_take_little, answers_wait_for_the_sync,
+                 batches_of_long_reads, torn_end_is_kept_before_it_is_cut, folder_of_a_journal_by_a_link,
+                 client_that_looks_at_the_synced_copy, batch_that_was_not_synced, batch_that_is_anything,
+                 crash_during_a_recovery]

@@ -144,12 +144,11 @@ BAD_TIMES = [
     b"2026-11-26T08:00:01.203944z", b"2026-11-26T08:00:01,203944Z", b"2026-11-26T08:00:01.20394Z", b"2026-11-26T08:00:01.2039441Z",
     b"2026-11-26T08:00:01.203944+00:00", b"2026-11-26 08:00:01.203944Z", b"2026-11-26T08:00:01.20394xZ", b"-026-11-26T08:00:01.203944Z",
 ]
-NO_MARKS = [
-    b"\n", b"x\n", b"0\n", ONE[1:], ONE[:-1] + b"\r\n", b" " + ONE, ONE[:-1] + b" \n", ONE.replace(b" ", b"  ", 1), ONE.replace(b"Z ", b"Z  "),
-    b"0" + ONE, b"+" + ONE, b"-" + ONE, b"x" + ONE, b"18446744073709551616" + ONE[1:], ONE.replace(b" ", b"\t"), ONE.upper().replace(b"z", b"Z"),
-    ONE[:-2] + b"\n", ONE[:-1] + b"0\n", ONE[:-2] + b"g\n", 200_000 * b"x" + b"\n", ONE[:-1] + ONE, b"\xff\n",
-    *(changed(ONE, 1, lambda _, text=text: text) for text in BAD_TIMES),
-]
+NO_MARKS = [b"\n", b"x\n", b"0\n", ONE[1:], ONE[:-1] + b"\r\n", b" " + ONE, ONE[:-1] + b" \n",
+            ONE.replace(b" ", b"  ", 1), ONE.replace(b"Z ", b"Z  "), b"0" + ONE, b"+" + ONE, b"-" + ONE, b"x" + ONE,
+            b"18446744073709551616" + ONE[1:], ONE.replace(b" ", b"\t"), ONE.upper().replace(b"z", b"Z"),
+            ONE[:-2] + b"\n", ONE[:-1] + b"0\n", ONE[:-2] + b"g\n", 200_000 * b"x" + b"\n", ONE[:-1] + ONE, b"\xff\n",
+            *(changed(ONE, 1, lambda _, text=text: text) for text in BAD_TIMES)]
 
 
 def flip(digest):
@@ -414,9 +413,8 @@ def thread_that_cannot_be_started():
         same(pair(), (FRONT, ONE))
 
 
-CHECKS = [*map(in_its_folder, [
-    a_mark_for_each_batch, marks_that_a_service_goes_on_with, entries_that_have_no_mark, words_of_marks, lines_that_are_no_marks,
-    marks_of_another_journal, torn_end_that_marks_cover, ends_of_marks_that_are_torn, both_ends_torn, marks_that_are_no_file,
-    marks_that_are_in_use, marks_that_are_another_file, modes_of_marks_that_are_made, faults_before_the_marks, input_that_ends_otherwise,
-    marks_of_more_than_a_piece, thread_that_cannot_be_started,
-])]
+CHECKS = [*map(in_its_folder, [a_mark_for_each_batch, marks_that_a_service_goes_on_with, entries_that_have_no_mark,
+               words_of_marks, lines_that_are_no_marks, marks_of_another_journal, torn_end_that_marks_cover,
+               ends_of_marks_that_are_torn, both_ends_torn, marks_that_are_no_file, marks_that_are_in_use,
+               marks_that_are_another_file, modes_of_marks_that_are_made, faults_before_the_marks,
+               input_that_ends_otherwise, marks_of_more_than_a_piece, thread_that_cannot_be_started])]

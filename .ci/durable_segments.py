@@ -3,18 +3,16 @@ import os
 import random
 import shutil
 import signal
-import subprocess
 from errno import EIO, ENOSPC
 
-from durable_crashes import killed_while_it_serves
-from outside import IS_PROVED, SECONDS, in_its_folder, needs_proof, put, ran_program, same, some
+import crashing
+from crashing import CALLS, KILLS_OF_A_JOURNAL, count_of, killed_once, kills, run_of_lines
+from outside import IS_PROVED, in_its_folder, needs_proof, put, ran_program, same, some
 from segments import joined, numbered, remove, segment, state
-from serving import LINES, STANDARD, Due, Serving, content, is_kept, is_refused, mode_of, ready, served, shim, status_of, words_of
+from serving import LINES, STANDARD, Due, content, is_kept, is_refused, mode_of, ready, served, status_of
 
 SEGMENT = 4_096
 CUT = ("--segment", str(SEGMENT))
-KILLS = 300
-KILLS_OF_A_JOURNAL = 25
 
 
 def drawn(count, first=0, seed=52):
@@ -370,23 +368,10 @@ def moments_between_the_steps():
 
 
 def run_over_a_disk(**words):
-    """Serves the lines of a file, all by one read, over a journal in segments and over the shim. Returns what is due, the status, what was
-    written before and for the answers, the error text and the calls on files."""
+    """Serves lines over a journal in segments, anew, and over the shim. Returns what is due, and what run_of_lines does."""
     remove("d")
-    if os.path.exists("notes"):
-        os.remove("notes")
     due = drawn(400)
-    put("lines", due.asked)
-    env = shim(notes=os.path.abspath("notes"), **words)
-    with open("lines", "rb") as lines:
-        done = subprocess.run(words_of("d", *CUT), stdin=lines, capture_output=True, timeout=SECONDS, env=env)
-    said = ready(0) if done.stdout.startswith(ready(0)) else b""
-    notes = [line.split() for line in content("notes").decode().splitlines()] if os.path.exists("notes") else []
-    calls = [note for note in notes if note[1] != "out"]
-    return due, done.returncode, said, done.stdout[len(said):], done.stderr, calls
-
-
-CALLS = {"write": "append", "sync": "sync", "rename": "rename", "link": "link"}
+    return due, *run_of_lines("d", due, *CUT, **words)
 
 
 @needs_proof
@@ -405,7 +390,7 @@ def step_that_fails():
         for errno in (ENOSPC, EIO):
             _, status, said, written, error, noted = run_over_a_disk(fail=number, errno=errno)
             same((number, call, name, status), (number, call, name, status_of(CALLS[call])))
-            same((number, len(noted), noted[-1][3]), (number, number, "failed"))
+            same((number, len(noted), noted[-1][3]), (number, number, False))
             assert CALLS[call].encode() in error and os.strerror(errno).encode() in error, error
             if said:
                 is_kept(joined("d"), b"", due, written)
@@ -418,37 +403,18 @@ def goes_on(journal, before, due, written):
     same(status, 0)
     now = joined(journal)
     is_kept(now, before, due, written)
-    same(output, ready(now.count(b"\n")))
+    same(output, ready(count_of(now)))
     return now
-
-
-def is_killed_once(rnd, journal, before):
-    due = Due(rnd.choices(LINES, k=1_500), before.count(b"\n"))
-    said = ready(before.count(b"\n"))
-    with Serving(journal, *CUT, "--recover") as run:
-        output = killed_while_it_serves(rnd, run, due, said)
-    written = output[len(said):]
-    # (the first may be killed before it has made the file)
-    left = joined(journal) if before or os.path.exists(journal) else b""
-    is_kept(left, before, due, written)
-    return goes_on(journal, before, due, written), len(written)
 
 
 @needs_proof
 def kills_between_segments():
     """300 times: every answer that the client had got is in the files, which together are one legal journal, and each state is that of its
     entry."""
-    rnd, before, answered = random.Random(52), b"", []
-    for turn in range(KILLS):
-        if turn % KILLS_OF_A_JOURNAL == 0:
-            remove("k")
-            before = b""
-        before, written = is_killed_once(rnd, "k", before)
-        answered.append(written)
-        if turn % KILLS_OF_A_JOURNAL == KILLS_OF_A_JOURNAL - 1:
-            is_cut_well("k", before)
-    many = sum(count > 0 for count in answered)
-    assert many > KILLS // 4, f"only {many} were killed after an answer"
+    # (the first may be killed before it has made the file)
+    left = lambda: joined("k") if os.path.exists("k") or numbered("k") else b""
+    once = lambda rnd, before: killed_once(rnd, "k", CUT, rnd.choices(LINES, k=1_500), before, left, lambda *it: goes_on("k", *it))
+    kills(52, crashing.KILLS, KILLS_OF_A_JOURNAL, lambda: remove("k"), once, lambda before: is_cut_well("k", before))
 
 
 @needs_proof
@@ -468,26 +434,9 @@ def bytes_of_a_segment():
         same((words, status, output, os.path.exists("b")), (words, 2, b"", False))
 
 
-CHECKS = [*map(in_its_folder, [
-    journal_that_is_cut,
-    service_that_goes_on,
-    objects_that_keep_their_numbers,
-    readers_of_segments,
-    service_without_segments,
-    other_start,
-    segments_elsewhere,
-    segment_that_is_missing,
-    segment_that_is_forged,
-    state_that_is_forged,
-    file_that_is_missing,
-    file_that_is_empty,
-    state_behind_the_entries,
-    state_behind_a_cut,
-    state_behind_the_marks,
-    file_whose_first_line_is_damaged,
-    folder_with_other_names,
-    moments_between_the_steps,
-    kills_between_segments,
-    bytes_of_a_segment,
-])]
+CHECKS = [*map(in_its_folder, [journal_that_is_cut, service_that_goes_on, objects_that_keep_their_numbers,
+               readers_of_segments, service_without_segments, other_start, segments_elsewhere, segment_that_is_missing,
+               segment_that_is_forged, state_that_is_forged, file_that_is_missing, file_that_is_empty,
+               state_behind_the_entries, state_behind_a_cut, state_behind_the_marks, file_whose_first_line_is_damaged,
+               folder_with_other_names, moments_between_the_steps, kills_between_segments, bytes_of_a_segment])]
 OVER_THE_SHIM = [*map(in_its_folder, [step_that_fails, kill_before_each_step])]

@@ -4,7 +4,7 @@ import signal
 import subprocess
 import time
 
-from durable_crashes import cut_line
+from crashing import cut_line
 from outside import SECONDS, TOP, put, same
 from serving import LINES, REQUESTS, Due, Serving, content, is_refused, mode_of, ready, served
 

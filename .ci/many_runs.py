@@ -20,7 +20,7 @@ import tempfile
 
 sys.dont_write_bytecode = True
 import policy
-from outside import EXAMPLES, PROGRAM, SECONDS, put, shown
+from outside import PROGRAM, SECONDS, put, shown
 
 SCRIPTS, LINES = 64, 120
 MODES = policy.MODES

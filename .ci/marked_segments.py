@@ -1,19 +1,17 @@
 """Marks beside segments: one chain over all files of a journal, no mark of two, and MARKS synced before a file is closed; what a start
 compares, what it refuses, and what only mls verify finds."""
 import os
-import random
 import signal
-import subprocess
 from errno import EIO, ENOSPC
 
-import durable_segments
+import crashing
 import marks
-from durable_crashes import killed_while_it_serves
+from crashing import CALLS, KILLS_OF_A_JOURNAL, count_of, killed_once, kills, run_of_lines
 from durable_marks import flip, verified, verify
-from durable_segments import CUT, KILLS_OF_A_JOURNAL, SEGMENT, drawn, is_cut_well
-from outside import SECONDS, in_its_folder, needs_proof, put, ran_program, same
-from segments import joined, numbered, remove, segment
-from serving import LINES, STANDARD, Due, Serving, content, failed, is_kept, ready, served, shim, words_of
+from durable_segments import CUT, SEGMENT, drawn, is_cut_well
+from outside import in_its_folder, needs_proof, put, ran_program, same
+from segments import joined, numbered, remove, segment, state
+from serving import LINES, STANDARD, Serving, content, failed, is_kept, ready, served
 
 BOTH = (*CUT, "--marks", "m")
 
@@ -230,7 +228,7 @@ def marks_of_an_archive():
 def state_that_is_forged_under_marks():
     """mls verify compares the states, as mls replay does."""
     filled("t")
-    last = durable_segments.state("t", numbered("t", "state.")[-1])
+    last = state("t", numbered("t", "state.")[-1])
     forged = content(last).replace(b"permit aud read plans\n", b"", 1)
     assert forged != content(last)
     put(last, forged)
@@ -246,56 +244,23 @@ def goes_on(journal, before, due, written):
     same(status, 0)
     now = joined(journal)
     is_kept(now, before, due, written)
-    same(output, ready(now.count(b"\n")))
+    same(output, ready(count_of(now)))
     is_marked(journal)
     return now
-
-
-def is_killed_once(rnd, journal, before):
-    due = Due(rnd.choices(LINES, k=1_500), before.count(b"\n"))
-    said = ready(before.count(b"\n"))
-    with Serving(journal, *BOTH, "--recover") as run:
-        output = killed_while_it_serves(rnd, run, due, said)
-    written, now = output[len(said):], joined(journal)
-    is_kept(now, before, due, written)
-    noted = content("m") if os.path.exists("m") else b""
-    covered = marks.covered(now, marks.read(noted[: noted.rfind(b"\n") + 1]))
-    needed = (before + due.behind(written)).count(b"\n")
-    assert not output or covered >= needed, f"{needed} entries were answered, {covered} have a mark"
-    return goes_on(journal, before, due, written), len(written)
 
 
 @needs_proof
 def kills_between_segments_that_are_marked():
     """Every answer that the client had got is in the files, with its mark, and the next service goes on."""
-    rnd, before, answered = random.Random(5250), b"", []
-    for turn in range(durable_segments.KILLS):
-        if turn % KILLS_OF_A_JOURNAL == 0:
-            emptied("k")
-            before = b""
-        before, written = is_killed_once(rnd, "k", before)
-        answered.append(written)
-        if turn % KILLS_OF_A_JOURNAL == KILLS_OF_A_JOURNAL - 1:
-            is_cut_well("k", before)
-    many = sum(count > 0 for count in answered)
-    assert many > durable_segments.KILLS // 4, f"only {many} were killed after an answer"
+    once = lambda rnd, before: killed_once(rnd, "k", BOTH, rnd.choices(LINES, k=1_500), before, lambda: joined("k"), lambda *it: goes_on("k", *it), True)
+    kills(5250, crashing.KILLS, KILLS_OF_A_JOURNAL, lambda: emptied("k"), once, lambda before: is_cut_well("k", before))
 
 
 def run_over_a_disk(**words):
-    """Serves the lines of a file, all by one read, over the shim. Returns what is due, the status, what was written before and for the
-    answers, the error text and the calls on files."""
+    """Serves lines over a journal in segments with marks, anew, and over the shim. Returns what is due, and what run_of_lines does."""
     emptied("d")
-    if os.path.exists("notes"):
-        os.remove("notes")
     due = drawn(400)
-    put("lines", due.asked)
-    env = shim(notes=os.path.abspath("notes"), **words)
-    with open("lines", "rb") as lines:
-        done = subprocess.run(words_of("d", *BOTH), stdin=lines, capture_output=True, timeout=SECONDS, env=env)
-    said = ready(0) if done.stdout.startswith(ready(0)) else b""
-    notes = [line.split() for line in content("notes").decode().splitlines()] if os.path.exists("notes") else []
-    calls = [note for note in notes if note[1] != "out"]
-    return due, done.returncode, said, done.stdout[len(said):], done.stderr, calls
+    return due, *run_of_lines("d", due, *BOTH, **words)
 
 
 def sync_of_marks_before_a_segment_is_closed():
@@ -308,13 +273,15 @@ def sync_of_marks_before_a_segment_is_closed():
     assert len(closings) > 1, steps
     for place in closings:
         same(steps[place - 1], "sync m")
-    same(steps[closings[0] - 2], "write m")
-    of_marks = [call for call, name, *_ in calls[: closings[1]] if name == "m"]
-    for call, place in [(it, count) for it in ("write", "sync") for count in range(1, of_marks.count(it) + 1)]:
+    # (where the machine is slow MARKS is synced once more before, since a second has passed)
+    same(next(step for step in reversed(steps[: closings[0]]) if step != "sync m"), "write m")
+    # (of the syncs those that are always there: before the first mark, and before each file is closed)
+    counts = {"write": steps[: closings[1]].count("write m"), "sync": steps[: steps.index("write m")].count("sync m") + 2}
+    for call, place in [(it, count) for it, most in counts.items() for count in range(1, most + 1)]:
         for errno in (ENOSPC, EIO):
             due, status, said, written, error, _ = run_over_a_disk(of="m", call=call, fail=place, errno=errno)
             what = (call, place, errno)
-            same((what, status, error), (what, 5, failed("m", {"write": "append", "sync": "sync"}[call], errno)))
+            same((what, status, error), (what, 5, failed("m", CALLS[call], errno)))
             done = [number for number in numbered("d", "state.")]
             assert len(done) < 2, (what, done)
             same((what, bool(numbered("d"))), (what, bool(done)))
@@ -327,7 +294,7 @@ def kill_before_each_call_on_marks():
     """A kill before each call on MARKS, and before each call that closes a file, loses nothing that was answered."""
     _, _, _, _, _, calls = run_over_a_disk()
     for call in ("write", "sync"):
-        for place in range(1, min(sum(note[:2] == [call, "m"] for note in calls), 12) + 1):
+        for place in range(1, min(sum(note[:2] == (call, "m") for note in calls), 12) + 1):
             due, status, _, written, _, _ = run_over_a_disk(of="m", call=call, kill=place)
             same((call, place, status), (call, place, -signal.SIGKILL))
             goes_on("d", b"", due, written)
@@ -335,5 +302,5 @@ def kill_before_each_call_on_marks():
 
 CHECKS = [*map(in_its_folder, [marks_of_a_journal_that_is_cut, start_over_marks, marks_that_are_no_end_of_a_segment,
            marks_begun_later, segment_that_is_forged_with_its_marks, marks_of_an_archive,
-           state_that_is_forged_under_marks, kills_between_segments_that_are_marked, ])]
+           state_that_is_forged_under_marks, kills_between_segments_that_are_marked])]
 OVER_THE_SHIM = [*map(in_its_folder, [sync_of_marks_before_a_segment_is_closed, kill_before_each_call_on_marks])]

@@ -11,7 +11,7 @@ import threading
 import time
 
 import marks
-from durable_crashes import CALLS, LATEST_KILL, asked_in_batches, count_of, cut_line, killed_while_it_serves, notes_of
+from crashing import CALLS, LATEST_KILL, are_marked, asked_in_batches, count_of, cut_line, killed_once, kills, notes_of
 from durable_marks import FRONT, MARKED, ONE, TORN_ENTRY, TORN_MARK, is_marked, marked, pair, put_pair
 from outside import IS_PROVED, PROGRAM, SECONDS, Started, in_its_folder, put, rounds, same, shown, some
 from serving import IN_SESSIONS, LINES, STANDARD, Due, Serving, content, failed, is_kept, ready, shim, status_of
@@ -45,33 +45,20 @@ def is_lost_nothing(before, due, written):
 def is_killed_once(rnd, before):
     """A service is killed at some moment while its client writes and reads. By then each answered entry is there, with its mark; and so it is
     after a recovery."""
-    has_sessions = rnd.random() < 0.7
-    due = Due(rnd.choices(IN_SESSIONS if has_sessions else LINES, k=LINES_OF_A_KILL), count_of(before))
-    said, noted = ready(count_of(before)), content("m") if os.path.exists("m") else b""
-    with Serving("f", "--recover", *MARKED, *(["--sessions"] if has_sessions else [])) as run:
-        output = killed_while_it_serves(rnd, run, due, said, LATEST)
-    written = output[len(said):]
-    journal = content("f")
-    is_kept(journal, before, due, written)
-    found = content("m") if os.path.exists("m") else b""
-    assert found.startswith(noted), "marks are lost"
-    covered = marks.covered(journal, marks.read(found[: found.rfind(b"\n") + 1]))
-    needed = count_of(before + due.behind(written))
-    assert not output or covered >= needed, f"{needed} entries were answered, {covered} have a mark"
-    return is_lost_nothing(before, due, written), len(written)
+    has_sessions, noted = rnd.random() < 0.7, content("m") if os.path.exists("m") else b""
+
+    def left():
+        assert (content("m") if os.path.exists("m") else b"").startswith(noted), "marks are lost"
+        return content("f")
+
+    lines, flags = (IN_SESSIONS, ["--sessions"]) if has_sessions else (LINES, [])
+    lines = rnd.choices(lines, k=LINES_OF_A_KILL)
+    return killed_once(rnd, "f", [*MARKED, *flags], lines, before, left, is_lost_nothing, True, LATEST)
 
 
 def kills_under_a_client_that_is_marked():
     """Every answer that the client had got is in the journal, and its entry has a mark."""
-    rnd, before, answered = random.Random(50), b"", []
-    for turn in range(KILLS):
-        if turn % KILLS_OF_A_JOURNAL == 0:
-            put_pair(b"", None)
-            before = b""
-        before, written = is_killed_once(rnd, before)
-        answered.append(written)
-    many = sum(count > 0 for count in answered)
-    assert many > KILLS // 4, f"only {many} of {KILLS} were killed after an answer"
+    kills(50, KILLS, KILLS_OF_A_JOURNAL, lambda: put_pair(b"", None), is_killed_once)
 
 
 # the calls of a run over both files, each of which fails, or is the last before a kill
@@ -117,9 +104,7 @@ def torn_are_kept(files):
 def answers_are_marked(written):
     """Each entry of which something was answered is in f, and m has a mark for it."""
     is_kept(content("f"), FRONT, ALL, written) if written else None
-    noted = content("m")
-    covered = marks.covered(content("f"), marks.read(noted[: noted.rfind(b"\n") + 1]))
-    assert covered >= count_of(ALL.behind(written)) + (3 if written else 0), f"{covered} have a mark"
+    are_marked(content("f"), FRONT if written else b"", ALL, b"1", written)
 
 
 def failing_calls(calls):
@@ -370,4 +355,4 @@ def loop_of_a_supervisor():
 CHECKS = [*map(in_its_folder, [kills_under_a_client_that_is_marked, crashes_of_the_machine, marks_torn_at_each_byte])]
 OVER_THE_SHIM = [*map(in_its_folder, [both_disks_that_fail, lock_and_read_of_marks_that_fail,
                   recovery_of_both_that_is_killed, marks_before_answers, marks_that_are_synced,
-                  sync_of_marks_that_fails_while_it_waits, clock_that_goes_back_and_fails, loop_of_a_supervisor, ])]
+                  sync_of_marks_that_fails_while_it_waits, clock_that_goes_back_and_fails, loop_of_a_supervisor])]

@@ -319,4 +319,4 @@ def service_beside_the_readers():
 
 CHECKS = [*map(in_its_folder, [each_question_at_each_cut, each_state, objects_that_were_made, names_of_another_start,
            faults_of_questions, state_that_was_forged, segment_that_is_damaged, replay_of_segments, files_in_an_archive,
-           files_that_a_crash_left, link_to_the_journal, service_beside_the_readers, ])]
+           files_that_a_crash_left, link_to_the_journal, service_beside_the_readers])]

@@ -218,4 +218,4 @@ def journal_longer_than_a_file_may_be():
 
 
 CHECKS = [*map(in_its_folder, [marks_of_each_file, marks_over_files, digests_of_each_file, faults_of_files,
-           verification_while_segments_are_closed, journal_longer_than_a_file_may_be, ])]
+           verification_while_segments_are_closed, journal_longer_than_a_file_may_be])]
