@@ -36,7 +36,15 @@ def answered(session, step, journal):
     say(f"{session} {step.get('answer', 'yes')}\n")
 
 
+# What the standard start opens with, as far as mlsd reads it.
+STATE = "".join(f"subject {name} maximum T:A,B current U integrity hi\n" for name in SUBJECTS) + "".join(
+    f"object {name} security U integrity hi{' parent root' if name != 'root' else ''}\n" for name in OBJECTS
+)
+
+
 def main(words):
+    if words[0] == "state":
+        return say(STATE)
     journal = words[words.index("--journal") + 1]
     with open(words[-1], encoding="utf-8") as file:
         steps = iter(json.load(file))

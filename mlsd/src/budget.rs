@@ -102,6 +102,13 @@ impl Budgets {
         }
     }
 
+    /// One more that may make an entry, of a line that was begun.
+    pub fn more(&mut self, uid: u32) {
+        if let Some(budget) = self.of_uids.get_mut(&uid) {
+            budget.pending += 1;
+        }
+    }
+
     /// One that was pending has made an entry, or none.
     pub fn answered(&mut self, uid: u32, is_made: bool) {
         if let Some(budget) = self.of_uids.get_mut(&uid) {

@@ -1,8 +1,9 @@
 //! One connection: a session.
-use crate::core::push;
+use crate::core::{is_soft, push};
 use crate::holders::Held;
 use crate::inbox::Inbox;
 use crate::sys;
+use crate::watch::{Waiting, Watch};
 use crate::who::Who;
 use std::os::unix::io::{AsRawFd, RawFd};
 use std::os::unix::net::UnixStream;
@@ -24,6 +25,13 @@ pub struct Client {
     pub held: Held,
     /// The pools that it has asked as, and the subject of each that is its own.
     pub leases: Vec<(usize, u16)>,
+    pub watch: Watch,
+    pub waiting: Waiting,
+    /// Places of the output at which the descriptor of the page goes along, and that.
+    passes: Vec<usize>,
+    page: RawFd,
+    /// Whether one of its subjects may get what it asks the labels of.
+    pub may_get: bool,
     pub can_read: bool,
     /// It sends no more.
     pub is_ended: bool,
@@ -48,6 +56,11 @@ impl Client {
             in_flight: 0,
             held: Held::default(),
             leases: Vec::new(),
+            watch: Watch::default(),
+            waiting: Waiting::default(),
+            passes: Vec::new(),
+            page: -1,
+            may_get: false,
             can_read: false,
             is_ended: false,
             is_gone: false,
@@ -80,13 +93,52 @@ impl Client {
         self.is_gone |= revents & sys::GONE != 0;
     }
 
+    /// An answer, which may have to wait for others.
     pub fn answer(&mut self, text: &[u8]) {
+        if let Some(text) = self.waiting.add(text.to_vec()) {
+            self.tell(&text);
+        }
+    }
+
+    /// An answer that waits for nobody.
+    pub fn tell(&mut self, text: &[u8]) {
         self.in_flight -= 1;
         self.output.extend_from_slice(text);
         self.output.push(b'\n');
     }
 
+    /// An answer with the descriptor of the page.
+    pub fn pass(&mut self, text: &[u8], page: RawFd) {
+        self.page = page;
+        self.passes.push(self.output.len());
+        self.tell(text);
+    }
+
     pub fn send(&mut self) {
+        while let Some(place) = self.passes.first().copied() {
+            let sent = if place > 0 {
+                let mut front = self.output[..place].to_vec();
+                self.is_gone |= !push(&mut self.sock, &mut front);
+                place - front.len()
+            } else {
+                let end = self.output.iter().position(|b| *b == b'\n').map_or(self.output.len(), |at| at + 1);
+                match sys::send_with(self.sock.as_raw_fd(), &self.output[..end], self.page) {
+                    Ok(count) => {
+                        self.passes.remove(0);
+                        count
+                    }
+                    Err(error) => {
+                        self.is_gone |= !is_soft(&error);
+                        0
+                    }
+                }
+            };
+            if sent == 0 {
+                return;
+            }
+            self.output.drain(..sent);
+            self.passes.iter_mut().for_each(|place| *place -= sent);
+        }
         self.is_gone |= !push(&mut self.sock, &mut self.output);
     }
 

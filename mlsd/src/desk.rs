@@ -9,8 +9,10 @@ use crate::files::Files;
 use crate::holders::{Get, Holders};
 use crate::journal::Journal;
 use crate::line::{Ask, Change, Judged, Verdict, LINE_MAX};
+use crate::many::Many;
 use crate::metrics::Metrics;
 use crate::names::{Names, Opening, Triple};
+use crate::page::Page;
 use crate::pools::Pools;
 use crate::probe;
 use crate::pulse::{Pulse, QUESTION};
@@ -19,7 +21,12 @@ use crate::stats::{Now, Stats};
 use crate::users::Users;
 use crate::who::Asker;
 use crate::words::Words;
+use crate::world::{is_followed, mode_of, World};
+use std::collections::HashMap;
 use std::time::Instant;
+
+/// The modes by which something is read: read and write.
+const OBSERVES: [u8; 2] = [1, 3];
 
 #[derive(Debug)]
 pub struct Desk {
@@ -35,6 +42,13 @@ pub struct Desk {
     pub stats: Stats,
     pub metrics: Option<Metrics>,
     pub pulse: Pulse,
+    pub world: World,
+    /// The page that clients have, once one has asked for it.
+    page: Option<Page>,
+    /// Lines that are being asked for each subject of a pool, by session.
+    pub many: HashMap<u32, Many>,
+    /// What watchers wrote in this round: each with the session whose answer waits for it.
+    pub acks: Vec<(u32, u32)>,
     /// The number of the next entry.
     pub entries: u64,
     /// How many connections there may be, and are.
@@ -46,6 +60,8 @@ pub struct Desk {
 
 enum Outcome {
     Core(u16, Asked),
+    /// It is asked for each subject of a pool.
+    Many,
     Own(&'static str),
     /// The line is to be taken later.
     Wait,
@@ -54,7 +70,7 @@ enum Outcome {
 impl Desk {
     pub fn new(words: Words, core: Core, opening: Opening, files: Files, most: usize) -> Desk {
         let Opening { names, held, entries } = opening;
-        let Files { users, pools, sessions, journal, .. } = files;
+        let Files { users, pools, sessions, journal, world, .. } = files;
         let of_start = held.iter().filter(|(_, is_of_start)| *is_of_start).map(|(triple, _)| *triple).collect();
         let (holders, budgets, stats) = (Holders::new(of_start), Budgets::default(), Stats::default());
         let now = Instant::now();
@@ -72,6 +88,10 @@ impl Desk {
             stats,
             metrics,
             pulse,
+            world,
+            page: None,
+            many: HashMap::new(),
+            acks: Vec::new(),
             entries,
             most,
             open,
@@ -82,6 +102,11 @@ impl Desk {
     /// Takes a line of a client; false where it has to wait.
     pub fn take(&mut self, session: u32, client: &mut Client, judged: Judged) -> bool {
         let is_question = judged.is_question;
+        let has_answer = !matches!(judged.verdict, Verdict::Skip | Verdict::Note(_) | Verdict::Ack);
+        if has_answer && self.many.contains_key(&session) {
+            // (its answer comes first)
+            return false;
+        }
         let text = match judged.verdict {
             Verdict::Skip => return true,
             Verdict::Note(text) => {
@@ -96,11 +121,37 @@ impl Desk {
                 client.in_flight += 1;
                 return true;
             }
-            Verdict::Ask(ask) => match self.outcome(session, client, &ask) {
+            Verdict::Watch(has_acks) => {
+                client.watch.begin(has_acks);
+                "yes".to_string()
+            }
+            Verdict::Ack => match client.watch.ack() {
+                Some(waiting) => {
+                    self.acks.push((session, waiting));
+                    return true;
+                }
+                None => "bad form".to_string(),
+            },
+            Verdict::Page => {
+                self.later(session, client, What::Page);
+                return true;
+            }
+            Verdict::Labels(tokens) => {
+                self.ask_labels(session, client, &tokens);
+                return true;
+            }
+            Verdict::Ask(ask) => match self.outcome(session, client, &ask, is_question) {
                 Outcome::Wait => return false,
+                Outcome::Many => {
+                    client.in_flight += 1;
+                    return true;
+                }
                 Outcome::Own(text) => text.to_string(),
                 Outcome::Core(subject, asked) => {
                     let line = self.line(subject, &ask.action);
+                    let is_followed = !is_question && is_followed(&ask.action);
+                    let act = if is_followed { Some((subject, ask.action.clone())) } else { None };
+                    let asked = Asked { act, ..asked };
                     let is_urgent = is_question || !matches!(ask.change, Change::Release(..));
                     self.core.ask(session, &line, is_question, self.now, asked, is_urgent);
                     client.in_flight += 1;
@@ -113,9 +164,30 @@ impl Desk {
         true
     }
 
+    /// The front's own answer, which is found when its turn comes.
+    pub fn later(&mut self, session: u32, client: &mut Client, what: What) {
+        client.in_flight += 1;
+        self.core.due.add(Due { session, since: self.now, is_question: false, what });
+    }
+
+    /// The page that clients have; none where the system gives none.
+    pub fn page(&mut self) -> Option<&Page> {
+        if self.page.is_none() {
+            self.page = Page::new().ok();
+        }
+        self.page.as_ref()
+    }
+
+    /// Something was taken away.
+    pub fn raise(&self) {
+        if let Some(page) = &self.page {
+            page.raise();
+        }
+    }
+
     /// The line that the core is asked; no longer than the client's, so that a long one has the fault that it has
     /// there.
-    fn line(&self, subject: u16, action: &str) -> String {
+    pub fn line(&self, subject: u16, action: &str) -> String {
         let line = format!("#{subject} {action}");
         match self.names.subjects.get(usize::from(subject)) {
             Some(name) if line.len() > LINE_MAX => format!("{name} {action}"),
@@ -136,7 +208,7 @@ impl Desk {
         most == 0 || self.budgets.note(uid, most, clock::day(), self.now)
     }
 
-    fn outcome(&mut self, session: u32, client: &mut Client, ask: &Ask) -> Outcome {
+    fn outcome(&mut self, session: u32, client: &mut Client, ask: &Ask, is_question: bool) -> Outcome {
         let subject = match ask.asker {
             Asker::Subject(subject) => subject,
             Asker::Pool(pool) => match self.lease(session, client, pool) {
@@ -153,9 +225,16 @@ impl Desk {
                 Day::Over => return Outcome::Own("busy"),
             }
         }
-        let counts = self.words.releases || matches!(ask.asker, Asker::Pool(_));
-        let change = if counts { ask.change } else { Change::None };
-        let outcome = match self.counted(client, subject, change) {
+        if let Some(mut many) = self.of_pool(&ask.action) {
+            many.asker = subject;
+            many.charged = charged;
+            many.is_question = is_question;
+            self.many.insert(session, many);
+            self.ask_next(session, true);
+            return Outcome::Many;
+        }
+        let releases = self.words.releases || matches!(ask.asker, Asker::Pool(_));
+        let outcome = match self.counted(client, subject, ask.change, releases) {
             Outcome::Core(subject, asked) => return Outcome::Core(subject, Asked { charged, ..asked }),
             outcome => outcome,
         };
@@ -165,8 +244,17 @@ impl Desk {
         outcome
     }
 
-    /// Counts what a line changes of what is held.
-    fn counted(&mut self, client: &mut Client, subject: u16, change: Change) -> Outcome {
+    /// A line that names a pool as whose right it is, for all of its subjects.
+    fn of_pool(&self, action: &str) -> Option<Many> {
+        let words: Vec<&str> = action.split(' ').collect();
+        let pool = self.pools.defined.iter().find(|pool| Some(&&pool.name[..]) == words.get(2))?;
+        mode_of(words[1])?;
+        Many::new(&words, pool.members.clone())
+    }
+
+    /// Counts what a line changes of what is held. `releases` is whether what a connection got is released at its end:
+    /// then another's release doesn't take it away.
+    fn counted(&mut self, client: &mut Client, subject: u16, change: Change, releases: bool) -> Outcome {
         match change {
             Change::None => Outcome::Core(subject, Asked::default()),
             Change::Get(object, mode) => {
@@ -178,7 +266,15 @@ impl Desk {
                 }
             }
             Change::Release(object, mode) => {
-                if self.holders.release(&mut client.held, Triple { subject, object, mode }) {
+                let triple = Triple { subject, object, mode };
+                if client.who.holds_reads && OBSERVES.contains(&mode) && Holders::has(&client.held, triple) {
+                    // (it is released at its end)
+                    return Outcome::Own("yes");
+                }
+                if !releases {
+                    return Outcome::Core(subject, Asked::default());
+                }
+                if self.holders.release(&mut client.held, triple) {
                     Outcome::Core(subject, Asked::default())
                 } else {
                     Outcome::Own("yes")
@@ -188,7 +284,7 @@ impl Desk {
     }
 
     /// The subject of a pool that is a connection's own, from its first line on.
-    fn lease(&mut self, session: u32, client: &mut Client, pool: usize) -> Option<u16> {
+    pub fn lease(&mut self, session: u32, client: &mut Client, pool: usize) -> Option<u16> {
         if let Some((_, subject)) = client.leases.iter().find(|(of, _)| *of == pool) {
             return Some(*subject);
         }

@@ -17,7 +17,18 @@ pub struct Due {
 pub enum What {
     /// The front's own; it waits for its turn.
     Own(String),
+    /// What is told is looked up when its turn comes.
+    Labels(Labelled),
+    /// It comes with the descriptor of the page.
+    Page,
     Core(Asked),
+}
+
+/// What has labels, by its number.
+#[derive(Clone, Copy, Debug, PartialEq, Eq)]
+pub enum Labelled {
+    Subject(u16),
+    Object(u16),
 }
 
 /// What is to be done when the core has answered.
@@ -31,6 +42,12 @@ pub struct Asked {
     pub is_own: bool,
     /// What is told in place of the answer.
     pub tells: Option<&'static str>,
+    /// An object's labels, for which this asks whether a subject of the client's may get it, and whether it is the last.
+    pub labels: Option<(u16, bool)>,
+    /// The subject and the action of what may change the state.
+    pub act: Option<(u16, String)>,
+    /// Whether it is asked for one subject of a pool, among all.
+    pub is_one_of_many: bool,
     /// A subject of a pool that is on its way back, and whether this is a release.
     pub returns: Option<(u16, bool)>,
 }
@@ -55,7 +72,7 @@ impl Queue {
     /// The next, where it is the front's own answer.
     pub fn next_own(&mut self) -> Option<Due> {
         match self.0.front() {
-            Some(Due { what: What::Own(_), .. }) => self.0.pop_front(),
+            Some(Due { what: What::Own(_) | What::Labels(_) | What::Page, .. }) => self.0.pop_front(),
             _ => None,
         }
     }

@@ -8,6 +8,7 @@ use crate::start::Start;
 use crate::sys;
 use crate::users::{self, Users};
 use crate::words::Words;
+use crate::world::World;
 use std::collections::HashSet;
 use std::process::{Command, Stdio};
 
@@ -16,6 +17,7 @@ pub struct Files {
     pub pools: Pools,
     pub sessions: Sessions,
     pub journal: Journal,
+    pub world: World,
     /// What START opens with, where the core doesn't tell that.
     pub of_start: Option<HashSet<Triple>>,
 }
@@ -33,7 +35,8 @@ impl Files {
             of_start = Some(start.accesses(names)).filter(|_| words.in_segments);
         }
         let sessions = Sessions::open(&words.sessions)?;
-        Ok(Files { users, pools, sessions, journal, of_start })
+        let world = world(words, names)?;
+        Ok(Files { users, pools, sessions, journal, world, of_start })
     }
 
     pub fn users(words: &Words, names: &Names) -> Result<Users, String> {
@@ -42,12 +45,25 @@ impl Files {
     }
 }
 
+/// The state that a journal leads to, as the core's program tells it.
+fn state(words: &Words, journal: &str) -> Result<Option<String>, End> {
+    let program = words.program();
+    let mut command = Command::new(&program[0]);
+    command.args(&program[1..]).args(["state", words.start(), journal]).stderr(Stdio::inherit());
+    let output = command.output().map_err(|error| End::own(&program[0], error))?;
+    Ok(Some(String::from_utf8_lossy(&output.stdout).into_owned()).filter(|_| output.status.success()))
+}
+
 /// What START says; it is asked only where that is needed.
 fn start(words: &Words, names: &Names) -> Result<Start, End> {
-    let program = &words.core[0];
-    let output = Command::new(program).args(["state", words.start(), "/dev/null"]).stderr(Stdio::inherit()).output();
-    let output = output.map_err(|error| End::own(program, error))?;
-    let start = Start::read(&String::from_utf8_lossy(&output.stdout)).filter(|start| start.is_of(&names.subjects));
-    let start = start.filter(|_| output.status.success());
+    let start = state(words, "/dev/null")?.and_then(|text| Start::read(&text));
+    let start = start.filter(|start| start.is_of(&names.subjects));
     start.ok_or_else(|| End::own(words.start(), "is not the start that the core has"))
+}
+
+/// What the monitor's state is before anything is asked.
+fn world(words: &Words, names: &Names) -> Result<World, End> {
+    let start = std::fs::read_to_string(words.start()).map_err(|error| End::own(words.start(), error))?;
+    let world = state(words, &words.journal)?.and_then(|text| World::read(&text, &start, names));
+    world.ok_or_else(|| End::own(&words.journal, "its state is not that of the core"))
 }

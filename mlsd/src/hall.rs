@@ -125,11 +125,15 @@ impl Hall<'_> {
         if self.drains.is_none() {
             self.serve();
         }
+        self.desk.take_acks(&mut self.clients);
         self.desk.answer_own(&mut self.clients);
         // (who asks is on the disk before anything of it is said or asked)
         self.desk.flush()?;
         self.clients.values_mut().for_each(Client::send);
-        self.close();
+        if self.close() {
+            // (answers may have waited for who is gone)
+            self.clients.values_mut().for_each(Client::send);
+        }
         self.desk.flush()?;
         self.desk.beat(!self.is_ending);
         self.desk.measure();
@@ -167,15 +171,20 @@ impl Hall<'_> {
         self.turn = next.map_or(0, |(session, _)| *session);
     }
 
-    fn close(&mut self) {
+    /// Ends the connections to which nothing is due any more; whether there are some.
+    fn close(&mut self) -> bool {
         let is_late = self.drains.map_or(false, |end| Instant::now() > end);
         let is_drained = self.drains.is_some() && self.desk.core.due.is_empty();
-        let is_over = |client: &Client| client.is_done() || (is_drained && (is_late || client.output.is_empty()));
+        let is_told = |client: &Client| client.output.is_empty() && client.waiting.is_empty();
+        let is_over = |client: &Client| client.is_done() || (is_drained && (is_late || is_told(client)));
         let over: Vec<u32> = self.clients.iter().filter(|(_, client)| is_over(client)).map(|(key, _)| *key).collect();
+        let is_any = !over.is_empty();
         for session in over {
             if let Some(client) = self.clients.remove(&session) {
+                self.desk.acked(&mut self.clients, session, &client.watch.owed());
                 self.desk.close(session, client);
             }
         }
+        is_any
     }
 }

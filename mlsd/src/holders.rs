@@ -12,7 +12,8 @@ const HELD_MAX: usize = 16_384;
 #[derive(Default, Debug)]
 pub struct Held {
     held: BTreeSet<Triple>,
-    getting: Vec<Triple>,
+    /// What is asked for, and whether it was held before.
+    getting: Vec<(Triple, bool)>,
 }
 
 /// By how many connections each access is held.
@@ -39,22 +40,23 @@ impl Holders {
     }
 
     pub fn get(&mut self, held: &mut Held, triple: Triple) -> Get {
-        if held.getting.contains(&triple) {
+        if held.getting.iter().any(|(it, _)| *it == triple) {
             return Get::Wait;
         }
         if held.held.len() >= HELD_MAX && !held.held.contains(&triple) {
             return Get::Full;
         }
-        if held.held.insert(triple) {
+        let is_new = held.held.insert(triple);
+        if is_new {
             *self.counts.entry(triple).or_insert(0) += 1;
         }
-        held.getting.push(triple);
+        held.getting.push((triple, !is_new));
         Get::Ask
     }
 
     /// A get has its answer.
     pub fn answered(&mut self, held: &mut Held, triple: Triple, is_granted: bool) {
-        held.getting.retain(|it| *it != triple);
+        held.getting.retain(|(it, _)| *it != triple);
         if !is_granted && held.held.remove(&triple) {
             self.let_go(triple);
         }
@@ -81,6 +83,31 @@ impl Holders {
         } else {
             !self.counts.contains_key(&triple)
         }
+    }
+
+    /// What of a connection was taken away, which it had got. What it is asking for again has its answer later.
+    pub fn taken(&mut self, held: &mut Held, is_taken: impl Fn(&Triple) -> bool) -> Vec<Triple> {
+        let mut lost = Vec::new();
+        for triple in held.held.iter().copied().filter(|triple| is_taken(triple)).collect::<Vec<_>>() {
+            match held.getting.iter_mut().find(|(it, _)| *it == triple) {
+                Some((_, had)) => {
+                    if std::mem::take(had) {
+                        lost.push(triple);
+                    }
+                }
+                None => {
+                    held.held.remove(&triple);
+                    self.let_go(triple);
+                    lost.push(triple);
+                }
+            }
+        }
+        lost
+    }
+
+    /// Whether a connection has got something.
+    pub fn has(held: &Held, triple: Triple) -> bool {
+        held.held.contains(&triple)
     }
 
     /// A connection ends: what is to be released.
@@ -147,6 +174,24 @@ mod tests {
         assert_eq!(holders.get(&mut one, triple(HELD_MAX as u16)), Get::Full);
         gets(&mut holders, &mut one, 0, true);
         assert_eq!(holders.close(one).len(), HELD_MAX);
+    }
+
+    #[test]
+    fn what_is_taken_is_held_by_nobody() {
+        let (mut holders, mut one, mut two) = (Holders::default(), Held::default(), Held::default());
+        gets(&mut holders, &mut one, 1, true);
+        gets(&mut holders, &mut one, 2, true);
+        assert_eq!(holders.get(&mut two, triple(1)), Get::Ask);
+        assert_eq!(holders.taken(&mut one, |it| it.object == 1), [triple(1)]);
+        assert_eq!(holders.taken(&mut two, |it| it.object == 1), [], "it is asking for it");
+        holders.answered(&mut two, triple(1), true);
+        assert_eq!((holders.close(one), holders.close(two)), (vec![triple(2)], vec![triple(1)]));
+        let mut one = Held::default();
+        gets(&mut holders, &mut one, 1, true);
+        assert_eq!(holders.get(&mut one, triple(1)), Get::Ask);
+        assert_eq!(holders.taken(&mut one, |_| true), [triple(1)]);
+        holders.answered(&mut one, triple(1), false);
+        assert!(holders.close(one).is_empty() && holders.counts.is_empty());
     }
 
     #[test]

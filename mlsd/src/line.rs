@@ -38,6 +38,14 @@ pub enum Verdict {
     Stats,
     /// Anybody asks whether the core answers.
     Probe,
+    /// The client is told what it loses, and answers it where the flag says so.
+    Watch(bool),
+    /// It has read a line of that.
+    Ack,
+    /// It wants the page whose number is raised when something is taken away.
+    Page,
+    /// It asks for the labels of what the tokens name.
+    Labels(Vec<String>),
     Ask(Ask),
 }
 
@@ -85,6 +93,20 @@ pub fn judge(names: &Names, who: &Who, line: &[u8]) -> Judged {
     }
     if tokens == [probe::LINE] && !is_question {
         return asked(false, Verdict::Probe);
+    }
+    let verdict = match tokens[..] {
+        _ if is_question => None,
+        ["watch"] => Some(Verdict::Watch(false)),
+        ["watch", "ack"] => Some(Verdict::Watch(true)),
+        ["ack"] => Some(Verdict::Ack),
+        ["generation"] => Some(Verdict::Page),
+        ["labels", ref what @ ..] if matches!(what.len(), 1 | 2) && who.asker(names, "labels").is_none() => {
+            Some(Verdict::Labels(what.iter().map(|token| token.to_string()).collect()))
+        }
+        _ => None,
+    };
+    if let Some(verdict) = verdict {
+        return asked(false, verdict);
     }
     asked(is_question, judge_tokens(names, who, &tokens, is_question))
 }
@@ -174,6 +196,25 @@ mod tests {
             assert_eq!(judged(line), Judged { is_question: true, verdict: answer("bad form") }, "{line}");
         }
         assert_eq!(judged("? bob level U"), Judged { is_question: true, verdict: answer("not yours") });
+    }
+
+    #[test]
+    fn lines_of_a_front() {
+        let labels = |tokens: &[&str]| Verdict::Labels(tokens.iter().map(|token| token.to_string()).collect());
+        let rows = [
+            ("watch", Verdict::Watch(false)),
+            (" watch  ack", Verdict::Watch(true)),
+            ("ack", Verdict::Ack),
+            ("generation", Verdict::Page),
+            ("labels plans", labels(&["plans"])),
+            ("labels subject ann", labels(&["subject", "ann"])),
+            ("watch us", Verdict::Answer("not yours")),
+            ("labels", Verdict::Answer("not yours")),
+            ("? watch", Verdict::Answer("not yours")),
+        ];
+        for (line, wanted) in rows {
+            assert_eq!(judged(line).verdict, wanted, "{line}");
+        }
     }
 
     #[test]

@@ -87,7 +87,7 @@ impl Page {
 }
 
 impl Desk {
-    fn page(&self, is_up: bool) -> String {
+    fn measured(&self, is_up: bool) -> String {
         let mut page = Page::default();
         page.one("mlsd_up", "gauge", "Whether mlsd serves: 0 once it has ended.", u8::from(is_up));
         if let Some(metrics) = &self.metrics {
@@ -167,7 +167,7 @@ impl Desk {
         if self.metrics.is_none() {
             return;
         }
-        let (text, now) = (self.page(is_up), self.now);
+        let (text, now) = (self.measured(is_up), self.now);
         if let Some(metrics) = &mut self.metrics {
             metrics.next = now + EACH;
             metrics.put(&text);

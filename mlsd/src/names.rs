@@ -23,6 +23,7 @@ impl Triple {
 pub struct Names {
     /// By number.
     pub subjects: Vec<String>,
+    objects: Vec<String>,
     numbers_of_subjects: HashMap<String, u16>,
     numbers_of_objects: HashMap<String, u16>,
 }
@@ -53,6 +54,14 @@ impl Names {
         number(&self.numbers_of_objects, token)
     }
 
+    /// What START calls an object, or else `#` and its number.
+    pub fn object_name(&self, object: u16) -> String {
+        match self.objects.get(usize::from(object)) {
+            Some(name) => name.clone(),
+            None => format!("#{object}"),
+        }
+    }
+
     /// The number of a subject that START has by this name.
     pub fn subject_named(&self, name: &str) -> Option<u16> {
         self.numbers_of_subjects.get(name).copied()
@@ -63,8 +72,9 @@ impl Names {
         let numbers = if is_subject { &mut self.numbers_of_subjects } else { &mut self.numbers_of_objects };
         let next = numbers.len() as u16;
         let is_next = plain_number(place) == Some(next) && numbers.insert(name.to_string(), next).is_none();
-        if is_next && is_subject {
-            self.subjects.push(name.to_string());
+        if is_next {
+            let names = if is_subject { &mut self.subjects } else { &mut self.objects };
+            names.push(name.to_string());
         }
         is_next
     }
@@ -136,6 +146,7 @@ pub mod tests {
         for (token, wanted) in rows.iter().chain(&more) {
             assert_eq!(names.subject(token), *wanted, "{token}");
         }
+        assert_eq!((names.object_name(2), names.object_name(9)), ("memo".to_string(), "#9".to_string()));
         assert_eq!((names.object("memo"), names.object("ann"), names.subject_named("#0")), (Some(2), None, None));
     }
 

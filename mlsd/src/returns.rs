@@ -5,8 +5,10 @@ use crate::desk::Desk;
 use crate::due::{Asked, Due, What};
 use crate::ending::End;
 use crate::names::Triple;
+use crate::world::Taken;
 use std::borrow::Cow;
 use std::collections::BTreeMap;
+use std::os::unix::io::AsRawFd;
 use std::time::{Duration, Instant};
 
 pub type Clients = BTreeMap<u32, Client>;
@@ -48,11 +50,15 @@ impl Desk {
         let due = due.ok_or_else(|| End::strange("the core answered what nobody asked"))?;
         let asked = match &due.what {
             What::Core(asked) => asked,
-            What::Own(_) => return Ok(()),
+            _ => return Ok(()),
         };
         if asked.is_own {
-            if let Some(text) = asked.tells {
-                tell(clients, &due, text.as_bytes());
+            let mut told = asked.tells.map(str::to_string);
+            if let (Some((object, is_last)), Some(client)) = (asked.labels, clients.get_mut(&session)) {
+                told = self.labels_answered(client, object, is_last, text);
+            }
+            if let (Some(told), Some(client)) = (told, clients.get_mut(&session)) {
+                client.answer(told.as_bytes());
             }
             return Ok(());
         }
@@ -72,6 +78,23 @@ impl Desk {
         }
         self.stats.answers.add(kind);
         self.stats.latencies.add(now.duration_since(due.since));
+        let had = asked.is_one_of_many && self.had(session);
+        if let Some((subject, action)) = &asked.act {
+            let text = String::from_utf8_lossy(text);
+            let followed = if kind == b"created" { &text[..] } else { std::str::from_utf8(kind).unwrap_or("") };
+            let taken = self.world.follow(&self.names, *subject, action, followed);
+            // (with --release-on-close only the last who got it lets it go)
+            let is_shared = !self.words.releases && !self.pools.has(*subject);
+            if is_shared || !matches!(taken, Taken::Release(_)) {
+                self.take_away(clients, &taken, session);
+            }
+        }
+        if asked.is_one_of_many {
+            if let Some(text) = self.one_of_many(session, text, had) {
+                tell(clients, &due, &text);
+            }
+            return Ok(());
+        }
         tell(clients, &due, text);
         Ok(())
     }
@@ -79,12 +102,27 @@ impl Desk {
     /// The front's own answers, where nothing of the core's is due before them.
     pub fn answer_own(&mut self, clients: &mut Clients) {
         while let Some(due) = self.core.due.next_own() {
-            if let What::Own(text) = &due.what {
-                if text.len() < 16 {
-                    self.stats.own.add(text.as_bytes());
+            match &due.what {
+                What::Own(text) => {
+                    if text.len() < 16 {
+                        self.stats.own.add(text.as_bytes());
+                    }
+                    tell(clients, &due, text.as_bytes());
                 }
-                tell(clients, &due, text.as_bytes());
+                What::Labels(named) => tell(clients, &due, self.labels(*named).as_bytes()),
+                What::Page => self.pass_page(clients, &due),
+                What::Core(_) => (),
             }
+        }
+    }
+
+    /// The page's descriptor; `busy` where there is none.
+    fn pass_page(&mut self, clients: &mut Clients, due: &Due) {
+        let page = self.page().map(|page| page.file.as_raw_fd());
+        match (of(clients, due), page) {
+            (Some(client), Some(page)) if client.waiting.is_empty() => client.pass(b"yes", page),
+            (Some(client), _) => client.answer(b"busy"),
+            _ => (),
         }
     }
 
@@ -93,6 +131,9 @@ impl Desk {
         self.open -= 1;
         self.budgets.disconnect(client.uid);
         let last = self.holders.close(client.held);
+        // (what it got is released only where that was asked for)
+        let is_released = |triple: &Triple| self.words.releases || self.pools.has(triple.subject);
+        let last: Vec<Triple> = last.into_iter().filter(is_released).collect();
         let leased: Vec<u16> = client.leases.iter().map(|(_, subject)| *subject).collect();
         self.give_back(session, &last, &leased);
         self.sessions.tell(session, "closed", self.entries, "");
@@ -103,13 +144,15 @@ impl Desk {
         let now = self.now;
         for triple in held {
             let returns = if leased.contains(&triple.subject) { Some((triple.subject, true)) } else { None };
-            self.core.ask(session, &triple.release(), false, now, Asked { returns, ..Asked::default() }, false);
+            let line = triple.release();
+            self.core.ask(session, &line, false, now, Asked { returns, ..Asked::default() }, false);
         }
         for subject in leased {
             let releases = held.iter().filter(|triple| triple.subject == *subject).count();
             if let Some(line) = self.pools.give_back(*subject, releases) {
                 let returns = Some((*subject, false));
-                self.core.ask(session, &line, false, now, Asked { returns, ..Asked::default() }, false);
+                let act = line.split_once(' ').map(|(_, action)| (*subject, action.to_string()));
+                self.core.ask(session, &line, false, now, Asked { returns, act, ..Asked::default() }, false);
             }
         }
     }

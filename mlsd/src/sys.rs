@@ -2,11 +2,11 @@
 use std::ffi::CString;
 use std::io;
 use std::os::raw::{c_char, c_int, c_void};
-use std::os::unix::io::{FromRawFd, RawFd};
+use std::os::unix::io::{AsRawFd, FromRawFd, OwnedFd, RawFd};
 use std::os::unix::net::UnixListener;
 use std::os::unix::process::CommandExt;
 use std::process::Command;
-use std::sync::atomic::{AtomicI32, Ordering};
+use std::sync::atomic::{AtomicI32, AtomicU64, Ordering};
 
 #[repr(C)]
 #[derive(Clone, Copy, Debug)]
@@ -58,6 +58,10 @@ extern "C" {
     fn write(fd: c_int, bytes: *const u8, count: usize) -> isize;
     fn fcntl(fd: c_int, what: c_int, value: c_int) -> c_int;
     fn getrlimit(what: c_int, limits: *mut [u64; 2]) -> c_int;
+    fn memfd_create(name: *const c_char, flags: u32) -> c_int;
+    fn ftruncate(fd: c_int, len: i64) -> c_int;
+    fn mmap(at: *mut c_void, len: usize, may: c_int, how: c_int, fd: c_int, from: i64) -> *mut c_void;
+    fn sendmsg(fd: c_int, message: *const Message, flags: c_int) -> isize;
     fn setpgid(pid: i32, group: i32) -> c_int;
     fn __errno_location() -> *mut c_int;
 }
@@ -162,4 +166,91 @@ pub fn leave_group(command: &mut Command) {
             _ => Err(io::Error::last_os_error()),
         })
     };
+}
+
+const PAGE: usize = 4_096;
+const MFD_CLOEXEC: u32 = 1;
+const MFD_ALLOW_SEALING: u32 = 2;
+const F_ADD_SEALS: c_int = 1_033;
+/// F_SEAL_SEAL, F_SEAL_SHRINK, F_SEAL_GROW and F_SEAL_FUTURE_WRITE.
+const SEALS: c_int = 1 | 2 | 4 | 16;
+const PROT_READ_WRITE: c_int = 1 | 2;
+const MAP_SHARED: c_int = 1;
+
+/// A page in memory whose first eight bytes are a number, which this process alone can change, from now on until its end.
+pub fn shared_number() -> io::Result<(OwnedFd, &'static AtomicU64)> {
+    let failed = io::Error::last_os_error;
+    // SAFETY: the name is a string of C, and the descriptor is nobody else's.
+    let file = match unsafe { memfd_create(b"mlsd\0".as_ptr().cast(), MFD_CLOEXEC | MFD_ALLOW_SEALING) } {
+        fd if fd >= 0 => unsafe { OwnedFd::from_raw_fd(fd) },
+        _ => return Err(failed()),
+    };
+    let fd = file.as_raw_fd();
+    // SAFETY: the mapping is new, is a page long as the file is, and is never taken away.
+    let number = unsafe {
+        if ftruncate(fd, PAGE as i64) != 0 {
+            return Err(failed());
+        }
+        let at = mmap(std::ptr::null_mut(), PAGE, PROT_READ_WRITE, MAP_SHARED, fd, 0);
+        if at as isize == -1 {
+            return Err(failed());
+        }
+        &*(at as *const AtomicU64)
+    };
+    number.store(1, Ordering::SeqCst);
+    // SAFETY: no memory is in it.
+    match unsafe { fcntl(fd, F_ADD_SEALS, SEALS) } {
+        0 => Ok((file, number)),
+        _ => Err(failed()),
+    }
+}
+
+#[repr(C)]
+struct Piece {
+    base: *const c_void,
+    len: usize,
+}
+
+/// struct msghdr.
+#[repr(C)]
+struct Message {
+    name: *const c_void,
+    name_len: u32,
+    pieces: *const Piece,
+    count: usize,
+    control: *const c_void,
+    control_len: usize,
+    flags: c_int,
+}
+
+/// struct cmsghdr, with one descriptor.
+#[repr(C, align(8))]
+struct Rights {
+    len: usize,
+    level: c_int,
+    kind: c_int,
+    fd: c_int,
+}
+const SCM_RIGHTS: c_int = 1;
+const MSG_NOSIGNAL: c_int = 0x4000;
+
+/// Sends bytes, of which the first comes with a descriptor; how many were sent.
+pub fn send_with(sock: RawFd, bytes: &[u8], fd: RawFd) -> io::Result<usize> {
+    let head = std::mem::size_of::<usize>() + 2 * std::mem::size_of::<c_int>();
+    let rights = Rights { len: head + std::mem::size_of::<c_int>(), level: SOL_SOCKET, kind: SCM_RIGHTS, fd };
+    let piece = Piece { base: bytes.as_ptr().cast(), len: bytes.len() };
+    let message = Message {
+        name: std::ptr::null(),
+        name_len: 0,
+        pieces: &piece,
+        count: 1,
+        control: (&rights as *const Rights).cast(),
+        control_len: std::mem::size_of::<Rights>(),
+        flags: 0,
+    };
+    // SAFETY: all that the message points to lives until the call has returned, and is only read.
+    match unsafe { sendmsg(sock, &message, MSG_NOSIGNAL) } {
+        count if count >= 0 => Ok(count as usize),
+        _ => Err(io::Error::last_os_error()),
+    }
 }

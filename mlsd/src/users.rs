@@ -1,6 +1,6 @@
 //! The users file: who may ask as whom, and the pools of subjects of which each connection has one of its own.
 //!
-//! A line is `WHO = SUBJECT.. [rate=N] [clients=N] [day=N]` or `pool NAME = SUBJECT..`. WHO is a user's name, a uid or
+//! A line is `WHO = SUBJECT.. [rate=N] [clients=N] [day=N] [reads=held]` or `pool NAME = SUBJECT..`. WHO is a user's name, a uid or
 //! `@` and a group's name; a SUBJECT of the first is a name of the start, a pool's, or `*`; `stats` beside them is no subject. `#` begins a note.
 use crate::names::Names;
 use crate::who::Who;
@@ -115,6 +115,7 @@ impl Users {
         let mut rule = Rule { id, is_group: group.is_some(), who: self.nobody(names) };
         for token in what {
             match token.split_once('=') {
+                Some(("reads", "held")) => rule.who.holds_reads = true,
                 Some((limit, digits)) => {
                     let count = Some(number(digits).ok_or(format!("bad number in {token}"))?);
                     match limit {

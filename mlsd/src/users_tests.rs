@@ -29,6 +29,9 @@ fn all_rules_that_apply_are_joined() {
     assert_eq!((shown(&users, 50, &[]), shown(&users, 0, &[])), (None, some("nobody")));
     let who = users.who(&standard(), 7, &[50]).unwrap();
     assert_eq!((who.rate(), who.clients(), who.day(), who.is_root), (0, 400, 9, false));
+    let users = parsed("5 = ann reads=held\n@audit = ann\n").unwrap();
+    let holds = |uid, groups: &[u32]| users.who(&standard(), uid, groups).unwrap().holds_reads;
+    assert_eq!((holds(5, &[]), holds(5, &[50]), holds(7, &[50])), (true, true, false));
 }
 
 #[test]
@@ -66,6 +69,7 @@ fn what_is_not_understood_is_refused_with_its_line() {
         ("4294967296 = ann\n", "line 1: nobody is called 4294967296"),
         ("ann = #0\n", "line 1: bad form"),
         ("ann = ann rate=-1\n", "line 1: bad number in rate=-1"),
+        ("ann = ann reads=1\n", "line 1: no limit is called reads"),
         ("ann = ann rat=1\n", "line 1: no limit is called rat"),
         ("pool app =\n", "line 1: bad form"),
         ("pool a.b = ann\n", "line 1: bad form"),

@@ -17,6 +17,8 @@ pub struct Who {
     pub is_root: bool,
     /// Whether it is told how the front does, as root is.
     pub has_stats: bool,
+    /// Whether what it read it holds to its end.
+    pub holds_reads: bool,
     /// Whether it may ask as each subject, by number.
     pub subjects: Vec<bool>,
     /// The pools that it may ask as: their names and places.
@@ -59,6 +61,7 @@ impl Who {
             }
         }
         self.has_stats |= other.has_stats;
+        self.holds_reads |= other.holds_reads;
         self.rate = more(self.rate, other.rate);
         self.clients = more(self.clients, other.clients);
         self.day = more(self.day, other.day);

@@ -2,8 +2,7 @@
 use crate::ending::End;
 
 pub const USAGE: &str = "usage: mlsd --socket PATH --users FILE [--release-on-close] [--linger MS] [--sessions FILE] \
-    [--metrics FILE] -- mls serve --sessions --names [--recover] --journal FILE START\n       \
-    mlsd --probe SOCKET";
+    [--metrics FILE] -- mls serve --sessions --names [--recover] --journal FILE START | mlsd --probe SOCKET";
 const LINGER_MAX: u64 = 10_000;
 
 #[derive(Default, Debug)]
@@ -56,6 +55,12 @@ impl Words {
         } else {
             Some(words)
         }
+    }
+
+    /// The program of the core, with what stands before `serve`.
+    pub fn program(&self) -> &[String] {
+        let place = self.core.iter().position(|word| word == "serve").unwrap_or(1);
+        &self.core[..place.max(1)]
     }
 
     /// The start file, which the core has as its last word.
