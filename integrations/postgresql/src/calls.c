@@ -14,6 +14,7 @@
 
 static object_access_hook_type next_access = NULL;
 static GucStringCheckHook next_check = NULL;
+static GucBoolCheckHook next_scans = NULL;
 
 static const Oid leaving[] = {
 	F_PG_NOTIFY, F_SETVAL_REGCLASS_INT8, F_SETVAL_REGCLASS_INT8_BOOL, F_PG_EXPORT_SNAPSHOT,
@@ -75,6 +76,19 @@ on_name(char **value, void **extra, GucSource source)
 	return next_check == NULL || next_check(value, extra, source);
 }
 
+/* A scan that begins where another one is tells where that is: so a user may only switch that off. */
+static bool
+on_scans(bool *value, void **extra, GucSource source)
+{
+	if (*value && source >= PGC_S_CLIENT && IsTransactionState() && !InitializingParallelWorker && guard_is_on())
+	{
+		GUC_check_errcode(ERRCODE_INSUFFICIENT_PRIVILEGE);
+		GUC_check_errmsg("mls: only a superuser switches synchronize_seqscans on");
+		return false;
+	}
+	return next_scans == NULL || next_scans(value, extra, source);
+}
+
 static struct config_generic *
 find_setting(const char *name)
 {
@@ -96,8 +110,10 @@ calls_start(void)
 {
 	struct config_string *name = (struct config_string *) find_setting("application_name");
 
-	/* a scan that begins where another one is tells where that is: so an administrator decides */
-	find_setting("synchronize_seqscans")->context = PGC_SUSET;
+	struct config_bool *scans = (struct config_bool *) find_setting("synchronize_seqscans");
+
+	next_scans = scans->check_hook;
+	scans->check_hook = on_scans;
 	next_check = name->check_hook;
 	name->check_hook = on_name;
 	next_access = object_access_hook;

@@ -1,5 +1,6 @@
 """Signals from a session above to one below, and what tells of hidden rows beside the policies: each row has the
 statements that did it once."""
+import os
 import re
 
 from rows_closed import AT_S
@@ -368,6 +369,18 @@ def test_a_held_cursor_copies_nothing_by_a_function(world):
         ("bob", held("1", ""), "1\n"),
         ("bob", f"SELECT {xml}::text LIKE '%lunch%';", "t\n"),
     ])
+
+
+def test_no_user_has_scans_begin_together(world):
+    """A scan that begins where another one stands says where that is. (pg_dump switches it off for itself.)"""
+    only = "ERROR:  mls: only a superuser switches synchronize_seqscans on\n"
+    world.same([
+        ("bob", "SET synchronize_seqscans = on; ALTER ROLE bob SET synchronize_seqscans = on;", 2 * only),
+        ("bob", "SELECT set_config('synchronize_seqscans', 'on', false);", only),
+        ("bob", "SET synchronize_seqscans = off; SHOW synchronize_seqscans;", "off\n"),
+    ])
+    asked = world.server.ask("bob", "SELECT 1;", env={**os.environ, "PGOPTIONS": "-c synchronize_seqscans=on"})
+    assert only.replace("ERROR", "FATAL").strip() in asked, asked
 
 
 def test_plans_tell_nothing_of_hidden_rows(world):
