@@ -1,7 +1,7 @@
 """What a crash leaves undone in the folder of a journal in segments, and the next start of mls serve does."""
 import os
 
-from durable_segments import CUT, STANDARD, drawn, filled, goes_on, run_over_a_disk
+from durable_segments import CUT, drawn, filled, goes_on, run_over_a_disk
 from outside import IS_PROVED, in_its_folder, put, same
 from segments import numbered, segment, state
 from serving import mode_of, ready, served

@@ -8,9 +8,9 @@ import time
 import front_pools
 import fronts
 import outside
-from fronts import JOURNAL, Front, content, core, fresh, held, told
+from fronts import JOURNAL, Front, comes, content, core, fresh, held, told
 from mls import Ended
-from outside import SECONDS, same, shown
+from outside import SECONDS, same
 from segments import joined
 from serving import STANDARD
 
@@ -49,8 +49,8 @@ def killed(front, rnd, what):
 def killed_among(front, rnd, what, askers):
     for asker in askers:
         asker.start()
-    while rnd.random() < 0.9 and not any(asker.answered for asker in askers):
-        time.sleep(0.01)
+    if rnd.random() < 0.9:
+        comes(lambda: any(asker.answered for asker in askers), True)
     time.sleep(rnd.uniform(0, 0.05 if rnd.random() < 0.7 else 0.3))
     pids = {"core": front.core_pid(), "front": front.run.pid}
     for name in what:

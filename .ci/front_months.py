@@ -10,9 +10,9 @@ from errno import EIO, ENOSPC
 
 import front_pools
 import fronts
-from fronts import ALL, ANN, BOB, JOURNAL, Front, comes, connected_as, content, core, entries, fresh, refused, rest_of, told
+from fronts import ANN, BOB, JOURNAL, Front, comes, connected_as, content, core, entries, fresh, refused, rest_of
 from mls import Ended
-from outside import SECONDS, TOP, needs_proof, put, same
+from outside import TOP, needs_proof, put, same
 from segments import joined
 from serving import STANDARD, mode_of, shim
 
@@ -31,7 +31,8 @@ def percent(count):
 
 
 def told_of(count, size):
-    return f"mlsd: {JOURNAL}: {count} percent full: {LIMIT - size} of {LIMIT} bytes are left; then mlsd ends with status 6"
+    left = f"{LIMIT - size} of {LIMIT} bytes are left"
+    return f"mlsd: {JOURNAL}: {count} percent full: {left}; then mlsd ends with status 6"
 
 
 def an_end_that_is_told():
@@ -169,7 +170,7 @@ def the_sessions_file_is_counted_and_bound():
     """Its bytes are in `stats`; a connection counts as a line of `rate` and as an entry of `day`, whatever it asks."""
     fresh()
     with Front(users=b"%d = ann rate=0 day=5\n%d = bob rate=1\n" % (ANN, BOB)) as front:
-        greetings = {}
+        greetings, begun = {}, time.monotonic()
         for uid in (ANN, BOB):
             for _ in range(40):
                 sock = connected_as(uid, uid)
@@ -177,7 +178,7 @@ def the_sessions_file_is_counted_and_bound():
                 sock.close()
         same(greetings[ANN], [b"session"] * 5 + [b"busy"] * 35)
         # (five seconds' worth at once, and one a second)
-        assert 5 <= greetings[BOB].count(b"session") < 40, greetings[BOB]
+        assert 5 <= greetings[BOB].count(b"session") <= 6 + time.monotonic() - begun, greetings[BOB]
         opened = sum(greetings[uid].count(b"session") for uid in greetings)
         root = front.client()
         comes(lambda: root.stats()["sessions"]["open"], 1)
@@ -233,7 +234,8 @@ def are_closed_well():
 
 
 def sessions_files_go_with_the_journal():
-    """With --segment the sessions file is closed with the journal's file, under its number; sessions are numbered on."""
+    """With --segment the sessions file is closed with the journal's file, under its number; sessions are numbered
+    on."""
     fresh()
     for turn in range(3):
         with Front("--release-on-close", words=core(*CUT)) as front:
@@ -300,7 +302,8 @@ def what_dead_clients_held_in_segments():
         fresh()
         with Front(*flags, users=front_pools.RULES, words=words) as front:
             one, two = front.client(), front.client()
-            asked = ["ann get-read plans", "aud get-read notes", "sec get-write root", "app level S:A", "app get-read plans"]
+            asked = ["ann get-read plans", "aud get-read notes", "sec get-write root", "app level S:A"]
+            asked.append("app get-read plans")
             same(one.ask_all(asked), ["yes"] * 5)
             fill(two, 2)
             assert numbers(f"{JOURNAL}.state"), "no state was kept"
@@ -325,8 +328,8 @@ def recipe():
 
 
 def an_archive():
-    """Closed files are moved away while mlsd runs, as DEPLOYING says; it goes on without them, over a start too; what is
-    there and in the archive is all, and is one legal journal."""
+    """Closed files are moved away while mlsd runs, as DEPLOYING says; it goes on without them, over a start too; what
+    is there and in the archive is all, and is one legal journal."""
     fresh()
     os.makedirs("archive", exist_ok=True)
     with Front("--release-on-close", words=core(*CUT)) as front:

@@ -1,10 +1,9 @@
-"""A night on call: what mlsd tells by its metrics, its probe and its watchdog, where its core answers and where it stands
-still; and a night itself, by a factor."""
+"""A night on call: what mlsd tells by its metrics, its probe and its watchdog, where its core answers and where it
+stands still; and a night itself, by a factor."""
 import os
 import random
 import re
 import select
-import shutil
 import signal
 import subprocess
 import time
@@ -12,14 +11,14 @@ import time
 import fronts
 from front_pools import RULES, START, start
 from fronts import ANN, BOB, JOURNAL, SOCKET, Front, comes, core, entries, fresh, mlsd, told
-from outside import IS_PROVED, SECONDS, put, same
+from outside import IS_PROVED, SECONDS, same
 
 SHORT = FULL = False
 METRICS = "m.prom"
 # Seconds of a night, lines in each of them, and the memory that mlsd and its core may have together, in KiB.
 NIGHT, SHORT_NIGHT, FULL_NIGHT, LINES, MEMORY = 60, 5, 8 * 3_600, 200, 65_536
 SAMPLE = re.compile(r'([a-z][a-z0-9_]*)(?:\{((?:[a-z]+="[^"\\]*",?)*)\})? (-?[0-9.e+-]+|\+Inf)')
-STILL = b"has answered nothing for"
+STILL, AGAIN = b"has answered nothing for", b"answers again"
 
 
 def samples(name=METRICS):
@@ -75,13 +74,13 @@ def metrics_are_what_was_asked():
             "mlsd_up": 0, "mlsd_restarts_total": turn, "mlsd_notes_total": 1, "mlsd_sessions_total": 1,
             'mlsd_answers_total{from="core",kind="no star"}': 1, 'mlsd_answers_total{from="core",kind="bad form"}': 1,
             'mlsd_answers_total{from="mlsd",kind="not yours"}': 1, "mlsd_journal_limit_bytes": 268_435_456,
-            "mlsd_journal_bytes": os.path.getsize(JOURNAL), "mlsd_journal_files": 1, "mlsd_journal_entries": len(entries()),
-            "mlsd_oldest_unanswered_seconds": 0, 'mlsd_answer_duration_seconds_bucket{le="+Inf"}':
-            found["mlsd_answer_duration_seconds_count"],
+            "mlsd_journal_bytes": os.path.getsize(JOURNAL), "mlsd_journal_files": 1,
+            "mlsd_journal_entries": len(entries()), "mlsd_oldest_unanswered_seconds": 0,
+            'mlsd_answer_duration_seconds_bucket{le="+Inf"}': found["mlsd_answer_duration_seconds_count"],
         }  # fmt: skip
         same({name: found.get(name) for name in wanted}, wanted)
-        pools = [found[f'mlsd_pool_subjects{{pool="app",state="{it}"}}'] for it in ("free", "leased", "returning", "kept")]
-        same(sum(pools), 3)
+        of_pool = lambda state: found[f'mlsd_pool_subjects{{pool="app",state="{state}"}}']
+        same(sum(map(of_pool, ("free", "leased", "returning", "kept"))), 3)
         bounds = [key for key in found if key.startswith("mlsd_answer_duration_seconds_bucket")]
         counts = [found[key] for key in bounds]
         same((len(bounds), counts), (16, sorted(counts)))
@@ -99,8 +98,8 @@ def metrics_are_written_anew():
         comes(lambda: os.path.exists(f"folder/{METRICS}"), True)
         before = os.stat(f"folder/{METRICS}").st_mtime_ns
         comes(lambda: os.stat(f"folder/{METRICS}").st_mtime_ns != before, True, 2 * SECONDS)
-        shutil.rmtree("folder")
-        assert b"folder/m.prom" in line_of(front), "it isn't told"
+        os.rename("folder", "elsewhere")
+        is_told(front, b"folder/m.prom")
         same(front.client().ask("ann check read plans"), "not held")
         same(front.end(), (0, b""))
 
@@ -127,27 +126,38 @@ def line_of(front, seconds=SECONDS):
     return found
 
 
+def is_told(front, wanted):
+    """Waits until it is told on standard error. (On a machine that has much to do it may be told before that the core
+    answers late.)"""
+    while wanted not in (line := line_of(front)):
+        assert STILL in line or AGAIN in line, line
+
+
 def probed(path=SOCKET, **how):
-    done = subprocess.run([mlsd(), "--probe", path], stdin=subprocess.DEVNULL, capture_output=True, timeout=SECONDS, **how)
+    how = {"stdin": subprocess.DEVNULL, "capture_output": True, "timeout": SECONDS, **how}
+    done = subprocess.run([mlsd(), "--probe", path], **how)
     return done.returncode, done.stderr.decode()
 
 
+STANDS_STILL = (1, f"mlsd: {SOCKET}: no answer within 2 s\n")
+
+
 def probes():
-    """0 where a line is answered; 1, with why, where nobody listens, where mlsd refuses, and where its core stands still
-    for 2 s. There is no entry."""
+    """0 where a line is answered; 1, with why, where nobody listens, where mlsd refuses, and where its core stands
+    still for 2 s. There is no entry."""
     fresh()
-    same(probed(), (1, f"mlsd: {SOCKET}: No such file or directory (os error 2)\n"))
+    comes(probed, (1, f"mlsd: {SOCKET}: No such file or directory (os error 2)\n"))
     with Front() as front:
-        same(probed(), (0, ""))
+        comes(probed, (0, ""))
         client = front.client()
         same([client.ask("probe"), client.ask("  probe  "), client.ask("? probe")], ["yes", "yes", "? not yours"])
         os.kill(front.core_pid(), signal.SIGSTOP)
-        same(probed(), (1, f"mlsd: {SOCKET}: no answer within 2 s\n"))
+        same(probed(), STANDS_STILL)
         os.kill(front.core_pid(), signal.SIGCONT)
         comes(probed, (0, ""))
         same(front.client().stats()["entries"], 0)
         front.end(signal.SIGKILL)
-    same(probed(), (1, f"mlsd: {SOCKET}: Connection refused (os error 111)\n"))
+    comes(probed, (1, f"mlsd: {SOCKET}: Connection refused (os error 111)\n"))
     same(entries(), [])
 
 
@@ -155,8 +165,8 @@ def who_may_probe():
     """Any client may, and who has no rule is refused."""
     fresh()
     with Front(users=b"%d = ann\n" % ANN):
-        same(probed(user=ANN), (0, ""))
-        same(probed(user=BOB), (1, f"mlsd: {SOCKET}: refused: not known\n"))
+        comes(lambda: probed(user=ANN), (0, ""))
+        comes(lambda: probed(user=BOB), (1, f"mlsd: {SOCKET}: refused: not known\n"))
 
 
 def stats_for_a_group():
@@ -182,25 +192,27 @@ def a_core_that_stands_still():
         pid = front.core_pid()
         os.kill(pid, signal.SIGSTOP)
         client._send(b"ann get-read plans\n")
-        assert STILL in line_of(front)
+        is_told(front, STILL)
+        # (what the core answered before is read by then)
+        same(probed(), STANDS_STILL)
         while front.notices.is_there():
             pass
         time.sleep(3)
         assert not front.notices.is_there(), "it is fed while the core stands still"
         os.kill(pid, signal.SIGCONT)
-        assert b"answers again" in line_of(front)
+        is_told(front, AGAIN)
         same(client._line(), "yes")
         assert front.notices.has("WATCHDOG=1", is_alive)
         client.close()
         # (now nobody asks but mlsd)
         os.kill(pid, signal.SIGSTOP)
-        assert STILL in line_of(front)
+        is_told(front, STILL)
         begun = time.monotonic()
         status, line = front.end()
         took = time.monotonic() - begun
     same(status, 4)
     assert b"it is killed" in line and b"signal: 9" in line, line
-    assert took < (15 if IS_PROVED else SECONDS), took
+    assert took < SECONDS, took
 
 
 def a_core_that_does_not_end():
@@ -218,7 +230,8 @@ def a_core_that_does_not_end():
 def wishes(rnd, count):
     """What somebody asks in a second: mostly what is granted, some denied, and of a pool's subject too."""
     names = ["ann get-read plans", "ann release read plans", "app get-write notes", "app release write notes"]
-    names += ["ann get-read plans", "bob get-read memo", "app level S:A", "app level U", "? ann get-read plans", "bob frob"]
+    names += ["ann get-read plans", "bob get-read memo", "app level S:A", "app level U", "? ann get-read plans"]
+    names += ["bob frob"]
     return [rnd.choice(names) for _ in range(count)]
 
 
@@ -242,6 +255,8 @@ def a_night():
             if second % 5 == 4:
                 clients.pop(rnd.randrange(3)).close()
                 most = max(most, front.status("VmHWM") + memory_of(front.core_pid()))
+                # (its subject of the pool is the next client's)
+                comes(lambda: clients[0].stats()["pools"]["app"]["returning"], 0)
             time.sleep(max(0, begun + second + 1 - time.monotonic()) if FULL else 0)
         found = clients[0].stats()
         same(found["lines"]["core"].get("busy"), None)

@@ -49,7 +49,7 @@ def each_connection_has_a_subject_of_its_own():
         same([one.ask("app get-write notes"), two.ask("app level S:A")], ["no star", "no star"])
         for line in ("app-1 level U", "#4 level U", "#5 level U", "apP level U"):
             same((line, one.ask(line), two.ask(line)), (line, "not yours", "not yours"))
-        same(one.ask("sec give read app notes"), "bad name")
+        same([one.ask("? sec give read app notes"), one.ask("sec get-read app")], ["? no authority", "bad name"])
         same(front.client().ask("app check read plans"), "not held")
         four = front.client()
         same([four.ask("app check read plans"), four.ask("? app check read plans")], ["busy", "? busy"])

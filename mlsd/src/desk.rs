@@ -259,7 +259,7 @@ impl Desk {
             Change::None => Outcome::Core(subject, Asked::default()),
             Change::Get(object, mode) => {
                 let triple = Triple { subject, object, mode };
-                match self.holders.get(&mut client.held, triple) {
+                match self.holders.get(&mut client.held, triple, releases) {
                     Get::Ask => Outcome::Core(subject, Asked { get: Some(triple), ..Asked::default() }),
                     Get::Wait => Outcome::Wait,
                     Get::Full => Outcome::Own("busy"),

@@ -11,9 +11,11 @@ const HELD_MAX: usize = 16_384;
 /// What one connection got, or is getting.
 #[derive(Default, Debug)]
 pub struct Held {
+    /// What is counted.
     held: BTreeSet<Triple>,
-    /// What is asked for, and whether it was held before.
-    getting: Vec<(Triple, bool)>,
+    /// What of it was granted, by the answers so far.
+    got: BTreeSet<Triple>,
+    getting: Vec<Triple>,
 }
 
 /// By how many connections each access is held.
@@ -39,25 +41,32 @@ impl Holders {
         Holders { counts: HashMap::new(), of_start }
     }
 
-    pub fn get(&mut self, held: &mut Held, triple: Triple) -> Get {
-        if held.getting.iter().any(|(it, _)| *it == triple) {
+    /// `waits` is whether another of the same access has to be answered first: where its release is asked for by others.
+    pub fn get(&mut self, held: &mut Held, triple: Triple, waits: bool) -> Get {
+        if waits && held.getting.contains(&triple) {
             return Get::Wait;
         }
         if held.held.len() >= HELD_MAX && !held.held.contains(&triple) {
             return Get::Full;
         }
-        let is_new = held.held.insert(triple);
-        if is_new {
+        if held.held.insert(triple) {
             *self.counts.entry(triple).or_insert(0) += 1;
         }
-        held.getting.push((triple, !is_new));
+        held.getting.push(triple);
         Get::Ask
     }
 
     /// A get has its answer.
     pub fn answered(&mut self, held: &mut Held, triple: Triple, is_granted: bool) {
-        held.getting.retain(|(it, _)| *it != triple);
-        if !is_granted && held.held.remove(&triple) {
+        if let Some(place) = held.getting.iter().position(|it| *it == triple) {
+            held.getting.remove(place);
+        }
+        if is_granted {
+            held.got.insert(triple);
+            return;
+        }
+        held.got.remove(&triple);
+        if !held.getting.contains(&triple) && held.held.remove(&triple) {
             self.let_go(triple);
         }
     }
@@ -78,6 +87,7 @@ impl Holders {
 
     /// A connection asks to release: whether the core is to be asked, which it isn't where others hold it too.
     pub fn release(&mut self, held: &mut Held, triple: Triple) -> bool {
+        held.got.remove(&triple);
         if held.held.remove(&triple) {
             self.let_go(triple)
         } else {
@@ -87,19 +97,11 @@ impl Holders {
 
     /// What of a connection was taken away, which it had got. What it is asking for again has its answer later.
     pub fn taken(&mut self, held: &mut Held, is_taken: impl Fn(&Triple) -> bool) -> Vec<Triple> {
-        let mut lost = Vec::new();
-        for triple in held.held.iter().copied().filter(|triple| is_taken(triple)).collect::<Vec<_>>() {
-            match held.getting.iter_mut().find(|(it, _)| *it == triple) {
-                Some((_, had)) => {
-                    if std::mem::take(had) {
-                        lost.push(triple);
-                    }
-                }
-                None => {
-                    held.held.remove(&triple);
-                    self.let_go(triple);
-                    lost.push(triple);
-                }
+        let lost: Vec<Triple> = held.got.iter().copied().filter(|triple| is_taken(triple)).collect();
+        for triple in &lost {
+            held.got.remove(triple);
+            if !held.getting.contains(triple) && held.held.remove(triple) {
+                self.let_go(*triple);
             }
         }
         lost
@@ -127,7 +129,7 @@ mod tests {
     }
 
     fn gets(holders: &mut Holders, held: &mut Held, object: u16, is_granted: bool) {
-        assert_eq!(holders.get(held, triple(object)), Get::Ask);
+        assert_eq!(holders.get(held, triple(object), true), Get::Ask);
         holders.answered(held, triple(object), is_granted);
     }
 
@@ -148,7 +150,7 @@ mod tests {
     fn a_get_counts_before_its_answer() {
         let (mut holders, mut one, mut two) = (Holders::default(), Held::default(), Held::default());
         gets(&mut holders, &mut one, 1, true);
-        assert_eq!(holders.get(&mut two, triple(1)), Get::Ask);
+        assert_eq!(holders.get(&mut two, triple(1), true), Get::Ask);
         assert!(!holders.release(&mut one, triple(1)));
         holders.answered(&mut two, triple(1), true);
         assert_eq!(holders.close(one), []);
@@ -159,8 +161,8 @@ mod tests {
     fn a_denial_undoes_just_its_own() {
         let (mut holders, mut one, mut two) = (Holders::default(), Held::default(), Held::default());
         gets(&mut holders, &mut one, 1, true);
-        assert_eq!(holders.get(&mut two, triple(1)), Get::Ask);
-        assert_eq!(holders.get(&mut two, triple(1)), Get::Wait);
+        assert_eq!(holders.get(&mut two, triple(1), true), Get::Ask);
+        assert_eq!(holders.get(&mut two, triple(1), true), Get::Wait);
         holders.answered(&mut two, triple(1), false);
         assert_eq!(holders.close(two), []);
         assert_eq!(holders.close(one), [triple(1)]);
@@ -171,7 +173,7 @@ mod tests {
     fn a_connection_that_holds_too_much_is_told() {
         let (mut holders, mut one) = (Holders::default(), Held::default());
         (0..HELD_MAX as u16).for_each(|object| gets(&mut holders, &mut one, object, true));
-        assert_eq!(holders.get(&mut one, triple(HELD_MAX as u16)), Get::Full);
+        assert_eq!(holders.get(&mut one, triple(HELD_MAX as u16), true), Get::Full);
         gets(&mut holders, &mut one, 0, true);
         assert_eq!(holders.close(one).len(), HELD_MAX);
     }
@@ -181,16 +183,29 @@ mod tests {
         let (mut holders, mut one, mut two) = (Holders::default(), Held::default(), Held::default());
         gets(&mut holders, &mut one, 1, true);
         gets(&mut holders, &mut one, 2, true);
-        assert_eq!(holders.get(&mut two, triple(1)), Get::Ask);
+        assert_eq!(holders.get(&mut two, triple(1), true), Get::Ask);
         assert_eq!(holders.taken(&mut one, |it| it.object == 1), [triple(1)]);
         assert_eq!(holders.taken(&mut two, |it| it.object == 1), [], "it is asking for it");
         holders.answered(&mut two, triple(1), true);
         assert_eq!((holders.close(one), holders.close(two)), (vec![triple(2)], vec![triple(1)]));
         let mut one = Held::default();
         gets(&mut holders, &mut one, 1, true);
-        assert_eq!(holders.get(&mut one, triple(1)), Get::Ask);
+        assert_eq!(holders.get(&mut one, triple(1), true), Get::Ask);
         assert_eq!(holders.taken(&mut one, |_| true), [triple(1)]);
         holders.answered(&mut one, triple(1), false);
+        assert!(holders.close(one).is_empty() && holders.counts.is_empty());
+    }
+
+    #[test]
+    fn gets_that_do_not_wait_are_answered_in_their_order() {
+        let (mut holders, mut one) = (Holders::default(), Held::default());
+        (0..3).for_each(|_| assert_eq!(holders.get(&mut one, triple(1), false), Get::Ask));
+        holders.answered(&mut one, triple(1), true);
+        assert_eq!(holders.taken(&mut one, |_| true), [triple(1)]);
+        holders.answered(&mut one, triple(1), false);
+        assert_eq!((Holders::has(&one, triple(1)), holders.taken(&mut one, |_| true)), (true, vec![]));
+        holders.answered(&mut one, triple(1), true);
+        assert_eq!(holders.taken(&mut one, |_| true), [triple(1)]);
         assert!(holders.close(one).is_empty() && holders.counts.is_empty());
     }
 
