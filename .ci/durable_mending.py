@@ -10,8 +10,10 @@ UNFINISHED = ("new", "state.new", "start.new")
 
 
 def is_mended(journal):
-    """Nobody may write a closed segment, the live file is the service's, and nothing is left that was being made."""
-    same([mode_of(segment(journal, number)) for number in numbered(journal)], [0o400] * len(numbered(journal)))
+    """Nobody may write a closed segment, the live file is the service's, and nothing is left that was being made. A crash
+    may leave the live file as the last segment too, which isn't closed then."""
+    closed = [it for number in numbered(journal) if not os.path.samefile(it := segment(journal, number), journal)]
+    same([mode_of(it) for it in closed], [0o400] * len(closed))
     same(mode_of(journal), 0o600)
     same([name for name in os.listdir(".") if name.endswith(".new")], [])
 
