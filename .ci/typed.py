@@ -5,7 +5,7 @@ import subprocess
 
 # Lines for bash before all commands: what is typed must end well, and what is begun gets its time.
 BEGIN = """set -e -o pipefail
-serves() { for _ in $(seq 600); do [ -S "$1" ] && return; sleep 0.1; done; echo "$1 doesn't come" >&2; return 1; }
+serves() { for _ in $(seq 6000); do [ -S "$1" ] && return; sleep 0.1; done; echo "$1 doesn't come" >&2; return 1; }
 """
 MARK = "-- command %d --"
 

@@ -1,5 +1,5 @@
-"""At the edges: an etcd that went back, a disk that fails or is full, and what no replica has written into the log. Each
-over an etcd of its own."""
+"""At the edges: an etcd that went back, a disk that fails or is full, and what no replica has written into the log.
+Each over an etcd of its own."""
 import contextlib
 import secrets
 

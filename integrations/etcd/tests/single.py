@@ -89,8 +89,8 @@ class Replica:
         """Begins it, or what runs it."""
         open(self.log, "w", encoding="utf-8").close()
         words = [*(before or (f"{SOURCE}/mls-replica",)), "--name", self.name, "--program", MLS,
-                 "--etcd", f"127.0.0.1:{self.single.port}", "--start", self.single.start, "--journal", self.journal, "--socket", self.socket,
-                 "--every", self.every]  # fmt: skip
+                 "--etcd", f"127.0.0.1:{self.single.port}", "--start", self.single.start,
+                 "--journal", self.journal, "--socket", self.socket, "--every", self.every]  # fmt: skip
         self.run = self.single.begun(words, os.path.relpath(self.log, self.single.folder))
         return self
 
