@@ -3,15 +3,17 @@ import os
 
 from durable_segments import CUT, drawn, filled, goes_on, run_over_a_disk
 from outside import IS_PROVED, in_its_folder, put, same
-from segments import numbered, segment, state
+from segments import is_linked, numbered, segment, state
 from serving import mode_of, ready, served
 
 UNFINISHED = ("new", "state.new", "start.new")
 
 
 def is_mended(journal):
-    """Nobody may write a closed segment, the live file is the service's, and nothing is left that was being made."""
-    same([mode_of(segment(journal, number)) for number in numbered(journal)], [0o400] * len(numbered(journal)))
+    """Nobody may write a closed segment, the live file, which may be the last segment too, is the service's, and nothing
+    is left that was being made."""
+    closed = numbered(journal)[:-1] if is_linked(journal) else numbered(journal)
+    same([mode_of(segment(journal, number)) for number in closed], [0o400] * len(closed))
     same(mode_of(journal), 0o600)
     same([name for name in os.listdir(".") if name.endswith(".new")], [])
 
