@@ -10,7 +10,7 @@ UNFINISHED = ("new", "state.new", "start.new")
 
 
 def is_mended(journal):
-    """Nobody may write a closed segment, the live file, which may be the last segment too, is the service's, and nothing
+    """Nobody may write a closed segment; the live file, which may be the last segment too, is the service's; nothing
     is left that was being made."""
     closed = numbered(journal)[:-1] if is_linked(journal) else numbered(journal)
     same([mode_of(segment(journal, number)) for number in closed], [0o400] * len(closed))
