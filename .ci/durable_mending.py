@@ -3,7 +3,7 @@ import os
 
 from durable_segments import CUT, drawn, filled, goes_on, run_over_a_disk
 from outside import IS_PROVED, in_its_folder, put, same
-from segments import numbered, segment, state
+from segments import is_linked, numbered, segment, state
 from serving import mode_of, ready, served
 
 UNFINISHED = ("new", "state.new", "start.new")
