@@ -81,6 +81,11 @@ def units_and_their_statuses():
     assert len(rows) >= 4 and "6" in rows, rows
     same(re.search(r"^RestartPreventExitStatus=(.*)$", unit, re.M)[1].split(), rows)
     same(re.search(r'"\$EXIT_STATUS" in ([\d|]+)\)', unit)[1].split("|"), rows)
+    # (what is started again is so each second, and without an end)
+    for name in ("share/systemd/mlsd", "integrations/guard/mls-guard", "integrations/etcd/mls-replica"):
+        text = content(f"{TOP}/{name}.service").decode().splitlines()
+        section = text[text.index("[Unit]") : text.index("[Service]")]
+        same((name, "StartLimitIntervalSec=0" in section, "RestartSec=1" in text), (name, True, True))
 
 
 @needs_proof
@@ -351,7 +356,7 @@ def an_archive():
 
 
 def what_share_has():
-    """The dashboard and the four alert rules name metrics that mlsd writes, and each rule says what to do."""
+    """The dashboard and the five alert rules name metrics that mlsd writes, and each rule says what to do."""
     fresh()
     front_pools.start()
     with Front("--metrics", "m", users=front_pools.RULES, words=core(start=front_pools.START)) as front:
@@ -369,7 +374,7 @@ def what_share_has():
     named = set(re.findall(r"\bmlsd_\w+", " ".join(asked)))
     assert len(named) > 15 and named <= families, named - families
     alerts = re.findall(r"- alert: (\w+)", rules)
-    same((len(alerts), rules.count("expr:"), rules.count("action: >-")), (4, 4, 4))
+    same((len(alerts), rules.count("expr:"), rules.count("action: >-")), (5, 5, 5))
     same([it for it in alerts if f"`{it}`" not in page], [])
     same([it for it in families if not it.endswith("_bucket") and f"`{it}" not in page], [])
 

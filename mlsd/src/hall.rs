@@ -6,6 +6,7 @@ use crate::ending::End;
 use crate::inbox::Line;
 use crate::line::{judge, Judged, Verdict};
 use crate::returns::Clients;
+use crate::say::say;
 use crate::sys::{self, PollFd};
 use std::os::unix::io::AsRawFd;
 use std::os::unix::net::{UnixListener, UnixStream};
@@ -136,6 +137,7 @@ impl Hall<'_> {
         }
         self.desk.flush()?;
         self.desk.beat(!self.is_ending);
+        self.desk.tell_status();
         self.desk.measure();
         self.desk.core.send(self.linger());
         self.end_still();
@@ -153,7 +155,7 @@ impl Hall<'_> {
         let is_over = self.drains.map_or(false, |drains| now > drains + GRACE) && self.desk.is_still();
         let is_stuck = self.ends.map_or(false, |ends| now > ends + STUCK);
         if (is_over || is_stuck) && !self.is_killed {
-            eprintln!("mlsd: the core stands still: it is killed");
+            say("the core stands still: it is killed");
             self.is_killed = true;
             self.desk.core.kill();
         }

@@ -3,11 +3,14 @@
 use crate::desk::Desk;
 use crate::due::Asked;
 use crate::listen::notify;
+use crate::say::say;
 use std::time::{Duration, Instant};
 
 /// How long it may be quiet before it is asked, and how long it may answer nothing.
 const QUIET: Duration = Duration::from_secs(2);
 const STILL: Duration = Duration::from_secs(5);
+/// How often the service manager is told how many entries there are, where there are more than before.
+const TOLD: Duration = Duration::from_secs(15);
 /// What has one answer of any core, without an entry.
 pub const QUESTION: &str = "#0 check execute #0";
 
@@ -19,6 +22,8 @@ pub struct Pulse {
     still: Option<Instant>,
     quiet: Duration,
     has_watchdog: bool,
+    /// When the service manager was told how many entries there are, and how many.
+    told: (Instant, u64),
 }
 
 /// How long the service manager waits to be told that all is well.
@@ -32,7 +37,7 @@ impl Pulse {
     pub fn new(now: Instant) -> Pulse {
         let watchdog = watchdog();
         let quiet = watchdog.map_or(QUIET, |most| QUIET.min(most / 4));
-        Pulse { heard: now, still: None, quiet, has_watchdog: watchdog.is_some() }
+        Pulse { heard: now, still: None, quiet, has_watchdog: watchdog.is_some(), told: (now, 0) }
     }
 }
 
@@ -61,7 +66,7 @@ impl Desk {
     /// The core has answered.
     pub fn is_heard(&mut self) {
         if let Some(since) = self.pulse.still.take() {
-            eprintln!("mlsd: the core answers again, after {} s", self.now.duration_since(since).as_secs());
+            say(format!("the core answers again, after {} s", self.now.duration_since(since).as_secs()));
         }
         self.pulse.heard = self.now;
         if self.pulse.has_watchdog {
@@ -74,7 +79,7 @@ impl Desk {
         match self.waits_since() {
             Some(since) if self.is_still() && self.pulse.still.is_none() => {
                 let (pid, seconds) = (self.core.pid(), self.now.duration_since(since).as_secs());
-                eprintln!("mlsd: the core, process {pid}, has answered nothing for {seconds} s");
+                say(format!("the core, process {pid}, has answered nothing for {seconds} s"));
                 self.pulse.still = Some(since);
             }
             None if may_ask && self.now.duration_since(self.pulse.heard) >= self.pulse.quiet => {
@@ -82,6 +87,15 @@ impl Desk {
                 self.core.ask(0, QUESTION, false, self.now, asked, true);
             }
             _ => (),
+        }
+    }
+
+    /// Tells the service manager how many entries there are.
+    pub fn tell_status(&mut self) {
+        let (told, entries) = self.pulse.told;
+        if entries != self.entries && self.now.duration_since(told) >= TOLD {
+            notify(&format!("STATUS={}", self.status()));
+            self.pulse.told = (self.now, self.entries);
         }
     }
 
