@@ -1,5 +1,5 @@
 -- The members of JSON objects, and their objects.
-use Rattle.std.specs.Prelude.{◌≡◌, ℕ, ◌==◌, Bool, false, is_some, List, [], ◌∷◌, ◌++◌, drop, Option, Some, None, Result}
+use Rattle.std.specs.Prelude.{◌≡◌, ℕ, ◌==◌, Bool, false, is_some, List, [], ◌∷◌, ◌++◌, codes, drop, Option, Some, None, Result}
 use Rattle.std.specs.Prelude.{OnOk, slice_get, if◌then◌else◌}
 use Rattle.std.specs.Fmt.{decimal}
 use Rattle.json.specs.Print.{print}
@@ -8,6 +8,7 @@ use Rattle.json.specs.Written.{Written}
 use Rattle.mls_facts.specs.Decimals.{decimal_within}
 use Rattle.mls_lines.specs.Names.{Names}
 use Rattle.mls_requests.specs.ModeWords.{mode_word}
+use Rattle.mls_tables.specs.Triples.{Triple}
 use Rattle.mls_tables.specs.declared.mode.Mode.{Mode}
 
 -- Where the call succeeds, these tokens stand behind those that were there, and nothing else. (own)
@@ -60,6 +61,12 @@ subject_member at name names s = member_of at name (slice_get names.subjects s) 
 -- An object: its number under one key, or its name under another. (own)
 abbrev pub object_member : List ℕ → List ℕ → Names → ℕ → List Token
 object_member at name names o = member_of at name (slice_get names.objects o) o
+
+-- An access: its subject, its mode and its object, each under its own keys. (own)
+abbrev pub access_members : Names → Triple → List Token
+access_members names t =
+    subject_member (codes "subject") (codes "subject_name") names t.0 ++ mode_member (codes "mode") t.2
+    ++ object_member (codes "object") (codes "object_name") names t.1
 
 -- A member that is a list of these. (own)
 abbrev pub list_member : List ℕ → List Token → List Token

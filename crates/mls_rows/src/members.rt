@@ -44,7 +44,7 @@ pub fn write_null(writer: &mut Writer, at: &str) -> Result<(), AllocError>
 ///
 /// # Errors
 /// `AllocError` where an allocation failed.
-pub fn write_mode(writer: &mut Writer, at: &str, mode: Mode) -> Result<(), AllocError>
+pub fn write_mode_at(writer: &mut Writer, at: &str, mode: Mode) -> Result<(), AllocError>
     ensures { Adds result writer.old writer.new (mode_member at.now mode) }
 {
     writer.key(at)?;

@@ -42,7 +42,7 @@ fn write_named(
 ///
 /// # Errors
 /// `AllocError` where an allocation failed.
-pub fn write_subject(
+pub fn write_subject_at(
     writer: &mut Writer,
     keys: (&str, &str),
     names: &Names,
@@ -58,7 +58,7 @@ pub fn write_subject(
 ///
 /// # Errors
 /// `AllocError` where an allocation failed.
-pub fn write_object(
+pub fn write_object_at(
     writer: &mut Writer,
     keys: (&str, &str),
     names: &Names,
