@@ -2,7 +2,7 @@
 use mls_json::Lines;
 
 /// Which JSON objects a command prints, where they are asked for.
-#[derive(Clone, Copy, Debug)]
+#[derive(Clone, Copy)]
 pub enum Objects {
     /// Those of the answer's rows: the answer is these objects.
     Rows,
