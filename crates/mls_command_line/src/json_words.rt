@@ -63,7 +63,7 @@ pub(crate) fn json_argument(command: CommandName) -> Option<Argument> {
 /// The JSON objects that are asked for.
 pub(crate) fn asked_objects(command: CommandName, matches: &ArgMatches<'_>) -> Option<Objects> {
     let objects = match command {
-        CommandName::Journal if matches.get_flag("summary") => Objects::Lines(Lines::Summary),
+        CommandName::Journal if matches.get_flag("summary") => Objects::Rows,
         CommandName::Who if matches.get_flag("ever") => Objects::Rows,
         _ => objects_of(command)?,
     };

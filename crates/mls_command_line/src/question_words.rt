@@ -70,12 +70,11 @@ fn range<'a>(matches: &ArgMatches<'a>) -> Result<(Option<u64>, Option<u64>), Wor
 
 /// The form that the entries of a journal are asked for in.
 fn form(matches: &ArgMatches<'_>) -> Form {
-    if matches.get_flag("summary") {
-        Form::Summary
-    } else if matches.get_flag("json") {
-        Form::Json
-    } else {
-        Form::Lines
+    match (matches.get_flag("summary"), matches.get_flag("json")) {
+        (true, true) => Form::SummaryJson,
+        (true, false) => Form::Summary,
+        (false, true) => Form::Json,
+        (false, false) => Form::Lines,
     }
 }
 

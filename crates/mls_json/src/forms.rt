@@ -12,4 +12,4 @@ pub(crate) use compared::COMPARE;
 pub(crate) use explained::{EXPLAIN, EXPLAIN_LEVEL};
 pub(crate) use starts::{LINT, STATE};
 pub(crate) use subjects::{POWERS, WHO};
-pub(crate) use whole::{ASK, CHECK, SUMMARY, VERIFY};
+pub(crate) use whole::{ASK, CHECK, VERIFY};

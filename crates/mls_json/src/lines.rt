@@ -1,7 +1,7 @@
 //! Which lines a text has.
 use crate::forms::{
     ABOUT_OBJECT, ABOUT_SUBJECT, ABOUT_WORD, ASK, CHECK, COMPARE, EXPLAIN, EXPLAIN_LEVEL, LINT,
-    POWERS, STATE, SUMMARY, VERIFY, WHO,
+    POWERS, STATE, VERIFY, WHO,
 };
 use crate::table::Table;
 
@@ -18,8 +18,6 @@ pub enum Lines {
     Lint,
     State,
     Compare,
-    /// Of `journal --summary`.
-    Summary,
 }
 
 /// The forms of an explanation. Where a ceiling is compared a level was asked for, and the accesses in the way are the
@@ -65,7 +63,6 @@ impl Lines {
             Lines::Lint => Table::Each(&LINT),
             Lines::State => Table::Each(&STATE),
             Lines::Compare => Table::Each(&COMPARE),
-            Lines::Summary => Table::Whole(&SUMMARY),
         }
     }
 
@@ -73,7 +70,7 @@ impl Lines {
     pub fn is_whole(self) -> bool {
         matches!(
             self,
-            Lines::Check | Lines::Verify | Lines::Ask | Lines::Explain | Lines::Summary
+            Lines::Check | Lines::Verify | Lines::Ask | Lines::Explain
         )
     }
 }

@@ -1,7 +1,8 @@
 //! The commands that list what a journal has, and the state that it leads to.
-use crate::answering::{answered, ended, name_refused, question_refused, status_of};
+use crate::answering::{ended, name_refused, question_refused, status_of};
 use crate::named::Named;
 use crate::renaming::journal_after;
+use crate::row_answers::listed;
 use crate::sources::Bytes;
 use mls_command_line::{JournalWords, Source};
 use mls_explain_text::{Sort, WriteFault, write_explained};
@@ -125,7 +126,7 @@ fn journal_listed(
     let done = list_journal(rt.alloc(), &bytes.start, journal, marks, filter, words.form);
     progress.end();
     match done {
-        Ok(answer) => answered(progress, answer),
+        Ok(listing) => listed(progress, listing),
         Err(fault) => list_refused(rt, words, &bytes.start, fault),
     }
 }

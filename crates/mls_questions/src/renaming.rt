@@ -1,5 +1,5 @@
 //! Questions about a journal whose start was made of a state, with its objects by the names that they had before.
-use crate::answering::{answered, bare_refused, question_refused};
+use crate::answering::{bare_refused, question_refused};
 use crate::named::Named;
 use crate::row_answers::{form_of, listed};
 use crate::sources::Bytes;
@@ -95,11 +95,17 @@ fn list_entries(
     marks: Option<&Marks>,
     words: &JournalWords<'_>,
     choice: &Choice,
-) -> Result<Answer, ListFault> {
+) -> Result<Listing, ListFault> {
     let start = replay.start();
     let entries = replay.entries();
     if words.is_explained {
-        explain_chosen(alloc, names, start, entries, marks, choice)
+        let Answer { text, is_positive } = explain_chosen(
+            alloc, names, start, entries, marks, choice,
+        )?;
+        Ok(Listing {
+            bytes: text.into_bytes(),
+            is_positive,
+        })
     } else {
         list_chosen(alloc, names, entries, marks, choice, words.form)
     }
@@ -113,7 +119,7 @@ fn list_replayed(
     marks: Option<&Marks>,
     words: &JournalWords<'_>,
     filter: &Words<'_>,
-) -> Result<Answer, ListFault> {
+) -> Result<Listing, ListFault> {
     let object = any_number_word(alloc, names, filter.object)?;
     let by_number = Filter {
         subject: filter.subject,
@@ -135,7 +141,7 @@ fn journal_by(
     bytes: &Bytes,
     words: &JournalWords<'_>,
     filter: &Words<'_>,
-) -> Result<Answer, ListFault> {
+) -> Result<Listing, ListFault> {
     match replay_at(alloc, &bytes.start, bytes.journal(), None) {
         Ok(replay) => {
             let listed = list_replayed(alloc, names, &replay, bytes.marks.as_ref(), words, filter);
@@ -213,9 +219,9 @@ pub(crate) fn journal_after(
     drop(names);
     let about = named(words.start, words.journal, filter.subject, filter.object);
     match done {
-        Ok(answer) => {
+        Ok(listing) => {
             progress.end();
-            answered(progress, answer)
+            listed(progress, listing)
         }
         Err(ListFault::Question(fault)) => refused_by(progress, about, &bytes.start, fault),
         Err(ListFault::By) => {

@@ -1,13 +1,14 @@
 //! The sections of a page about a journal that was replayed, each of what another question prints.
 use mls_explain_text::explain_chosen;
-use mls_listings::{Choice, Filter, ListFault, ReplyFront, summarize};
+use mls_lines::Names;
+use mls_listings::{Choice, Filter, ListFault, ReplyFront, Summary, summarize};
 use mls_marks::{Marks, Verified};
 use mls_monitor::Entry;
 use mls_page::{Found, Page, SHOWN};
 use mls_replay::{QuestionFault, Replay};
 use mls_requests::{Reply, ReplyWord};
 use mls_review::{Asked, lattice, powers};
-use mls_rows::{Form, Listing};
+use mls_rows::{Form, Listing, Told};
 use mls_spans::{Choice as HeldChoice, Filter as HeldFilter, States, list_spans, list_usages};
 use std::alloc::{AllocError, Global};
 use std::str;
@@ -58,6 +59,18 @@ fn add_marked(page: &mut Page, entries: u64, verified: &Verified) -> Result<(), 
     page.add_verified(entries, Some(&found))
 }
 
+/// The lines of a summary.
+fn lines_of(alloc: Global, names: &Names, summary: &Summary) -> Result<String, AllocError> {
+    let mut lines = String::new(alloc);
+    match summary.push_line(&mut lines, names, None) {
+        Ok(()) => Ok(lines),
+        Err(fault) => {
+            drop(lines);
+            Err(fault)
+        }
+    }
+}
+
 /// Appends how many entries there are, by reply.
 fn add_summary(alloc: Global, page: &mut Page, seen: &Replay) -> Result<(), AllocError> {
     let all: Choice = Filter {
@@ -70,9 +83,12 @@ fn add_summary(alloc: Global, page: &mut Page, seen: &Replay) -> Result<(), Allo
         to: None,
     };
     let entries = seen.entries();
-    let summary = summarize(alloc, seen.names(), &all, entries)?;
-    let done = page.add_counts(alloc, entries.len() as u64, &summary);
+    let summary = summarize(alloc, &all, entries)?;
+    let lines = lines_of(alloc, seen.names(), &summary);
     drop(summary);
+    let lines = lines?;
+    let done = page.add_counts(alloc, entries.len() as u64, &lines);
+    drop(lines);
     done
 }
 

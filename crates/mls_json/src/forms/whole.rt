@@ -1,6 +1,5 @@
 //! Lines that are told by one object.
 use crate::form::{Form, Place};
-use crate::forms::common::{REASON, SUBJECT};
 use crate::part::{Fixed, Kind, Mark, Part};
 
 /// Of `check`.
@@ -93,60 +92,5 @@ pub(crate) static ASK: [Form; 3] = [
     Form {
         place: Place::Object,
         parts: &[Part::Reply],
-    },
-];
-
-/// Of `journal --summary`.
-pub(crate) static SUMMARY: [Form; 6] = [
-    Form {
-        place: Place::Object,
-        parts: &[
-            Part::Word("entries"),
-            Part::Told("entries", Kind::Number, Mark::Nothing),
-        ],
-    },
-    Form {
-        place: Place::List("replies"),
-        parts: &[
-            SUBJECT,
-            Part::Word("yes"),
-            Part::Says("reply", Fixed::Text("yes")),
-            Part::Told("entries", Kind::Number, Mark::Nothing),
-        ],
-    },
-    Form {
-        place: Place::List("replies"),
-        parts: &[
-            SUBJECT,
-            Part::Word("created"),
-            Part::Says("reply", Fixed::Text("created")),
-            Part::Told("entries", Kind::Number, Mark::Nothing),
-        ],
-    },
-    Form {
-        place: Place::List("replies"),
-        parts: &[
-            SUBJECT,
-            Part::Word("no"),
-            Part::Says("reply", Fixed::Text("no")),
-            Part::Told("entries", Kind::Number, Mark::Nothing),
-        ],
-    },
-    Form {
-        place: Place::List("replies"),
-        parts: &[
-            SUBJECT,
-            Part::Word("undefined"),
-            Part::Says("reply", Fixed::Text("undefined")),
-            Part::Told("entries", Kind::Number, Mark::Nothing),
-        ],
-    },
-    Form {
-        place: Place::List("reasons"),
-        parts: &[
-            Part::Word("no"),
-            REASON,
-            Part::Told("entries", Kind::Number, Mark::Nothing),
-        ],
     },
 ];
