@@ -2,17 +2,15 @@
 #![tactic(auto)]
 
 mod answering;
-mod asking;
 mod comparison;
 mod describing;
-mod empowering;
 mod listing;
 mod named;
 mod one_state;
 mod renaming;
 mod report;
 mod report_parts;
-mod segmented;
+mod seeing;
 mod snapshots;
 mod source_names;
 mod sources;
