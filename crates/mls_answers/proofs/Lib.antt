@@ -1,1 +1,2 @@
 mod Seen
+mod Starts

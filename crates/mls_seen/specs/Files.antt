@@ -94,7 +94,7 @@ IsAt (Some at) number = number ≡ at
 pub record SeesBehind (start : State) (earlier : List Entry) (r : Seen) : Type 0 where
   pub entries : List Entry
   pub text : r.files.journal ≡ journal_text (entries ++ list_of r.next)
-  pub legal : IsLegal start (earlier ++ entries ++ list_of r.next)
+  pub legal : IsLegal start (earlier ++ (entries ++ list_of r.next))
   pub state : r.state ≡ fold start (earlier ++ entries)
   pub number : r.number ≡ length (earlier ++ entries)
   pub place : IsAt r.at r.number
@@ -130,7 +130,7 @@ pub record SeesFiles (r : Seen) : Type 0 where
 -- Files, looked at before an entry or behind all, are seen as something of which this is so. (own)
 pub record SeesThat (files : Files) (at : Option ℕ) (P : Seen → Type 0) : Type 0 where
   pub seen : Seen
-  pub files : seen.files ≡ files
-  pub at : seen.at ≡ at
+  pub of_files : seen.files ≡ files
+  pub before : seen.at ≡ at
   pub sees : SeesFiles seen
   pub so : P seen

@@ -1,6 +1,7 @@
 //! Start files that were read.
 ghost use Rattle.std.specs.Prelude.{◌≡◌, IfOk, IfErr};
 ghost use Rattle.mls_replay.specs.Loads.{RefusesLoad};
+ghost use Rattle.mls_start_file.specs.Says.{SaysStart};
 ghost use Rattle.mls_start_file.specs.Ties.{AreTied};
 
 use mls_lines::Names;
@@ -59,6 +60,7 @@ impl Opened {
     pub fn names(&self) -> &Names
         ensures names { result.now ≡ self.now.loaded.names }
         ensures tied { AreTied self.now.loaded.names self.now.loaded.start }
+        ensures says { SaysStart self.now.file self.now.loaded }
     {
         self.loaded.names()
     }
