@@ -1,6 +1,7 @@
 //! Start files and journals, as a command reads them.
 use crate::telling::command_refused;
 use mls_replay::{CommandFault, JOURNAL_LIMIT, START_LIMIT};
+use mls_seen::Opened;
 use mls_start_file::{Loaded, read_start};
 use mls_terminal::{Input, Progress, file_refused};
 use std::process::ExitCode;
@@ -35,6 +36,23 @@ pub fn judge_start(
     match read_start(rt.alloc(), bytes) {
         Ok(loaded) => Ok(loaded),
         Err(fault) => Err(command_refused(rt, path, &CommandFault::from(fault))),
+    }
+}
+
+/// Opens the bytes of a start file of this name.
+///
+/// # Errors
+/// The status to end with: it is told why the file is refused.
+pub fn open_start(
+    progress: &mut Progress<'_>,
+    path: &str,
+    bytes: Vec<u8>,
+) -> Result<Opened, ExitCode> {
+    progress.end();
+    let rt = progress.rt();
+    match Opened::read(rt.alloc(), bytes) {
+        Ok(opened) => Ok(opened),
+        Err(fault) => Err(command_refused(rt, path, &fault)),
     }
 }
 

@@ -10,16 +10,16 @@ mod segments;
 mod telling;
 
 pub use call_fault::{CallFault, FileCall, of_call};
-pub use inputs::{journal_file, judge_start, load_start, start_file};
+pub use inputs::{journal_file, judge_start, load_start, open_start, start_file};
 pub use marks::{
     MarksFault, MarksInput, MarksJudge, first_line, marks_refused, read_marks, take_pieces,
     tell_mark,
 };
 pub use opening::{OpenFault, PRIVATE, is_named, node_of, open_locked, sync_folder};
 pub use segments::{
-    Goal, KeptFault, Lines, Listing, Seen, Wanted, compare_state, count_judged, find_behind,
+    Goal, KeptFault, Listing, Sought, Wanted, compare_state, count_judged, find_behind,
     first_number, go_on, is_last, kept_refused, last_number, len_of, list_beside, list_files,
     other_path, probe_files, read_from, read_front, read_journal, read_rest, real_path,
-    refuse_behind, resume, see, segment_path, segments_of, state_path, tell_behind,
+    refuse_behind, resume, seek, segment_path, segments_of, state_path, tell_behind,
 };
 pub use telling::{command_refused, fault_file, tell_call, tell_differing, tell_end};

@@ -1,13 +1,11 @@
 //! The command of a question, and how it ends.
-use crate::asking::{ask, explain, who};
 use crate::comparison::compare;
 use crate::describing::about;
-use crate::empowering::powers;
-use crate::listing::{journal, state};
+use crate::listing::journal;
 use crate::named::Named;
+use crate::one_state::asked_of;
 use crate::report::report;
-use crate::segmented::answer_in_segments;
-use crate::snapshots::start_of_state;
+use crate::seeing::answer_state;
 use crate::source_names::source_of;
 use crate::sources::{Bytes, read_source};
 use crate::spans::{held, usage, who_ever};
@@ -126,15 +124,7 @@ fn answer_over(
     bytes: &Bytes,
 ) -> ExitCode {
     match question {
-        Question::Ask { line, .. } => ask(progress, source, bytes, line),
-        Question::Explain { line, .. } => explain(progress, source, bytes, *line),
-        Question::Who { object, mode, .. } => who(progress, source, bytes, object, *mode),
         Question::WhoEver(words) => who_ever(progress, words, bytes),
-        Question::Powers {
-            subject,
-            downgrades,
-            ..
-        } => powers(progress, source, bytes, *subject, *downgrades),
         Question::About {
             name,
             is_object,
@@ -143,15 +133,6 @@ fn answer_over(
         Question::Lint { start } => lint(progress, start, bytes),
         Question::Lattice { start } => lattice(progress, start, bytes),
         Question::Journal(words) => journal(progress, words, bytes),
-        Question::State {
-            is_start: false,
-            ..
-        } => state(progress, source, bytes),
-        Question::State {
-            is_start: true,
-            map,
-            ..
-        } => start_of_state(progress, source, bytes, *map),
         Question::Held(words) => held(progress, words, bytes),
         Question::Usage(words) => usage(progress, words, bytes),
         Question::Compare {
@@ -160,6 +141,12 @@ fn answer_over(
             journal,
         } => compare(progress, first, bytes, second, *journal),
         Question::Report(words) => report(progress, words, bytes),
+        // (a question about one state is answered over what is seen, and never comes here)
+        Question::Ask { .. }
+        | Question::Explain { .. }
+        | Question::Who { .. }
+        | Question::Powers { .. }
+        | Question::State { .. } => ExitCode::SUCCESS,
     }
 }
 
@@ -179,8 +166,8 @@ fn answer_whole(progress: &mut Progress<'_>, question: &Question<'_>) -> ExitCod
 /// Answers a question about start files or journals on standard output. The status is 0 where the answer is a positive
 /// one, and 4 where it is a negative one.
 pub fn answer(progress: &mut Progress<'_>, question: &Question<'_>) -> ExitCode {
-    match answer_in_segments(progress, question) {
-        Some(status) => status,
+    match asked_of(question) {
+        Some(asked) => answer_state(progress, &source_of(question), asked),
         None => answer_whole(progress, question),
     }
 }

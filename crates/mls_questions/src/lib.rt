@@ -2,10 +2,8 @@
 #![tactic(auto)]
 
 mod answering;
-mod asking;
 mod comparison;
 mod describing;
-mod empowering;
 mod listing;
 mod named;
 mod one_state;
@@ -13,7 +11,7 @@ mod renaming;
 mod report;
 mod report_parts;
 mod row_answers;
-mod segmented;
+mod seeing;
 mod snapshots;
 mod source_names;
 mod sources;

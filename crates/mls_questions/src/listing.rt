@@ -1,12 +1,12 @@
 //! The commands that list what a journal has, and the state that it leads to.
-use crate::answering::{ended, name_refused, question_refused, status_of};
+use crate::answering::{name_refused, question_refused, status_of};
 use crate::named::Named;
 use crate::renaming::journal_after;
 use crate::row_answers::listed;
 use crate::sources::Bytes;
-use mls_command_line::{JournalWords, Source};
+use mls_command_line::JournalWords;
 use mls_explain_text::{Sort, WriteFault, write_explained};
-use mls_listings::{Filter, ListFault, Words, list_journal, list_state};
+use mls_listings::{Filter, ListFault, Words, list_journal};
 use mls_marks::Marks;
 use mls_terminal::{NOT_WRITTEN, Progress, refused};
 use std::io::Write;
@@ -145,13 +145,4 @@ pub(crate) fn journal(
     } else {
         journal_listed(progress, words, bytes, &filter)
     }
-}
-
-/// Prints the state that a journal leads to.
-pub(crate) fn state(progress: &mut Progress<'_>, source: &Source<'_>, bytes: &Bytes) -> ExitCode {
-    progress.begin("listing");
-    let alloc = progress.rt().alloc();
-    let done = list_state(alloc, &bytes.start, bytes.journal(), bytes.at);
-    let named = Named::files(source.start, source.journal.unwrap_or(""));
-    ended(progress, named, &bytes.start, done)
 }

@@ -1,14 +1,10 @@
-//! What is answered in one state.
-use mls_explain_text::{answer_in, explain_in, read_question, who_in};
-use mls_files::Seen;
-use mls_lines::Names;
-use mls_monitor::{Entry, Monitor};
-use mls_replay::{CommandFault, QuestionFault, named_object, named_subject};
-use mls_requests::{Ask, read_mode};
-use mls_review::{Asked, powers};
-use mls_rules::State;
-use mls_snapshots::state_text;
-use mls_tables::{Mode, Modes};
+//! Questions about one state.
+use mls_answers::{ask, explain, powers, state, who};
+use mls_command_line::Question;
+use mls_replay::QuestionFault;
+use mls_requests::read_mode;
+use mls_seen::Seen;
+use mls_tables::Mode;
 use mls_wording::Answer;
 use std::alloc::Global;
 
@@ -39,111 +35,69 @@ pub(crate) enum OfState<'a> {
     },
 }
 
-/// What a line would be answered.
-fn ask(alloc: Global, names: &Names, state: &State, line: &str) -> Result<Answer, QuestionFault> {
-    match read_question(alloc, names, line.as_bytes()) {
-        Ok(asked) => Ok(answer_in(alloc, state, &asked)?),
-        Err(fault) => Err(QuestionFault::Line(fault)),
+/// What is asked of one state, where a question is about one.
+pub(crate) fn asked_of<'a>(question: &Question<'a>) -> Option<OfState<'a>> {
+    match question {
+        Question::Ask { line, .. } => Some(OfState::Line(*line)),
+        Question::Explain {
+            line: Some(line),
+            ..
+        } => Some(OfState::Why(*line)),
+        Question::Explain { line: None, .. } => Some(OfState::Next),
+        Question::Who { object, mode, .. } => {
+            let (object, mode) = (*object, *mode);
+            Some(OfState::Who { object, mode })
+        }
+        Question::Powers {
+            subject,
+            downgrades,
+            ..
+        } => {
+            let (subject, downgrades) = (*subject, *downgrades);
+            Some(OfState::Powers {
+                subject,
+                downgrades,
+            })
+        }
+        Question::State {
+            is_start: false,
+            ..
+        } => Some(OfState::List),
+        Question::State {
+            is_start: true,
+            map,
+            ..
+        } => Some(OfState::StartFile { map: *map }),
+        Question::About { .. }
+        | Question::Lint { .. }
+        | Question::Lattice { .. }
+        | Question::Journal(_)
+        | Question::Held(_)
+        | Question::Usage(_)
+        | Question::WhoEver(_)
+        | Question::Compare { .. }
+        | Question::Report(_) => None,
     }
 }
 
-/// Why a line is answered as it is.
-fn why(alloc: Global, names: &Names, state: &State, line: &str) -> Result<Answer, QuestionFault> {
-    match read_question(alloc, names, line.as_bytes()) {
-        Ok(asked) => Ok(explain_in(alloc, names, state, &asked)?),
-        Err(fault) => Err(QuestionFault::Line(fault)),
-    }
-}
-
-/// The mode that a word names, where there is one.
-pub(crate) fn mode_of(word: Option<&str>) -> Option<Mode> {
-    match word {
-        Some(word) => read_mode(word.as_bytes()),
-        None => None,
-    }
-}
-
-/// The modes that are asked for: one, or all.
-fn modes_of(word: Option<&str>) -> Modes {
-    match mode_of(word) {
-        Some(x) => Modes::empty().with(x),
-        None => Modes::empty()
-            .with(Mode::Execute)
-            .with(Mode::Read)
-            .with(Mode::Append)
-            .with(Mode::Write),
-    }
-}
-
-/// Who may get the object that a word names.
-fn who(
-    alloc: Global,
-    names: &Names,
-    state: &State,
-    word: &str,
-    mode: Option<&str>,
-) -> Result<Answer, QuestionFault> {
-    let object = named_object(names, word)?;
-    Ok(who_in(alloc, names, state, object, modes_of(mode))?)
-}
-
-/// What the subject may change that a word names, or each.
-fn changes(
-    alloc: Global,
-    names: &Names,
-    state: &State,
-    word: Option<&str>,
-    downgrades: bool,
-) -> Result<Answer, QuestionFault> {
-    let subject = match word {
-        Some(word) => Some(named_subject(names, word)?),
-        None => None,
-    };
-    let asked = Asked {
-        subject,
-        downgrades,
-    };
-    Ok(powers(alloc, names, state, asked)?)
-}
-
-/// What there is in a state.
-fn list(alloc: Global, names: &Names, state: &State) -> Result<Answer, QuestionFault> {
-    let text = state_text(alloc, names, state)?;
-    Ok(Answer {
-        text,
-        is_positive: true,
-    })
-}
-
-/// Why the entry is answered as it is that comes next, which is then replayed.
-fn why_next(
-    alloc: Global,
-    names: &Names,
-    monitor: &mut Monitor,
-    next: &Option<Entry>,
-) -> Result<Answer, QuestionFault> {
-    let Some(entry) = next else {
-        return Err(QuestionFault::NoEntry(monitor.next_number()));
-    };
-    let answer = explain_in(alloc, names, monitor.state(), &Ask::Submit(entry.request))?;
-    match monitor.replay_entry(entry) {
-        Ok(()) => Ok(answer),
-        Err(fault) => {
-            drop(answer);
-            Err(QuestionFault::Files(CommandFault::from(fault)))
+impl<'a> OfState<'a> {
+    /// What is told that begins while it is answered.
+    pub(crate) fn phase(&self) -> &'static str {
+        match self {
+            OfState::Line(_) => "asking",
+            OfState::Why(_) | OfState::Next => "explaining",
+            OfState::Who { .. } | OfState::Powers { .. } => "looking",
+            OfState::List => "listing",
+            OfState::StartFile { .. } => "writing",
         }
     }
 }
 
-/// Refuses a state before an entry whose number is above how many there are.
-///
-/// # Errors
-/// `AtMost` with the number of entries.
-pub(crate) fn refuse_above(seen: &Seen, at: Option<u64>) -> Result<(), QuestionFault> {
-    let many = seen.monitor.next_number();
-    match at {
-        Some(at) if at > many => Err(QuestionFault::AtMost(many)),
-        _ => Ok(()),
+/// The mode that a word names, where there is one.
+fn mode_of(word: Option<&str>) -> Option<Mode> {
+    match word {
+        Some(word) => read_mode(word.as_bytes()),
+        None => None,
     }
 }
 
@@ -153,19 +107,18 @@ pub(crate) fn refuse_above(seen: &Seen, at: Option<u64>) -> Result<(), QuestionF
 /// Why there is no answer.
 pub(crate) fn answer_seen(
     alloc: Global,
-    names: &Names,
-    seen: &mut Seen,
+    seen: &Seen,
     asked: OfState<'_>,
 ) -> Result<Answer, QuestionFault> {
     match asked {
-        OfState::Line(line) => ask(alloc, names, seen.monitor.state(), line),
-        OfState::Why(line) => why(alloc, names, seen.monitor.state(), line),
-        OfState::Next => why_next(alloc, names, &mut seen.monitor, &seen.next),
-        OfState::Who { object, mode } => who(alloc, names, seen.monitor.state(), object, mode),
+        OfState::Line(line) => ask(alloc, seen, line.as_bytes()),
+        OfState::Why(line) => explain(alloc, seen, Some(line.as_bytes())),
+        OfState::Next => explain(alloc, seen, None),
+        OfState::Who { object, mode } => who(alloc, seen, object, mode_of(mode)),
         OfState::Powers {
             subject,
             downgrades,
-        } => changes(alloc, names, seen.monitor.state(), subject, downgrades),
-        OfState::List | OfState::StartFile { .. } => list(alloc, names, seen.monitor.state()),
+        } => powers(alloc, seen, subject, downgrades),
+        OfState::List | OfState::StartFile { .. } => state(alloc, seen),
     }
 }

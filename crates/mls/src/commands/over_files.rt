@@ -1,10 +1,10 @@
 //! The commands over files.
 use mls_files::{
-    Goal, Wanted, command_refused, fault_file, judge_start, read_journal, see, segments_of,
+    Goal, Wanted, command_refused, fault_file, open_start, read_journal, seek, segments_of,
     start_file,
 };
-use mls_monitor::Start;
 use mls_replay::{CommandFault, check_start, ending, replay_journal};
+use mls_seen::Opened;
 use mls_terminal::{NO_MEMORY, Progress, file_refused, print, refused};
 use std::io::IsTerminal;
 use std::process::ExitCode;
@@ -51,19 +51,14 @@ pub fn check(progress: &mut Progress<'_>, start: &str) -> ExitCode {
     status
 }
 
-/// Replays the files of a journal in segments over a start, and says how the monitor then stands.
-fn replay_all(
-    progress: &mut Progress<'_>,
-    wanted: Wanted<'_>,
-    start: Start,
-    bytes: &[u8],
-) -> ExitCode {
-    let seen = match see(progress, wanted, start, bytes) {
-        Ok(seen) => seen,
+/// Replays the files of a journal in segments over a start file that was read, and says how the monitor then stands.
+fn replay_all(progress: &mut Progress<'_>, wanted: Wanted<'_>, opened: Opened) -> ExitCode {
+    let sought = match seek(progress, wanted, opened) {
+        Ok(sought) => sought,
         Err(status) => return status,
     };
-    let text = ending(progress.rt().alloc(), &seen.monitor);
-    drop(seen);
+    let text = ending(progress.rt().alloc(), sought.seeing.monitor());
+    drop(sought);
     progress.end();
     match text {
         Ok(text) => {
@@ -78,24 +73,21 @@ fn replay_all(
 /// Replays the files of a journal in segments over the bytes of a start file, and compares each state that was kept.
 fn replay_segments(
     progress: &mut Progress<'_>,
-    bytes: &[u8],
+    bytes: Vec<u8>,
     start: &str,
     journal: &str,
     path: &str,
 ) -> ExitCode {
-    let (names, opened) = match judge_start(progress, start, bytes) {
-        Ok(loaded) => loaded.into_parts(),
+    let opened = match open_start(progress, start, bytes) {
+        Ok(opened) => opened,
         Err(status) => return status,
     };
     let wanted = Wanted {
         name: journal,
         journal: path,
-        names: &names,
         goal: Goal::All,
     };
-    let status = replay_all(progress, wanted, opened, bytes);
-    drop(names);
-    status
+    replay_all(progress, wanted, opened)
 }
 
 /// Replays a journal whose start file was read.
@@ -111,24 +103,30 @@ fn replay_over(progress: &mut Progress<'_>, bytes: &[u8], start: &str, journal: 
 }
 
 /// Replays a journal over the bytes of a start file: a segment at a time, where it is in segments.
-fn replay_bytes(progress: &mut Progress<'_>, bytes: &[u8], start: &str, journal: &str) -> ExitCode {
+fn replay_bytes(
+    progress: &mut Progress<'_>,
+    bytes: Vec<u8>,
+    start: &str,
+    journal: &str,
+) -> ExitCode {
     match segments_of(progress.rt(), journal) {
         Some(path) => {
             let status = replay_segments(progress, bytes, start, journal, &path);
             drop(path);
             status
         }
-        None => replay_over(progress, bytes, start, journal),
+        None => {
+            let status = replay_over(progress, &bytes, start, journal);
+            drop(bytes);
+            status
+        }
     }
 }
 
 /// Replays a journal over a start file.
 pub fn replay(progress: &mut Progress<'_>, start: &str, journal: &str) -> ExitCode {
-    let bytes = match start_file(start).read(progress) {
-        Ok(bytes) => bytes,
-        Err(fault) => return file_refused(progress, start, fault),
-    };
-    let status = replay_bytes(progress, &bytes, start, journal);
-    drop(bytes);
-    status
+    match start_file(start).read(progress) {
+        Ok(bytes) => replay_bytes(progress, bytes, start, journal),
+        Err(fault) => file_refused(progress, start, fault),
+    }
 }

@@ -1,0 +1,158 @@
+//! Questions about one state over their files: a journal in segments is read from the last state on that was kept
+//! before, any other whole.
+use crate::answering::{ended, question_refused};
+use crate::named::Named;
+use crate::one_state::{OfState, answer_seen};
+use crate::snapshots::{ended_start, start_of};
+use crate::sources::{Bytes, read_source};
+use mls_command_line::Source;
+use mls_files::{Goal, Sought, Wanted, open_start, seek, segments_of, start_file};
+use mls_replay::QuestionFault;
+use mls_seen::Seen;
+use mls_terminal::{Progress, file_refused};
+use std::process::ExitCode;
+
+/// The words that fault lines name.
+fn named<'a>(source: &Source<'a>, asked: OfState<'a>) -> Named<'a> {
+    let mut named = Named::files(source.start, source.journal.unwrap_or(""));
+    match asked {
+        OfState::Line(line) | OfState::Why(line) => named.line = line,
+        OfState::Who { object, .. } => named.object = object,
+        OfState::Powers { subject, .. } => named.subject = subject.unwrap_or(""),
+        OfState::Next | OfState::List | OfState::StartFile { .. } => {}
+    }
+    named
+}
+
+/// What is seen, or the status where nothing is: it is told why.
+fn told<'a>(
+    progress: &mut Progress<'_>,
+    source: &Source<'a>,
+    asked: OfState<'a>,
+    done: Result<Seen, QuestionFault>,
+) -> Result<Seen, ExitCode> {
+    match done {
+        Ok(seen) => Ok(seen),
+        Err(fault) => {
+            progress.end();
+            let none = b"".as_slice();
+            Err(question_refused(progress.rt(), named(source, asked), none, fault))
+        }
+    }
+}
+
+/// What is seen of files that are read whole.
+fn see_whole<'a>(
+    progress: &mut Progress<'_>,
+    source: &Source<'a>,
+    asked: OfState<'a>,
+) -> Result<Seen, ExitCode> {
+    let bytes = read_source(progress, source)?;
+    progress.begin(asked.phase());
+    let Bytes {
+        start,
+        journal,
+        marks,
+        verified,
+        at,
+    } = bytes;
+    drop(marks);
+    drop(verified);
+    let entries = journal.as_deref().unwrap_or(b"".as_slice());
+    let done = Seen::whole(progress.rt().alloc(), start, entries, at);
+    drop(journal);
+    told(progress, source, asked, done)
+}
+
+/// What the entries are replayed for.
+fn goal_of(source: &Source<'_>, asked: OfState<'_>) -> Goal {
+    let until = source.at.unwrap_or(u64::MAX);
+    match asked {
+        OfState::Next => Goal::Entry(until),
+        _ => Goal::Before(until),
+    }
+}
+
+/// What is seen of a journal in segments beside this path.
+fn see_segments<'a>(
+    progress: &mut Progress<'_>,
+    source: &Source<'a>,
+    asked: OfState<'a>,
+    path: &str,
+) -> Result<Seen, ExitCode> {
+    let bytes = match start_file(source.start).read(progress) {
+        Ok(bytes) => bytes,
+        Err(fault) => return Err(file_refused(progress, source.start, fault)),
+    };
+    let opened = open_start(progress, source.start, bytes)?;
+    let wanted = Wanted {
+        name: source.journal.unwrap_or(""),
+        journal: path,
+        goal: goal_of(source, asked),
+    };
+    let Sought { seeing, next } = seek(progress, wanted, opened)?;
+    progress.begin(asked.phase());
+    told(
+        progress,
+        source,
+        asked,
+        Seen::behind(seeing, source.at, next),
+    )
+}
+
+/// The path beside which the files of a journal in segments lie, where it needs no marks.
+fn path_of(rt: &HostRuntime, source: &Source<'_>) -> Option<String> {
+    match (source.journal, source.marks) {
+        (Some(journal), None) => segments_of(rt, journal),
+        (Some(_), Some(_)) | (None, _) => None,
+    }
+}
+
+/// What is seen of the files of a question about one state.
+fn see<'a>(
+    progress: &mut Progress<'_>,
+    source: &Source<'a>,
+    asked: OfState<'a>,
+) -> Result<Seen, ExitCode> {
+    match path_of(progress.rt(), source) {
+        Some(path) => {
+            let seen = see_segments(progress, source, asked, &path);
+            drop(path);
+            seen
+        }
+        None => see_whole(progress, source, asked),
+    }
+}
+
+/// Ends the command in the state that is seen.
+fn end_seen<'a>(
+    progress: &mut Progress<'_>,
+    source: &Source<'a>,
+    asked: OfState<'a>,
+    seen: &Seen,
+) -> ExitCode {
+    let alloc = progress.rt().alloc();
+    let named = named(source, asked);
+    if let OfState::StartFile { map } = asked {
+        let done = start_of(alloc, seen, map.is_some());
+        return ended_start(progress, named, map, done);
+    }
+    let done = answer_seen(alloc, seen, asked);
+    ended(progress, named, seen.start_file(), done)
+}
+
+/// Answers a question about one state over its files.
+pub(crate) fn answer_state<'a>(
+    progress: &mut Progress<'_>,
+    source: &Source<'a>,
+    asked: OfState<'a>,
+) -> ExitCode {
+    match see(progress, source, asked) {
+        Ok(seen) => {
+            let status = end_seen(progress, source, asked, &seen);
+            drop(seen);
+            status
+        }
+        Err(status) => status,
+    }
+}

@@ -1,0 +1,6 @@
+pub mod Files
+pub mod Opened
+pub mod Refusals
+pub mod Seeing
+pub mod Sources
+pub mod Taking

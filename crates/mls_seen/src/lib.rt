@@ -1,0 +1,15 @@
+//! What files are seen as that a question is asked over: a start file, and a journal whole or from a cut on.
+#![tactic(auto)]
+
+mod opened;
+mod seeing;
+mod seen;
+mod source;
+mod taking;
+mod theorems;
+
+pub use opened::Opened;
+pub use seeing::Seeing;
+pub use seen::Seen;
+pub use taking::replay_until;
+pub use theorems::cut_journals_are_seen_as_whole_ones;
