@@ -8,6 +8,7 @@ mod members;
 mod name_fault;
 mod naming;
 mod place;
+mod place_row;
 mod refused_json;
 mod repeats;
 mod rows;
