@@ -1,51 +1,53 @@
 //! The command that asks what subjects may change.
-use crate::answering::ended;
 use crate::named::Named;
+use crate::row_answers::{form_of, rows_ended};
 use crate::sources::Bytes;
 use mls_command_line::Source;
 use mls_replay::{QuestionFault, Replay, named_subject, replay_at};
 use mls_review::{Asked, powers as listed};
+use mls_rows::{Form, Listing};
 use mls_terminal::Progress;
-use mls_wording::Answer;
 use std::alloc::Global;
 use std::process::ExitCode;
 
 /// What may be changed in the state that is seen, by who is asked for.
-fn told(alloc: Global, seen: &Replay, asked: Asked) -> Result<Answer, QuestionFault> {
-    Ok(listed(alloc, seen.names(), seen.state(), asked)?)
+fn told(alloc: Global, form: Form, seen: &Replay, asked: Asked) -> Result<Listing, QuestionFault> {
+    Ok(listed(alloc, form, seen.names(), seen.state(), asked)?)
 }
 
 /// What may be changed in the state that is seen, by the subject that a word names, or by all.
 fn tell(
     alloc: Global,
+    form: Form,
     seen: &Replay,
     word: Option<&str>,
     downgrades: bool,
-) -> Result<Answer, QuestionFault> {
+) -> Result<Listing, QuestionFault> {
     let Some(word) = word else {
         let all = Asked {
             subject: None,
             downgrades,
         };
-        return told(alloc, seen, all);
+        return told(alloc, form, seen, all);
     };
     let subject = named_subject(seen.names(), word)?;
     let one = Asked {
         subject: Some(subject),
         downgrades,
     };
-    told(alloc, seen, one)
+    told(alloc, form, seen, one)
 }
 
 /// What may be changed in the state that files lead to.
 fn tell_of(
     alloc: Global,
+    form: Form,
     bytes: &Bytes,
     word: Option<&str>,
     downgrades: bool,
-) -> Result<Answer, QuestionFault> {
+) -> Result<Listing, QuestionFault> {
     let seen = replay_at(alloc, &bytes.start, bytes.journal(), bytes.at)?;
-    let told = tell(alloc, &seen, word, downgrades);
+    let told = tell(alloc, form, &seen, word, downgrades);
     drop(seen);
     told
 }
@@ -59,7 +61,8 @@ pub(crate) fn powers(
     downgrades: bool,
 ) -> ExitCode {
     progress.begin("looking");
-    let done = tell_of(progress.rt().alloc(), bytes, subject, downgrades);
+    let form = form_of(progress);
+    let done = tell_of(progress.rt().alloc(), form, bytes, subject, downgrades);
     let named = Named {
         start: source.start,
         journal: source.journal.unwrap_or(""),
@@ -67,5 +70,5 @@ pub(crate) fn powers(
         object: "",
         line: "",
     };
-    ended(progress, named, &bytes.start, done)
+    rows_ended(progress, named, &bytes.start, done)
 }

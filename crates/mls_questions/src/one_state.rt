@@ -6,6 +6,7 @@ use mls_monitor::{Entry, Monitor};
 use mls_replay::{CommandFault, QuestionFault, named_object, named_subject};
 use mls_requests::{Ask, read_mode};
 use mls_review::{Asked, powers};
+use mls_rows::{Form, Listing};
 use mls_rules::State;
 use mls_snapshots::state_text;
 use mls_tables::{Mode, Modes};
@@ -90,11 +91,12 @@ fn who(
 /// What the subject may change that a word names, or each.
 fn changes(
     alloc: Global,
+    form: Form,
     names: &Names,
     state: &State,
     word: Option<&str>,
     downgrades: bool,
-) -> Result<Answer, QuestionFault> {
+) -> Result<Listing, QuestionFault> {
     let subject = match word {
         Some(word) => Some(named_subject(names, word)?),
         None => None,
@@ -103,7 +105,7 @@ fn changes(
         subject,
         downgrades,
     };
-    Ok(powers(alloc, names, state, asked)?)
+    Ok(powers(alloc, form, names, state, asked)?)
 }
 
 /// What there is in a state.
@@ -135,6 +137,15 @@ fn why_next(
     }
 }
 
+/// An answer in lines.
+fn in_lines(done: Result<Answer, QuestionFault>) -> Result<Listing, QuestionFault> {
+    let Answer { text, is_positive } = done?;
+    Ok(Listing {
+        bytes: text.into_bytes(),
+        is_positive,
+    })
+}
+
 /// Refuses a state before an entry whose number is above how many there are.
 ///
 /// # Errors
@@ -153,19 +164,31 @@ pub(crate) fn refuse_above(seen: &Seen, at: Option<u64>) -> Result<(), QuestionF
 /// Why there is no answer.
 pub(crate) fn answer_seen(
     alloc: Global,
+    form: Form,
     names: &Names,
     seen: &mut Seen,
     asked: OfState<'_>,
-) -> Result<Answer, QuestionFault> {
+) -> Result<Listing, QuestionFault> {
     match asked {
-        OfState::Line(line) => ask(alloc, names, seen.monitor.state(), line),
-        OfState::Why(line) => why(alloc, names, seen.monitor.state(), line),
-        OfState::Next => why_next(alloc, names, &mut seen.monitor, &seen.next),
-        OfState::Who { object, mode } => who(alloc, names, seen.monitor.state(), object, mode),
+        OfState::Line(line) => in_lines(ask(alloc, names, seen.monitor.state(), line)),
+        OfState::Why(line) => in_lines(why(alloc, names, seen.monitor.state(), line)),
+        OfState::Next => in_lines(why_next(alloc, names, &mut seen.monitor, &seen.next)),
+        OfState::Who { object, mode } => {
+            in_lines(who(alloc, names, seen.monitor.state(), object, mode))
+        }
         OfState::Powers {
             subject,
             downgrades,
-        } => changes(alloc, names, seen.monitor.state(), subject, downgrades),
-        OfState::List | OfState::StartFile { .. } => list(alloc, names, seen.monitor.state()),
+        } => changes(
+            alloc,
+            form,
+            names,
+            seen.monitor.state(),
+            subject,
+            downgrades,
+        ),
+        OfState::List | OfState::StartFile { .. } => {
+            in_lines(list(alloc, names, seen.monitor.state()))
+        }
     }
 }

@@ -1,7 +1,7 @@
 //! Questions about one state of a journal in segments: it is reached from the last state that was kept before it.
-use crate::answering::ended;
 use crate::named::Named;
 use crate::one_state::{OfState, answer_seen, refuse_above};
+use crate::row_answers::{form_of, rows_ended};
 use crate::snapshots::{NewStart, ended_start, snapshot_in};
 use mls_command_line::{Question, Source};
 use mls_compare::SnapshotFault;
@@ -9,8 +9,8 @@ use mls_files::{Goal, Seen, Wanted, judge_start, see, segments_of, start_file};
 use mls_lines::Names;
 use mls_monitor::Start;
 use mls_replay::QuestionFault;
+use mls_rows::{Form, Listing};
 use mls_terminal::{Progress, file_refused};
-use mls_wording::Answer;
 use std::alloc::Global;
 use std::process::ExitCode;
 
@@ -115,12 +115,13 @@ fn named<'a>(about: AboutState<'a>) -> Named<'a> {
 /// What is answered in the state that is seen, unless there are fewer entries.
 fn told(
     alloc: Global,
+    form: Form,
     names: &Names,
     seen: &mut Seen,
     about: AboutState<'_>,
-) -> Result<Answer, QuestionFault> {
+) -> Result<Listing, QuestionFault> {
     refuse_above(seen, about.at)?;
-    answer_seen(alloc, names, seen, about.asked)
+    answer_seen(alloc, form, names, seen, about.asked)
 }
 
 /// The start file that opens with the state that is seen, unless there are fewer entries.
@@ -149,8 +150,8 @@ fn end_seen(
         return ended_start(progress, named(about), bytes, map, done);
     }
     progress.begin("answering");
-    let done = told(alloc, names, seen, about);
-    ended(progress, named(about), bytes, done)
+    let done = told(alloc, form_of(progress), names, seen, about);
+    rows_ended(progress, named(about), bytes, done)
 }
 
 /// Answers a question over a start and its file's bytes.

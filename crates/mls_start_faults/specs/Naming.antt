@@ -28,7 +28,8 @@ name_places list names = at_each (name_place list) 0 (name_faults names)
 
 -- The places of a file's names: of subjects, then of objects. (own)
 abbrev pub names_found : SaidFile → List Located
-names_found file = name_places (codes "subjects") (subject_names file) ++ name_places (codes "objects") (object_names file)
+names_found file =
+    name_places (codes "subjects") (subject_names file) ++ name_places (codes "objects") (object_names file)
 
 -- The place of a name in a scheme that is no NAME. (own)
 abbrev pub bad_place : List ℕ → List ℕ → ℕ → Option NameFault → List Located
@@ -54,7 +55,8 @@ each_name name_place s =
 
 -- The places of a scheme for a fault that schemes have. (own)
 abbrev pub scheme_places : List ℕ → SchemeFault → Scheme → List Located
-scheme_places name NoLevels s = if length s.levels == 0 then count_place name (codes "levels") (codes "no level") else []
+scheme_places name NoLevels s =
+    if length s.levels == 0 then count_place name (codes "levels") (codes "no level") else []
 scheme_places name TooManyLevels s =
     if nat_lt MAX_LEVELS (length s.levels) then count_place name (codes "levels") (codes "more than 16") else []
 scheme_places name TooManyCategories s =

@@ -10,6 +10,7 @@ mod naming;
 mod place;
 mod place_row;
 mod refused_json;
+mod repeating;
 mod repeats;
 mod rows;
 mod schemes;
@@ -19,4 +20,4 @@ mod unknowns;
 mod writing;
 
 pub use answering::places;
-pub use repeats::repeated_members;
+pub use repeating::repeated_members;

@@ -177,7 +177,8 @@ fn unknowns_by(
     file: &FileText<'_>,
 ) -> Result<Vec<PlaceRow>, AllocError>
     ensures { IfOk result
-        (λ found. map located_view found.items ≡ unknown_places names.now.subjects names.now.objects (file_view file.now)) }
+        (λ found. map located_view found.items
+        ≡ unknown_places names.now.subjects names.now.objects (file_view file.now)) }
 {
     let mut found = Vec::new(alloc);
     push_parents(&mut found, &names.objects, &file.children)?;

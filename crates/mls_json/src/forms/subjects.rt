@@ -1,6 +1,6 @@
-//! The lines of who may get what, and of who may change what.
+//! The lines of who may get what.
 use crate::form::{Form, Place};
-use crate::forms::common::{MODE, OBJECT, PARENT, REASON_COMMA, SUBJECT};
+use crate::forms::common::{MODE, REASON_COMMA, SUBJECT};
 use crate::part::{Fixed, Kind, Mark, Part};
 
 /// Of `who`.
@@ -36,75 +36,6 @@ pub(crate) static WHO: [Form; 3] = [
             REASON_COMMA,
             Part::Word("never"),
             Part::Says("remedy", Fixed::Null),
-        ],
-    },
-];
-
-/// Of `powers`.
-pub(crate) static POWERS: [Form; 6] = [
-    Form {
-        place: Place::Object,
-        parts: &[
-            SUBJECT,
-            Part::Word("gives"),
-            Part::Word("and"),
-            Part::Word("rescinds"),
-            Part::Says("power", Fixed::Text("give")),
-            OBJECT,
-        ],
-    },
-    Form {
-        place: Place::Object,
-        parts: &[
-            SUBJECT,
-            Part::Word("creates"),
-            Part::Word("under"),
-            Part::Says("power", Fixed::Text("create")),
-            PARENT,
-        ],
-    },
-    Form {
-        place: Place::Object,
-        parts: &[
-            SUBJECT,
-            Part::Word("deletes"),
-            Part::Says("power", Fixed::Text("delete")),
-            OBJECT,
-        ],
-    },
-    Form {
-        place: Place::Object,
-        parts: &[
-            SUBJECT,
-            Part::Word("level"),
-            Part::Says("power", Fixed::Text("level")),
-            Part::List("labels"),
-        ],
-    },
-    Form {
-        place: Place::Object,
-        parts: &[
-            SUBJECT,
-            Part::Word("relabels"),
-            Part::Says("power", Fixed::Text("relabel")),
-            OBJECT,
-            Part::Word("down"),
-            Part::Word("to"),
-            Part::Says("direction", Fixed::Text("down")),
-            Part::List("labels"),
-        ],
-    },
-    Form {
-        place: Place::Object,
-        parts: &[
-            SUBJECT,
-            Part::Word("relabels"),
-            Part::Says("power", Fixed::Text("relabel")),
-            OBJECT,
-            Part::Word("up"),
-            Part::Word("to"),
-            Part::Says("direction", Fixed::Text("up")),
-            Part::List("labels"),
         ],
     },
 ];
