@@ -2,7 +2,6 @@
 use Rattle.std.specs.Prelude.{ℕ, Bool, true, false, not, ◌&&◌, ◌||◌, ◌==◌, List, [], ◌∷◌, ◌++◌, map, drop, codes}
 use Rattle.std.specs.Prelude.{if◌then◌else◌}
 use Rattle.std.specs.List.{slice_split}
-use Rattle.std.specs.Fmt.{decimal}
 use Rattle.std.specs.Str.{bytes_eq}
 use Rattle.json.specs.Token.{Token, begin_object, end_object, begin_array, end_array, key, string, number, boolean, null}
 use Rattle.mls_json.specs.Words.{joined, is_marked, unmarked, is_number}
@@ -24,7 +23,6 @@ abbrev pub fixed_tokens : Fixed → List Token
 fixed_tokens fixed.Null = null ∷ []
 fixed_tokens fixed.True = boolean true ∷ []
 fixed_tokens fixed.False = boolean false ∷ []
-fixed_tokens fixed.Zero = number (decimal 0) ∷ []
 fixed_tokens fixed.NoList = begin_array ∷ end_array ∷ []
 fixed_tokens (fixed.Text text) = string text.now ∷ []
 

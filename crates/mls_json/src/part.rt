@@ -6,7 +6,6 @@ pub enum Fixed {
     Null,
     True,
     False,
-    Zero,
     /// A list that is empty.
     NoList,
     Text(&'static str),

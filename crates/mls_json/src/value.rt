@@ -75,7 +75,6 @@ impl Fixed {
             Fixed::Null => writer.null(),
             Fixed::True => writer.boolean(true),
             Fixed::False => writer.boolean(false),
-            Fixed::Zero => writer.u64(0),
             Fixed::NoList => {
                 writer.begin_array()?;
                 writer.end_array()
