@@ -79,11 +79,14 @@ abbrev pub pair_members : Names → ℕ → ℕ → List Token
 pair_members names from to =
     object_member (codes "from") (codes "from_name") names from ++ object_member (codes "to") (codes "to_name") names to
 
+-- How many pairs a flow downwards has, and the first of them. (own)
+abbrev pub pairs_members : Names → Downflow → List Token
+pairs_members names f = number_member (codes "pairs") f.pairs ++ pair_members names f.from f.to
+
 -- The members of a flow downwards. (own)
 abbrev pub downflow_members : Names → Downflow → List Token
 downflow_members names f =
-    kind_member (codes "downflow") ++ found_subject names f.subject ++ number_member (codes "pairs") f.pairs
-    ++ pair_members names f.from f.to
+    kind_member (codes "downflow") ++ found_subject names f.subject ++ pairs_members names f
 
 -- The members of a finding. (own)
 abbrev pub finding_members : Names → Finding → List Token

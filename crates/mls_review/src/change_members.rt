@@ -2,8 +2,9 @@
 ghost use Rattle.std.specs.Prelude.{◌≡◌, ◌++◌, codes};
 ghost use Rattle.std.specs.List.{flat_map};
 ghost use Rattle.mls_rows.specs.Members.{Adds, list_member, object_member, text_member};
-ghost use Rattle.mls_review.specs.PowerRows.{directed_members, label_tokens, labels_member, over_members, power_name};
-ghost use Rattle.mls_review.specs.PowerRows.{relabeling_members, what_member};
+ghost use Rattle.mls_review.specs.Granted.{relabels};
+ghost use Rattle.mls_review.specs.PowerRows.{directed_members, granted_members, label_tokens, labels_member, over_members};
+ghost use Rattle.mls_review.specs.PowerRows.{power_name, relabeling_members, what_member};
 
 use crate::power::Power;
 use crate::relabeling::Relabeling;
@@ -107,7 +108,7 @@ fn write_directed(
 }
 
 /// Writes whose label is changed.
-pub(crate) fn write_relabeling(
+fn write_relabeling(
     writer: &mut Writer,
     names: &Names,
     change: Relabeling,
@@ -170,7 +171,7 @@ fn write_list(
 }
 
 /// Writes the list of labels.
-pub(crate) fn write_labels(
+fn write_labels(
     writer: &mut Writer,
     alloc: Global,
     names: &Names,
@@ -179,4 +180,20 @@ pub(crate) fn write_labels(
     ensures { Adds result writer.old writer.new (labels_member names.now labels.now) }
 {
     write_list(writer, alloc, "labels", names, labels)
+}
+
+/// Writes the members of labels that a subject may take, or give to an object.
+pub(crate) fn write_taken(
+    writer: &mut Writer,
+    alloc: Global,
+    names: &Names,
+    s: SubjectId,
+    change: Relabeling,
+    labels: &[SecLabel],
+) -> Result<(), AllocError>
+    ensures { Adds result writer.old writer.new (granted_members names.now (relabels s change labels.now)) }
+{
+    write_subject(writer, names, s)?;
+    write_relabeling(writer, names, change)?;
+    write_labels(writer, alloc, names, labels)
 }

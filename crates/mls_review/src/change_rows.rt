@@ -8,11 +8,11 @@ ghost use Rattle.mls_review.specs.Powers.{powers as powers_in};
 use crate::authority::{Asked, changes};
 use crate::change::Change;
 use crate::change_lines::{push_labels, push_over};
-use crate::change_members::{write_labels, write_over, write_relabeling};
+use crate::change_members::{write_over, write_taken};
 use json::Writer;
 use mls_lines::Names;
 use mls_marks::Marks;
-use mls_rows::{Form, Listing, Told, write_subject, written};
+use mls_rows::{Form, Listing, Told, written};
 use mls_state::State;
 use std::alloc::{AllocError, Allocator, Global};
 
@@ -42,9 +42,7 @@ impl Told for Change {
         match self {
             Change::Over(s, power, o) => write_over(writer, names, *s, *power, *o),
             Change::Labels(s, change, labels) => {
-                write_subject(writer, names, *s)?;
-                write_relabeling(writer, names, *change)?;
-                write_labels(writer, *labels.allocator(), names, labels)
+                write_taken(writer, *labels.allocator(), names, *s, *change, labels)
             }
         }
     }
@@ -108,6 +106,14 @@ fn push_changes(text: &mut String, names: &Names, found: &[Change]) -> Result<()
     Ok(())
 }
 
+/// Appends the lines of what subjects may change, as they are seen.
+fn push_seen(text: &mut String, names: &Names, found: &[Change]) -> Result<(), AllocError>
+    ensures { OnOk result (string_bytes text.new
+        ≡ string_bytes text.old ++ flat_map (granted_line names.now) (map change_view found.now)) }
+{
+    push_changes(text, names, found)
+}
+
 /// Appends the lines of what subjects may change in a state.
 ///
 /// # Errors
@@ -123,7 +129,7 @@ pub fn push_powers<A: Allocator>(
         (string_bytes text.new ≡ string_bytes text.old ++ powers_text names.now state.now asked) }
 {
     let found = changes(alloc, state, asked)?;
-    let pushed = push_changes(text, names, &found);
+    let pushed = push_seen(text, names, &found);
     drop(found);
     pushed
 }

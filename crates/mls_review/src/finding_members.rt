@@ -2,6 +2,7 @@
 ghost use Rattle.std.specs.Prelude.{◌≡◌, ◌++◌, codes};
 ghost use Rattle.mls_rows.specs.Members.{Adds, number_member, object_member, text_member};
 ghost use Rattle.mls_review.specs.LintRows.{dead_members, downflow_members, kind_member, pair_members};
+ghost use Rattle.mls_review.specs.LintRows.{pairs_members};
 
 use crate::dead::Dead;
 use crate::downflow::Downflow;
@@ -68,6 +69,21 @@ fn write_pair(
     write_to(writer, names, to)
 }
 
+/// Writes how many pairs a flow downwards has, and the first of them.
+fn write_flow(writer: &mut Writer, names: &Names, f: &Downflow) -> Result<(), AllocError>
+    ensures { Adds result writer.old writer.new (pairs_members names.now f.now) }
+{
+    write_pairs(writer, u64::from(f.pairs))?;
+    write_pair(writer, names, f.from, f.to)
+}
+
+/// Writes that it is a flow downwards.
+fn write_is_downflow(writer: &mut Writer) -> Result<(), AllocError>
+    ensures { Adds result writer.old writer.new (kind_member (codes "downflow")) }
+{
+    write_kind(writer, "downflow")
+}
+
 /// Writes the members of a flow downwards.
 pub(crate) fn write_downflow(
     writer: &mut Writer,
@@ -76,8 +92,7 @@ pub(crate) fn write_downflow(
 ) -> Result<(), AllocError>
     ensures { Adds result writer.old writer.new (downflow_members names.now f.now) }
 {
-    write_kind(writer, "downflow")?;
+    write_is_downflow(writer)?;
     write_subject(writer, names, f.subject)?;
-    write_pairs(writer, u64::from(f.pairs))?;
-    write_pair(writer, names, f.from, f.to)
+    write_flow(writer, names, f)
 }
