@@ -3,7 +3,7 @@ use Rattle.std.specs.Prelude.{◌≡◌, ℕ, false, List, [], ◌++◌, codes, 
 use Rattle.mls_lines.specs.Names.{Names}
 use Rattle.mls_marks.specs.declared.row.Row.{Row}
 use Rattle.mls_requests.specs.declared.entry.Entry.{Entry}
-use Rattle.mls_review.specs.Powers.{powers_text}
+use Rattle.mls_review.specs.PowerRows.{powers_text}
 use Rattle.mls_review.specs.declared.authority.Asked.{Asked}
 use Rattle.mls_snapshots.specs.States.{subject_line, row_text}
 use Rattle.mls_state.specs.State.{State}

@@ -1,7 +1,7 @@
 //! What is told of a subject.
 ghost use Rattle.std.specs.Prelude.{◌≡◌, ◌++◌, codes, string_bytes, option_map, IfOk, OnOk};
 ghost use Rattle.mls_listings.specs.Stamps.{rows_lent};
-ghost use Rattle.mls_review.specs.Powers.{powers_text};
+ghost use Rattle.mls_review.specs.PowerRows.{powers_text};
 ghost use Rattle.mls_snapshots.specs.States.{subject_line, row_text};
 ghost use Rattle.mls_tables.specs.declared.limits.TheConstants.{MAX_OBJECTS};
 ghost use Rattle.mls_about.specs.Subjects.{all_of, subject_history, ShowsSubject, TellsSubject};
@@ -12,7 +12,7 @@ use crate::permission::permission_lines;
 use mls_lines::Names;
 use mls_marks::Marks;
 use mls_requests::Entry;
-use mls_review::{Asked, powers};
+use mls_review::{Asked, push_powers};
 use mls_snapshots::{push_row, push_subject_line};
 use mls_state::{State, Table};
 use mls_tables::SubjectId;
@@ -31,7 +31,9 @@ fn powers_of(
         subject: Some(s),
         downgrades: false,
     };
-    Ok(powers(alloc, names, state, asked)?.text)
+    let mut text = String::new(alloc);
+    push_powers(alloc, &mut text, names, state, asked)?;
+    Ok(text)
 }
 
 /// Appends what there is of a subject in a state, with these texts of its permissions and of what it may change.

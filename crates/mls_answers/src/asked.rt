@@ -1,35 +1,45 @@
 //! What a line is answered.
-ghost use Rattle.std.specs.Prelude.{◌≡◌, string_bytes, IfErr, IfOk};
+ghost use Rattle.std.specs.Prelude.{◌≡◌, IfErr, IfOk};
 ghost use Rattle.mls_answers.specs.Answers.{AnswersAsk, AnswersLine, RefusesLine};
 ghost use Rattle.mls_replay.specs.declared.command.CommandFault.TheVariants.{Memory};
 ghost use Rattle.mls_replay.specs.declared.question_fault.QuestionFault.TheVariants.{Files};
 ghost use Rattle.mls_seen.specs.Files.{SeesThat};
 
-use mls_explain_text::{answer_in, read_question};
+use mls_explain_text::{list_answer, read_question};
 use mls_replay::QuestionFault;
 use mls_requests::Ask;
+use mls_rows::{Form, Listing};
 use mls_seen::Seen;
-use mls_wording::Answer;
 use std::alloc::Global;
 
 /// What is asked is answered in the state that is seen.
-fn answer_asked(alloc: Global, seen: &Seen, asked: &Ask) -> Result<Answer, QuestionFault>
+fn answer_asked(
+    alloc: Global,
+    form: Form,
+    seen: &Seen,
+    asked: &Ask,
+) -> Result<Listing, QuestionFault>
     ensures ok { IfOk result
-        (λ answer. AnswersAsk seen.now.state asked.now (string_bytes answer.text) answer.is_positive) }
+        (λ answer. AnswersAsk form seen.now.state asked.now answer.bytes.items answer.is_positive) }
     ensures fault { IfErr result (λ fault. fault ≡ Files Memory) }
 {
-    Ok(answer_in(alloc, seen.state(), asked)?)
+    Ok(list_answer(alloc, form, seen.state(), asked)?)
 }
 
 /// What a line is answered in the state that is seen.
-fn answer_line(alloc: Global, seen: &Seen, line: &[u8]) -> Result<Answer, QuestionFault>
+fn answer_line(
+    alloc: Global,
+    form: Form,
+    seen: &Seen,
+    line: &[u8],
+) -> Result<Listing, QuestionFault>
     ensures ok { IfOk result
-        (λ answer. AnswersLine seen.now.names seen.now.state line.now (string_bytes answer.text)
+        (λ answer. AnswersLine form seen.now.names seen.now.state line.now answer.bytes.items
         answer.is_positive) }
     ensures fault { IfErr result (λ fault. RefusesLine seen.now.names line.now fault) }
 {
     match read_question(alloc, seen.names(), line) {
-        Ok(asked) => answer_asked(alloc, seen, &asked),
+        Ok(asked) => answer_asked(alloc, form, seen, &asked),
         Err(fault) => Err(QuestionFault::Line(fault)),
     }
 }
@@ -40,13 +50,13 @@ fn answer_line(alloc: Global, seen: &Seen, line: &[u8]) -> Result<Answer, Questi
 /// # Errors
 /// - `Line` with the first fault of the line.
 /// - `Files` with `Memory` as soon as an allocation fails.
-pub fn ask(alloc: Global, seen: &Seen, line: &[u8]) -> Result<Answer, QuestionFault>
+pub fn ask(alloc: Global, form: Form, seen: &Seen, line: &[u8]) -> Result<Listing, QuestionFault>
     ensures ok { IfOk result (λ answer. SeesThat seen.now.files seen.now.at
-        (λ r. AnswersLine r.names r.state line.now (string_bytes answer.text) answer.is_positive)) }
+        (λ r. AnswersLine form r.names r.state line.now answer.bytes.items answer.is_positive)) }
     ensures fault { IfErr result (λ fault. SeesThat seen.now.files seen.now.at
         (λ r. RefusesLine r.names line.now fault)) }
 {
     // that it is of the files
     let _ = seen.names();
-    answer_line(alloc, seen, line)
+    answer_line(alloc, form, seen, line)
 }

@@ -31,12 +31,7 @@ fn lines_of(command: CommandName) -> Option<Lines> {
     match command {
         CommandName::Check => Some(Lines::Check),
         CommandName::Verify => Some(Lines::Verify),
-        CommandName::Ask => Some(Lines::Ask),
-        CommandName::Explain => Some(Lines::Explain),
-        CommandName::Who => Some(Lines::Who),
-        CommandName::Powers => Some(Lines::Powers),
         CommandName::About => Some(Lines::About),
-        CommandName::Lint => Some(Lines::Lint),
         CommandName::State => Some(Lines::State),
         CommandName::Compare => Some(Lines::Compare),
         _ => None,
@@ -46,6 +41,8 @@ fn lines_of(command: CommandName) -> Option<Lines> {
 /// Which JSON objects a command prints, where they may be asked for.
 fn objects_of(command: CommandName) -> Option<Objects> {
     match command {
+        CommandName::Ask | CommandName::Explain | CommandName::Who => Some(Objects::Rows),
+        CommandName::Powers | CommandName::Lint => Some(Objects::Rows),
         CommandName::Held | CommandName::Usage => Some(Objects::Rows),
         _ => Some(Objects::Lines(lines_of(command)?)),
     }
@@ -53,9 +50,10 @@ fn objects_of(command: CommandName) -> Option<Objects> {
 
 /// The option of a command, but of `journal`, whose entries have their own objects.
 pub(crate) fn json_argument(command: CommandName) -> Option<Argument> {
-    match objects_of(command)? {
-        Objects::Lines(Lines::State) => Some(STATE),
-        Objects::Lines(lines) if lines.is_whole() => Some(ONE),
+    match (command, objects_of(command)?) {
+        (CommandName::Ask | CommandName::Explain, _) => Some(ONE),
+        (_, Objects::Lines(Lines::State)) => Some(STATE),
+        (_, Objects::Lines(lines)) if lines.is_whole() => Some(ONE),
         _ => Some(EACH),
     }
 }
@@ -64,7 +62,6 @@ pub(crate) fn json_argument(command: CommandName) -> Option<Argument> {
 pub(crate) fn asked_objects(command: CommandName, matches: &ArgMatches<'_>) -> Option<Objects> {
     let objects = match command {
         CommandName::Journal if matches.get_flag("summary") => Objects::Rows,
-        CommandName::Who if matches.get_flag("ever") => Objects::Rows,
         _ => objects_of(command)?,
     };
     if matches.get_flag("json") {

@@ -2,14 +2,10 @@
 mod about;
 mod common;
 mod compared;
-mod explained;
 mod starts;
-mod subjects;
 mod whole;
 
 pub(crate) use about::{ABOUT_OBJECT, ABOUT_SUBJECT, ABOUT_WORD};
 pub(crate) use compared::COMPARE;
-pub(crate) use explained::{EXPLAIN, EXPLAIN_LEVEL};
-pub(crate) use starts::{LINT, STATE};
-pub(crate) use subjects::{POWERS, WHO};
-pub(crate) use whole::{ASK, CHECK, VERIFY};
+pub(crate) use starts::STATE;
+pub(crate) use whole::{CHECK, VERIFY};

@@ -1,8 +1,5 @@
 //! Which lines a text has.
-use crate::forms::{
-    ABOUT_OBJECT, ABOUT_SUBJECT, ABOUT_WORD, ASK, CHECK, COMPARE, EXPLAIN, EXPLAIN_LEVEL, LINT,
-    POWERS, STATE, VERIFY, WHO,
-};
+use crate::forms::{ABOUT_OBJECT, ABOUT_SUBJECT, ABOUT_WORD, CHECK, COMPARE, STATE, VERIFY};
 use crate::table::Table;
 
 /// Which lines a text has: those of this command.
@@ -10,24 +7,9 @@ use crate::table::Table;
 pub enum Lines {
     Check,
     Verify,
-    Ask,
-    Explain,
-    Who,
-    Powers,
     About,
-    Lint,
     State,
     Compare,
-}
-
-/// The forms of an explanation. Where a ceiling is compared a level was asked for, and the accesses in the way are the
-/// subject's own.
-fn explained(text: &str) -> Table {
-    if text.contains("\nceiling ") {
-        Table::Whole(&EXPLAIN_LEVEL)
-    } else {
-        Table::Whole(&EXPLAIN)
-    }
 }
 
 /// Whether a text tells of a subject whose name is also the first word of a line that tells of one. A line of its powers
@@ -55,12 +37,7 @@ impl Lines {
         match self {
             Lines::Check => Table::Whole(&CHECK),
             Lines::Verify => Table::Whole(&VERIFY),
-            Lines::Ask => Table::Whole(&ASK),
-            Lines::Explain => explained(text),
-            Lines::Who => Table::Each(&WHO),
-            Lines::Powers => Table::Each(&POWERS),
             Lines::About => told(text),
-            Lines::Lint => Table::Each(&LINT),
             Lines::State => Table::Each(&STATE),
             Lines::Compare => Table::Each(&COMPARE),
         }
@@ -68,9 +45,6 @@ impl Lines {
 
     /// Whether all lines make one JSON object.
     pub fn is_whole(self) -> bool {
-        matches!(
-            self,
-            Lines::Check | Lines::Verify | Lines::Ask | Lines::Explain
-        )
+        matches!(self, Lines::Check | Lines::Verify)
     }
 }

@@ -3,6 +3,7 @@ use mls_answers::{ask, explain, powers, state, who};
 use mls_command_line::Question;
 use mls_replay::QuestionFault;
 use mls_requests::read_mode;
+use mls_rows::{Form, Listing};
 use mls_seen::Seen;
 use mls_tables::Mode;
 use mls_wording::Answer;
@@ -101,24 +102,34 @@ fn mode_of(word: Option<&str>) -> Option<Mode> {
     }
 }
 
-/// What is answered in the state that is seen, but for a start file.
+/// An answer in lines.
+fn in_lines(done: Result<Answer, QuestionFault>) -> Result<Listing, QuestionFault> {
+    let Answer { text, is_positive } = done?;
+    Ok(Listing {
+        bytes: text.into_bytes(),
+        is_positive,
+    })
+}
+
+/// What is answered in the state that is seen, in a form, but for a start file.
 ///
 /// # Errors
 /// Why there is no answer.
 pub(crate) fn answer_seen(
     alloc: Global,
+    form: Form,
     seen: &Seen,
     asked: OfState<'_>,
-) -> Result<Answer, QuestionFault> {
+) -> Result<Listing, QuestionFault> {
     match asked {
-        OfState::Line(line) => ask(alloc, seen, line.as_bytes()),
-        OfState::Why(line) => explain(alloc, seen, Some(line.as_bytes())),
-        OfState::Next => explain(alloc, seen, None),
-        OfState::Who { object, mode } => who(alloc, seen, object, mode_of(mode)),
+        OfState::Line(line) => ask(alloc, form, seen, line.as_bytes()),
+        OfState::Why(line) => explain(alloc, form, seen, Some(line.as_bytes())),
+        OfState::Next => explain(alloc, form, seen, None),
+        OfState::Who { object, mode } => who(alloc, form, seen, object, mode_of(mode)),
         OfState::Powers {
             subject,
             downgrades,
-        } => powers(alloc, seen, subject, downgrades),
-        OfState::List | OfState::StartFile { .. } => state(alloc, seen),
+        } => powers(alloc, form, seen, subject, downgrades),
+        OfState::List | OfState::StartFile { .. } => in_lines(state(alloc, seen)),
     }
 }

@@ -7,7 +7,7 @@ use mls_monitor::Entry;
 use mls_page::{Found, Page, SHOWN};
 use mls_replay::{QuestionFault, Replay};
 use mls_requests::{Reply, ReplyWord};
-use mls_review::{Asked, lattice, powers};
+use mls_review::{Asked, lattice, push_powers};
 use mls_rows::{Form, Listing, Told};
 use mls_spans::{Choice as HeldChoice, Filter as HeldFilter, States, list_spans, list_usages};
 use std::alloc::{AllocError, Global};
@@ -106,9 +106,10 @@ fn add_powers(alloc: Global, page: &mut Page, seen: &Replay) -> Result<(), Alloc
         subject: None,
         downgrades: false,
     };
-    let listed = powers(alloc, seen.names(), seen.state(), all)?;
-    let done = page.add_powers(&listed.text);
-    drop(listed);
+    let mut text = String::new(alloc);
+    push_powers(alloc, &mut text, seen.names(), seen.state(), all)?;
+    let done = page.add_powers(&text);
+    drop(text);
     done
 }
 

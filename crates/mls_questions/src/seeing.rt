@@ -1,8 +1,9 @@
 //! Questions about one state over their files: a journal in segments is read from the last state on that was kept
 //! before, any other whole.
-use crate::answering::{ended, question_refused};
+use crate::answering::question_refused;
 use crate::named::Named;
 use crate::one_state::{OfState, answer_seen};
+use crate::row_answers::{form_of, rows_ended};
 use crate::snapshots::{ended_start, start_of};
 use crate::sources::{Bytes, read_source};
 use mls_command_line::Source;
@@ -137,8 +138,8 @@ fn end_seen<'a>(
         let done = start_of(alloc, seen, map.is_some());
         return ended_start(progress, named, map, done);
     }
-    let done = answer_seen(alloc, seen, asked);
-    ended(progress, named, seen.start_file(), done)
+    let done = answer_seen(alloc, form_of(progress), seen, asked);
+    rows_ended(progress, named, seen.start_file(), done)
 }
 
 /// Answers a question about one state over its files.

@@ -1,17 +1,20 @@
 //! The commands that look at a start.
-ghost use Rattle.std.specs.Prelude.{◌≡◌, ◌≢◌, ◌++◌, ◌==◌, length, string_bytes, IfOk, Some};
+ghost use Rattle.std.specs.Prelude.{◌≡◌, ◌≢◌, ◌++◌, ◌==◌, ◌&&◌, length, IfOk, Some};
 ghost use Rattle.std.specs.Str.{IsUtf8};
 ghost use Rattle.json.specs.Json.{Json, document};
-ghost use Rattle.mls_start_faults.specs.Repeated.{repeated_text};
-ghost use Rattle.mls_review.specs.LintText.{lint_text};
+ghost use Rattle.mls_start_faults.specs.PlaceRows.{repeated_bytes};
+ghost use Rattle.mls_start_faults.specs.Repeated.{repeated_found};
+ghost use Rattle.mls_review.specs.LintRows.{findings as findings_in, lint_bytes};
 ghost use Rattle.mls_start_file.specs.Says.{RefusesStart};
 
 use crate::answering::ended;
 use crate::named::Named;
+use crate::row_answers::{form_of, rows_ended};
 use crate::sources::Bytes;
 use mls_files::{command_refused, judge_start};
 use mls_replay::{CommandFault, QuestionFault};
 use mls_review::{lattice as drawn, lint as linted};
+use mls_rows::{Form, Listing};
 use mls_start_faults::{places, repeated_members};
 use mls_start_file::{LoadFault, Loaded, read_start};
 use mls_terminal::{NO_MEMORY, Progress, refused};
@@ -29,34 +32,54 @@ fn lint_refused(progress: &mut Progress<'_>, path: &str, bytes: &[u8], fault: Lo
     requires { fault ≢ LoadFault.Memory → RefusesStart bytes.now fault }
 {
     let rt = progress.rt();
+    let form = form_of(progress);
     let found = match fault {
         LoadFault::Memory => Err(AllocError),
-        fault => places(rt.alloc(), bytes, fault),
+        fault => places(rt.alloc(), form, bytes, fault),
     };
     match found {
-        Ok(text) => {
+        Ok(rows) => {
             let status = command_refused(rt, path, &CommandFault::from(fault));
-            let _ = progress.print(text.as_bytes());
-            drop(text);
+            let _ = progress.print(&rows);
+            drop(rows);
             status
         }
         Err(_) => refused(rt, NO_MEMORY, 1),
     }
 }
 
-/// What is suspicious in a start file, and in the start that it says. The answer is positive where there is nothing.
-fn findings(alloc: Global, bytes: &[u8], loaded: &Loaded) -> Result<Answer, AllocError>
-    ensures text { IfOk result (λ found. (j : Json) → IsUtf8 bytes.now → document bytes.now ≡ Some j
-        → string_bytes found.text ≡ repeated_text j ++ lint_text loaded.now.names loaded.now.start) }
-    ensures positive { IfOk result (λ found. found.is_positive ≡ (length (string_bytes found.text) == 0)) }
+/// Two answers, one after the other: a positive one where both are.
+fn joined(first: Listing, second: &Listing) -> Result<Listing, AllocError>
+    ensures bytes { IfOk result (λ both. both.bytes.items ≡ first.bytes.items ++ second.now.bytes.items) }
+    ensures positive { IfOk result (λ both. both.is_positive ≡ (first.is_positive && second.now.is_positive)) }
 {
-    let mut text = repeated_members(alloc, bytes)?;
-    let found = linted(alloc, loaded.names(), loaded.start())?;
-    let pushed = text.push_str(&found.text);
+    let Listing {
+        mut bytes,
+        is_positive,
+    } = first;
+    bytes.extend_from_slice(&second.bytes)?;
+    let is_positive = is_positive && second.is_positive;
+    Ok(Listing { bytes, is_positive })
+}
+
+/// What is suspicious in a start file, and in the start that it says, in a form. The answer is positive where there is
+/// nothing.
+fn findings(
+    alloc: Global,
+    form: Form,
+    bytes: &[u8],
+    loaded: &Loaded,
+) -> Result<Listing, QuestionFault>
+    ensures bytes { IfOk result (λ found. (j : Json) → IsUtf8 bytes.now → document bytes.now ≡ Some j
+        → found.bytes.items ≡ repeated_bytes form j ++ lint_bytes form loaded.now.names loaded.now.start) }
+    ensures positive { IfOk result (λ found. (j : Json) → IsUtf8 bytes.now → document bytes.now ≡ Some j
+        → found.is_positive ≡ ((length (repeated_found j) == 0) && (length (findings_in loaded.now.start) == 0))) }
+{
+    let repeated = repeated_members(alloc, form, bytes)?;
+    let found = linted(alloc, form, loaded.names(), loaded.start())?;
+    let both = joined(repeated, &found);
     drop(found);
-    pushed?;
-    let is_positive = text.len() == 0;
-    Ok(Answer { text, is_positive })
+    Ok(both?)
 }
 
 /// Prints what is suspicious in a start and its file, or where the start file's fault applies.
@@ -66,9 +89,10 @@ fn lint_bytes(progress: &mut Progress<'_>, path: &str, bytes: &[u8]) -> ExitCode
         Ok(loaded) => loaded,
         Err(fault) => return lint_refused(progress, path, bytes, fault),
     };
-    let done = asked(findings(rt.alloc(), bytes, &loaded));
+    let form = form_of(progress);
+    let done = findings(rt.alloc(), form, bytes, &loaded);
     drop(loaded);
-    ended(progress, Named::files(path, ""), bytes, done)
+    rows_ended(progress, Named::files(path, ""), bytes, done)
 }
 
 /// Prints what is suspicious in a start and its file, or where the start file's fault applies.

@@ -1,10 +1,8 @@
 -- What is gathered of a list or of numbers, one item after the other.
 use Rattle.std.proofs.Common.{◌≡◌, ℕ, zero, suc, ◌+◌, ◌<◌, ◌≤◌, All, Bool, true, false, cond, ◌&&◌, ◌||◌, List, [], ◌∷◌, ◌++◌, filter, refl, sym, ap, ◌∙◌, append-nil, arith}
 use Rattle.std.specs.List.{list_any, flat_map, range_with_len}
-use Rattle.std.proofs.lemmas.List.{append_assoc}
 use Rattle.mls_facts.proofs.Gathered.{range_flat_more, grows}
 use Rattle.mls_review.specs.Distinct.{below}
-use Rattle.std.proofs.lemmas.List.Concat.{flat_map-cons}
 use Rattle.std.proofs.lemmas.List.Elements.{All-nil, All-append}
 
 -- a test of what passes another

@@ -1,14 +1,13 @@
 -- Pairs of objects that are gathered object by object.
-use Rattle.std.proofs.Common.{◌≡◌, ℕ, ◌+◌, ◌<◌, Bool, true, cond, Option, None, Some, List, [], ◌∷◌, ◌++◌, length, get_or, take, drop, map, filter, refl, sym, ap, ◌∙◌, append-nil, arith, length-append}
+use Rattle.std.proofs.Common.{◌≡◌, ℕ, ◌+◌, ◌<◌, Bool, true, cond, Option, None, Some, List, [], ◌∷◌, ◌++◌, length, get_or, take, drop, map, filter, refl, sym, ap, ◌∙◌, arith, length-append}
 use Rattle.std.specs.List.{slice_get, flat_map}
 use Rattle.std.specs.Option.{option_or}
 use Rattle.std.specs.FinMap as table
-use Rattle.std.proofs.lemmas.List.{take_more, take-append-drop, length-map}
+use Rattle.std.proofs.lemmas.List.{take-append-drop, length-map}
 use Rattle.std.proofs.lemmas.List.Elements.{filter-append, filter_more}
 use Rattle.mls_facts.proofs.Gathered.{flat_map_more}
 use Rattle.mls_labels.specs.Label.{Label}
 use Rattle.mls_state.specs.State.{State}
-use Rattle.std.proofs.lemmas.Grind.{flat_map-append}
 use Rattle.mls_review.specs.Flows.{is_not_above, pairs_from, count_not_above, flow_of_pairs}
 
 -- the first of two lists, one after the other

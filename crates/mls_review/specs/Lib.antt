@@ -1,8 +1,10 @@
 pub mod Covers
+pub mod Dead
 pub mod Distinct
 pub mod Drawing
-pub mod Dead
 pub mod Findings
 pub mod Flows
-pub mod LintText
+pub mod Granted
+pub mod LintRows
+pub mod PowerRows
 pub mod Powers

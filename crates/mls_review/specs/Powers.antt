@@ -1,5 +1,5 @@
 -- What subjects may change in a state.
-use Rattle.std.specs.Prelude.{ℕ, Bool, true, false, not, ◌&&◌, Option, Some, None, List, [], ◌∷◌, ◌++◌, filter, codes}
+use Rattle.std.specs.Prelude.{ℕ, Bool, true, false, not, ◌&&◌, Option, Some, None, List, [], ◌∷◌, ◌++◌, filter}
 use Rattle.std.specs.Prelude.{if◌then◌else◌}
 use Rattle.std.specs.FinMap as map
 use Rattle.std.specs.List.{flat_map}
@@ -12,10 +12,9 @@ use Rattle.mls_requests.specs.declared.reply.Reply.{Reply}
 use Rattle.mls_requests.specs.declared.reply.Reply.TheVariants.{Yes, Created, No, Undefined}
 use Rattle.mls_state.specs.State.{State, is_subject, is_active}
 use Rattle.mls_rules.specs.Rules.{reply}
-use Rattle.mls_lines.specs.Names.{Names}
-use Rattle.mls_wording.specs.Wording.{subject_text, object_text, security_text}
 use Rattle.mls_review.specs.Distinct.{distinct}
 use Rattle.mls_review.specs.Findings.{subjects, objects}
+use Rattle.mls_review.specs.Granted.{Granted, over, relabels}
 use Rattle.mls_review.specs.declared.power.Power.{Power}
 use Rattle.mls_review.specs.declared.power.Power.TheVariants.{Gives, Creates, Deletes}
 use Rattle.mls_review.specs.declared.relabeling.Relabeling.{Relabeling}
@@ -47,16 +46,9 @@ has_power v s Gives o = may v s (Give Read s o)
 has_power v s Creates o = may_create v s o (map.get v.object_label o) (map.get v.object_integrity o)
 has_power v s Deletes o = may v s (Delete o)
 
--- The words for a power, between who has it and what it is over. (own)
-abbrev pub power_word : Power → List ℕ
-power_word Gives = codes " gives and rescinds "
-power_word Creates = codes " creates under "
-power_word Deletes = codes " deletes "
-
--- The line of a power over an object, where a subject has it. (own)
-abbrev pub power_line : Names → State → ℕ → Power → ℕ → List ℕ
-power_line names v s power o =
-    if has_power v s power o then subject_text names s ++ power_word power ++ object_text names o ++ 10 ∷ [] else []
+-- A power over an object, where a subject has it. (own)
+abbrev pub power_over : State → ℕ → Power → ℕ → List Granted
+power_over v s power o = if has_power v s power o then over s power o ∷ [] else []
 
 -- Whether the object of a change of labels is there. (own)
 abbrev pub is_there : State → Relabeling → Bool
@@ -86,56 +78,44 @@ may_take v s Level l = is_other (map.get v.current s) l && may v s (SubjectLevel
 may_take v s (Down o) l = is_down (map.get v.object_label o) l && may v s (ObjectLevel o l)
 may_take v s (Up o) l = is_up (map.get v.object_label o) l && may v s (ObjectLevel o l)
 
--- What stands before the labels. (own)
-abbrev pub relabeling_front : Names → ℕ → Relabeling → List ℕ
-relabeling_front names s Level = subject_text names s ++ codes " level"
-relabeling_front names s (Down o) =
-    subject_text names s ++ codes " relabels " ++ object_text names o ++ codes " down to"
-relabeling_front names s (Up o) = subject_text names s ++ codes " relabels " ++ object_text names o ++ codes " up to"
+-- Labels that a subject may take or give, where there are any. (own)
+abbrev pub labels_taken : ℕ → Relabeling → List Label → List Granted
+labels_taken s r [] = []
+labels_taken s r (l ∷ ls) = relabels s r (l ∷ ls) ∷ []
 
--- A label, after a space. (own)
-abbrev pub one_more_label : Names → Label → List ℕ
-one_more_label names l = 32 ∷ security_text names l
+-- Those of some labels that a subject may take or give, where there are any. (own)
+abbrev pub relabelings : State → List Label → ℕ → Relabeling → List Granted
+relabelings v labels s r = labels_taken s r (filter (may_take v s r) labels)
 
--- The line of labels, where there are any. (own)
-abbrev pub labels_line : Names → ℕ → Relabeling → List Label → List ℕ
-labels_line names s r [] = []
-labels_line names s r (l ∷ ls) = relabeling_front names s r ++ flat_map (one_more_label names) (l ∷ ls) ++ 10 ∷ []
+-- The labels that a subject may give to an object: those downwards, and those upwards. (own)
+abbrev pub object_relabelings : State → List Label → ℕ → ℕ → List Granted
+object_relabelings v labels s o = relabelings v labels s (Down o) ++ relabelings v labels s (Up o)
 
--- The line of those of some labels that a subject may take or give. (own)
-abbrev pub relabeling_line : Names → State → List Label → ℕ → Relabeling → List ℕ
-relabeling_line names v labels s r = labels_line names s r (filter (may_take v s r) labels)
+-- What a subject may change: in the order of the rules, and by object. (own)
+abbrev pub subject_powers : State → List Label → ℕ → List Granted
+subject_powers v labels s =
+    flat_map (power_over v s Gives) (objects v) ++ flat_map (power_over v s Creates) (objects v)
+    ++ flat_map (power_over v s Deletes) (objects v) ++ relabelings v labels s Level
+    ++ flat_map (object_relabelings v labels s) (objects v)
 
--- The lines of the labels that a subject may give to an object: those downwards, and those upwards. (own)
-abbrev pub object_relabelings : Names → State → List Label → ℕ → ℕ → List ℕ
-object_relabelings names v labels s o =
-    relabeling_line names v labels s (Down o) ++ relabeling_line names v labels s (Up o)
+-- The labels downwards that a subject may give to an object. (own)
+abbrev pub downgrades_of : State → List Label → ℕ → ℕ → List Granted
+downgrades_of v labels s o = relabelings v labels s (Down o)
 
--- The lines of what a subject may change: in the order of the rules, and by object. (own)
-abbrev pub subject_powers : Names → State → List Label → ℕ → List ℕ
-subject_powers names v labels s =
-    flat_map (power_line names v s Gives) (objects v) ++ flat_map (power_line names v s Creates) (objects v)
-    ++ flat_map (power_line names v s Deletes) (objects v) ++ relabeling_line names v labels s Level
-    ++ flat_map (object_relabelings names v labels s) (objects v)
-
--- The line of the labels downwards that a subject may give to an object. (own)
-abbrev pub downgrade_line : Names → State → List Label → ℕ → ℕ → List ℕ
-downgrade_line names v labels s o = relabeling_line names v labels s (Down o)
-
--- The lines of what a subject may downgrade, by object. (own)
-abbrev pub subject_downgrades : Names → State → List Label → ℕ → List ℕ
-subject_downgrades names v labels s = flat_map (downgrade_line names v labels s) (objects v)
+-- What a subject may downgrade, by object. (own)
+abbrev pub subject_downgrades : State → List Label → ℕ → List Granted
+subject_downgrades v labels s = flat_map (downgrades_of v labels s) (objects v)
 
 -- The subjects that are asked for: one, where it is known, or all. (own)
 abbrev pub asked_subjects : State → Option ℕ → List ℕ
 asked_subjects v None = subjects v
 asked_subjects v (Some s) = if is_subject v s then s ∷ [] else []
 
--- The lines of a subject. (own)
-abbrev pub subject_lines : Names → State → Bool → ℕ → List ℕ
-subject_lines names v downgrades s =
-    if downgrades then subject_downgrades names v (distinct v) s else subject_powers names v (distinct v) s
+-- What is asked for of a subject, with the labels that are in use. (own)
+abbrev pub granted_of : State → Bool → ℕ → List Granted
+granted_of v downgrades s =
+    if downgrades then subject_downgrades v (distinct v) s else subject_powers v (distinct v) s
 
--- What is printed of what subjects may change, with the labels that are in use. (own)
-abbrev pub powers_text : Names → State → Asked → List ℕ
-powers_text names v asked = flat_map (subject_lines names v asked.downgrades) (asked_subjects v asked.subject)
+-- What subjects may change, as far as it is asked for. (own)
+abbrev pub powers : State → Asked → List Granted
+powers v asked = flat_map (granted_of v asked.downgrades) (asked_subjects v asked.subject)

@@ -1,21 +1,21 @@
 //! What subjects may change.
-ghost use Rattle.std.specs.Prelude.{◌≡◌, ◌++◌, ◌==◌, not, IsTrue, IfOk, OnOk, All, Some, length, string_bytes};
+ghost use Rattle.std.specs.Prelude.{◌≡◌, ◌++◌, ◌==◌, not, IsTrue, IfOk, OnOk, All, Some, length, map};
 ghost use Rattle.std.specs.List.{flat_map};
 ghost use Rattle.mls_state.specs.State.{is_subject, is_active};
 ghost use Rattle.mls_review.specs.Distinct.{distinct};
 ghost use Rattle.mls_review.specs.Findings.{objects as active_objects};
-ghost use Rattle.mls_review.specs.Powers.{object_relabelings, downgrade_line, subject_powers, subject_downgrades};
-ghost use Rattle.mls_review.specs.Powers.{asked_subjects, subject_lines, powers_text};
+ghost use Rattle.mls_review.specs.Granted.{change_view};
+ghost use Rattle.mls_review.specs.Powers.{object_relabelings, downgrades_of, subject_powers, subject_downgrades};
+ghost use Rattle.mls_review.specs.Powers.{asked_subjects, granted_of, powers as powers_in};
 
+use crate::change::Change;
 use crate::distinct::distinct_labels;
 use crate::known::{objects, subjects};
 use crate::power::Power;
 use crate::relabeling::Relabeling;
 use mls_labels::SecLabel;
-use mls_lines::Names;
 use mls_state::State;
 use mls_tables::{ObjectId, SubjectId};
-use mls_wording::Answer;
 use std::alloc::{AllocError, Allocator, Global};
 
 /// Of whom it is asked what they may change, and whether only what they may downgrade.
@@ -27,11 +27,10 @@ pub struct Asked {
     pub downgrades: bool,
 }
 
-/// Appends the lines of the labels that a subject may give to an object.
+/// Adds the labels that a subject may give to an object.
 fn push_object<A: Allocator>(
     alloc: Global,
-    text: &mut String,
-    names: &Names,
+    found: &mut Vec<Change>,
     state: &State<A>,
     labels: &[SecLabel],
     s: SubjectId,
@@ -39,18 +38,17 @@ fn push_object<A: Allocator>(
 ) -> Result<(), AllocError>
     requires subject { IsTrue (is_subject state.now s) }
     requires object { IsTrue (is_active state.now o) }
-    ensures { OnOk result (string_bytes text.new ≡ string_bytes text.old
-        ++ object_relabelings names.now state.now labels.now s o) }
+    ensures { OnOk result (map change_view found.new.items
+        ≡ map change_view found.old.items ++ object_relabelings state.now labels.now s o) }
 {
-    Relabeling::Down(o).push_line(alloc, text, names, state, s, labels)?;
-    Relabeling::Up(o).push_line(alloc, text, names, state, s, labels)
+    Relabeling::Down(o).push_taken(alloc, found, state, s, labels)?;
+    Relabeling::Up(o).push_taken(alloc, found, state, s, labels)
 }
 
-/// Appends the lines of the labels that a subject may give to some objects.
+/// Adds the labels that a subject may give to some objects.
 fn push_objects<A: Allocator>(
     alloc: Global,
-    text: &mut String,
-    names: &Names,
+    found: &mut Vec<Change>,
     state: &State<A>,
     labels: &[SecLabel],
     s: SubjectId,
@@ -58,20 +56,19 @@ fn push_objects<A: Allocator>(
 ) -> Result<(), AllocError>
     requires subject { IsTrue (is_subject state.now s) }
     requires objects { All (λ o. IsTrue (is_active state.now o)) objects.now }
-    ensures { OnOk result (string_bytes text.new ≡ string_bytes text.old
-        ++ flat_map (object_relabelings names.now state.now labels.now s) objects.now) }
+    ensures { OnOk result (map change_view found.new.items
+        ≡ map change_view found.old.items ++ flat_map (object_relabelings state.now labels.now s) objects.now) }
 {
     for o in objects {
-        push_object(alloc, text, names, state, labels, s, *o)?;
+        push_object(alloc, found, state, labels, s, *o)?;
     }
     Ok(())
 }
 
-/// Appends the lines of the labels downwards that a subject may give to some objects.
+/// Adds the labels downwards that a subject may give to some objects.
 fn push_downgrades<A: Allocator>(
     alloc: Global,
-    text: &mut String,
-    names: &Names,
+    found: &mut Vec<Change>,
     state: &State<A>,
     labels: &[SecLabel],
     s: SubjectId,
@@ -79,20 +76,19 @@ fn push_downgrades<A: Allocator>(
 ) -> Result<(), AllocError>
     requires subject { IsTrue (is_subject state.now s) }
     requires objects { All (λ o. IsTrue (is_active state.now o)) objects.now }
-    ensures { OnOk result (string_bytes text.new ≡ string_bytes text.old
-        ++ flat_map (downgrade_line names.now state.now labels.now s) objects.now) }
+    ensures { OnOk result (map change_view found.new.items
+        ≡ map change_view found.old.items ++ flat_map (downgrades_of state.now labels.now s) objects.now) }
 {
     for o in objects {
-        Relabeling::Down(*o).push_line(alloc, text, names, state, s, labels)?;
+        Relabeling::Down(*o).push_taken(alloc, found, state, s, labels)?;
     }
     Ok(())
 }
 
-/// Appends the lines of all that a subject may change.
+/// Adds all that a subject may change.
 fn push_powers<A: Allocator>(
     alloc: Global,
-    text: &mut String,
-    names: &Names,
+    found: &mut Vec<Change>,
     state: &State<A>,
     labels: &[SecLabel],
     s: SubjectId,
@@ -101,21 +97,20 @@ fn push_powers<A: Allocator>(
     requires subject { IsTrue (is_subject state.now s) }
     requires active { All (λ o. IsTrue (is_active state.now o)) objects.now }
     requires all { objects.now ≡ active_objects state.now }
-    ensures { OnOk result (string_bytes text.new ≡ string_bytes text.old
-        ++ subject_powers names.now state.now labels.now s) }
+    ensures { OnOk result (map change_view found.new.items
+        ≡ map change_view found.old.items ++ subject_powers state.now labels.now s) }
 {
-    Power::Gives.push_lines(text, names, state, s, objects)?;
-    Power::Creates.push_lines(text, names, state, s, objects)?;
-    Power::Deletes.push_lines(text, names, state, s, objects)?;
-    Relabeling::Level.push_line(alloc, text, names, state, s, labels)?;
-    push_objects(alloc, text, names, state, labels, s, objects)
+    Power::Gives.push_all_had(found, state, s, objects)?;
+    Power::Creates.push_all_had(found, state, s, objects)?;
+    Power::Deletes.push_all_had(found, state, s, objects)?;
+    Relabeling::Level.push_taken(alloc, found, state, s, labels)?;
+    push_objects(alloc, found, state, labels, s, objects)
 }
 
-/// Appends the lines of a subject.
+/// Adds what is asked for of a subject.
 fn push_subject<A: Allocator>(
     alloc: Global,
-    text: &mut String,
-    names: &Names,
+    found: &mut Vec<Change>,
     state: &State<A>,
     labels: &[SecLabel],
     s: SubjectId,
@@ -126,33 +121,32 @@ fn push_subject<A: Allocator>(
     requires active { All (λ o. IsTrue (is_active state.now o)) objects.now }
     requires all { objects.now ≡ active_objects state.now }
     requires labels { labels.now ≡ distinct state.now }
-    ensures { OnOk result (string_bytes text.new ≡ string_bytes text.old
-        ++ subject_lines names.now state.now downgrades s) }
+    ensures { OnOk result
+        (map change_view found.new.items ≡ map change_view found.old.items ++ granted_of state.now downgrades s) }
 {
     if downgrades {
-        push_downgrades(alloc, text, names, state, labels, s, objects)
+        push_downgrades(alloc, found, state, labels, s, objects)
     } else {
-        push_powers(alloc, text, names, state, labels, s, objects)
+        push_powers(alloc, found, state, labels, s, objects)
     }
 }
 
-/// Appends the lines of some subjects.
+/// Adds what is asked for of some subjects.
 fn push_subjects<A: Allocator>(
     alloc: Global,
-    text: &mut String,
-    names: &Names,
+    found: &mut Vec<Change>,
     state: &State<A>,
     subjects: &[SubjectId],
     downgrades: bool,
 ) -> Result<(), AllocError>
     requires { All (λ s. IsTrue (is_subject state.now s)) subjects.now }
-    ensures { OnOk result (string_bytes text.new ≡ string_bytes text.old
-        ++ flat_map (subject_lines names.now state.now downgrades) subjects.now) }
+    ensures { OnOk result (map change_view found.new.items
+        ≡ map change_view found.old.items ++ flat_map (granted_of state.now downgrades) subjects.now) }
 {
     let objects = objects(alloc, state)?;
     let labels = distinct_labels(alloc, state)?;
     for s in subjects {
-        push_subject(alloc, text, names, state, &labels, *s, &objects, downgrades)?;
+        push_subject(alloc, found, state, &labels, *s, &objects, downgrades)?;
     }
     Ok(())
 }
@@ -188,26 +182,21 @@ fn asked_subjects<A: Allocator>(
     }
 }
 
-/// What subjects may change in a state, a line each: over which objects they may give and rescind permissions, under
-/// which they may create, which they may delete; which labels they may take, and which they may give to an object, of
-/// those in use in the state, in the order of `distinct_labels`. By subject, then in the order of the rules, then by
-/// object. The answer is positive where there is a line.
+/// What subjects may change in a state: over which objects they may give and rescind permissions, under which they may
+/// create, which they may delete; which labels they may take, and which they may give to an object, of those in use in
+/// the state, in the order of `distinct_labels`. By subject, then in the order of the rules, then by object.
 ///
 /// # Errors
 /// `AllocError` where an allocation failed.
-pub fn powers<A: Allocator>(
+pub fn changes<A: Allocator>(
     alloc: Global,
-    names: &Names,
     state: &State<A>,
     asked: Asked,
-) -> Result<Answer, AllocError>
-    ensures text { IfOk result (λ found. string_bytes found.text ≡ powers_text names.now state.now asked) }
-    ensures positive { IfOk result
-        (λ found. found.is_positive ≡ not (length (powers_text names.now state.now asked) == 0)) }
+) -> Result<Vec<Change>, AllocError>
+    ensures { IfOk result (λ found. map change_view found.items ≡ powers_in state.now asked) }
 {
     let subjects = asked_subjects(alloc, state, asked.subject)?;
-    let mut text = String::new(alloc);
-    push_subjects(alloc, &mut text, names, state, &subjects, asked.downgrades)?;
-    let is_positive = text.len() != 0;
-    Ok(Answer { text, is_positive })
+    let mut found = Vec::new(alloc);
+    push_subjects(alloc, &mut found, state, &subjects, asked.downgrades)?;
+    Ok(found)
 }

@@ -1,15 +1,15 @@
-//! What a subject may do with objects, but for their labels.
-ghost use Rattle.std.specs.Prelude.{◌≡◌, ◌++◌, IsTrue, All, string_bytes, OnOk};
+//! What a subject may do with an object by the rules on permissions and on the tree.
+ghost use Rattle.std.specs.Prelude.{◌≡◌, ◌++◌, IsTrue, All, map, OnOk};
 ghost use Rattle.std.specs.List.{flat_map};
 ghost use Rattle.mls_state.specs.State.{is_active};
-ghost use Rattle.mls_review.specs.Powers.{is_granted, may, has_power, power_word, power_line};
+ghost use Rattle.mls_review.specs.Granted.{change_view};
+ghost use Rattle.mls_review.specs.Powers.{is_granted, may, has_power, power_over};
 
-use mls_lines::Names;
+use crate::change::Change;
 use mls_requests::{Action, Reply, Request};
 use mls_rules::decide;
 use mls_state::State;
 use mls_tables::{Mode, ObjectId, SubjectId};
-use mls_wording::{push_object, push_subject};
 use std::alloc::{AllocError, Allocator};
 
 /// A power over an object, in the order of the rules.
@@ -61,54 +61,38 @@ impl Power {
         }
     }
 
-    /// The words between who has the power and what it is over.
-    fn word(self) -> &'static str
-        ensures { result.now ≡ power_word self }
-    {
-        match self {
-            Power::Gives => " gives and rescinds ",
-            Power::Creates => " creates under ",
-            Power::Deletes => " deletes ",
-        }
-    }
-
-    /// Appends the line of the power over an object, where a subject has it.
-    fn push_line<A: Allocator>(
+    /// Adds the power over an object, where a subject has it.
+    fn push_had<A: Allocator>(
         self,
-        text: &mut String,
-        names: &Names,
+        found: &mut Vec<Change>,
         state: &State<A>,
         s: SubjectId,
         o: ObjectId,
     ) -> Result<(), AllocError>
         requires { IsTrue (is_active state.now o) }
         ensures { OnOk result
-            (string_bytes text.new ≡ string_bytes text.old ++ power_line names.now state.now s self o) }
+            (map change_view found.new.items ≡ map change_view found.old.items ++ power_over state.now s self o) }
     {
-        if !self.is_had(state, s, o) {
-            return Ok(());
+        if self.is_had(state, s, o) {
+            found.push(Change::Over(s, self, o))?;
         }
-        push_subject(text, names, s)?;
-        text.push_str(self.word())?;
-        push_object(text, names, o)?;
-        text.push_str("\n")
+        Ok(())
     }
 
-    /// Appends the lines of the power over some objects, of those over which a subject has it.
-    pub(crate) fn push_lines<A: Allocator>(
+    /// Adds the power over some objects, of those over which a subject has it.
+    pub(crate) fn push_all_had<A: Allocator>(
         self,
-        text: &mut String,
-        names: &Names,
+        found: &mut Vec<Change>,
         state: &State<A>,
         s: SubjectId,
         objects: &[ObjectId],
     ) -> Result<(), AllocError>
         requires { All (λ o. IsTrue (is_active state.now o)) objects.now }
-        ensures { OnOk result (string_bytes text.new ≡ string_bytes text.old
-            ++ flat_map (power_line names.now state.now s self) objects.now) }
+        ensures { OnOk result (map change_view found.new.items
+            ≡ map change_view found.old.items ++ flat_map (power_over state.now s self) objects.now) }
     {
         for o in objects {
-            self.push_line(text, names, state, s, *o)?;
+            self.push_had(found, state, s, *o)?;
         }
         Ok(())
     }

@@ -16,7 +16,7 @@ use Rattle.mls_start_text.specs.Texts.{SaidCell, SaidFile}
 use Rattle.mls_start_file.specs.Ties.{Loaded}
 use Rattle.mls_start_text.specs.declared.load_fault.LoadFault.{LoadFault}
 use Rattle.mls_start_faults.specs.Each.{at_each}
-use Rattle.mls_start_faults.specs.Places.{line, on_item}
+use Rattle.mls_start_faults.specs.Places.{Located, located, on_item}
 
 -- The first property that an access breaks in a state, if any: discretionary security, simple security, star,
 -- integrity. (own)
@@ -28,37 +28,37 @@ broken v t =
     else if not (integrity_holds v t) then Some Integrity
     else None
 
--- The line of an access by what it breaks, if anything. (own)
-abbrev pub broken_line : ℕ → ℕ → Option Reason → List ℕ
-broken_line n k None = []
-broken_line n k (Some reason) = line (on_item (codes "accesses") n (codes "modes") k (reason_word reason))
+-- The place of an access by what it breaks, if anything. (own)
+abbrev pub broken_place : ℕ → ℕ → Option Reason → List Located
+broken_place n k None = []
+broken_place n k (Some reason) = located (on_item (codes "accesses") n (codes "modes") k (reason_word reason))
 
--- The line of an access of a subject to an object in the mode of a word. (own)
-abbrev pub access_line : State → ℕ → ℕ → ℕ → ℕ → List ℕ → List ℕ
-access_line v s o n k word = broken_line n k (having (read_mode word) (λ x. broken v (s, o, x)))
+-- The place of an access of a subject to an object in the mode of a word. (own)
+abbrev pub access_place : State → ℕ → ℕ → ℕ → ℕ → List ℕ → List Located
+access_place v s o n k word = broken_place n k (having (read_mode word) (λ x. broken v (s, o, x)))
 
--- The lines of the accesses of a cell, by these names. (own)
-abbrev pub cell_accesses : Names → State → ℕ → SaidCell → List ℕ
+-- The places of the accesses of a cell, by these names. (own)
+abbrev pub cell_accesses : Names → State → ℕ → SaidCell → List Located
 cell_accesses names v n c =
     unwrap_or
     (having (place_of names.subjects c.subject) (λ s.
-    option_map (λ o. at_each (access_line v s o n) 0 c.modes) (place_of names.objects c.object)))
+    option_map (λ o. at_each (access_place v s o n) 0 c.modes) (place_of names.objects c.object)))
     []
 
--- The lines of the accesses of cells, in the state that a start opens with. (own)
-abbrev pub accesses_lines : List SaidCell → Loaded → List ℕ
-accesses_lines cells loaded = at_each (cell_accesses loaded.names loaded.start) 0 cells
+-- The places of the accesses of cells, in the state that a start opens with. (own)
+abbrev pub accesses_places : List SaidCell → Loaded → List Located
+accesses_places cells loaded = at_each (cell_accesses loaded.names loaded.start) 0 cells
 
 -- A file without its accesses. (own)
 abbrev pub without_accesses : SaidFile → SaidFile
 without_accesses file = record file { accesses = [] }
 
--- What is written by a start, where there is one. (own)
-abbrev pub by_start : (Loaded → List ℕ) → Result Loaded LoadFault → List ℕ
-by_start lines (Ok loaded) = lines loaded
-by_start lines (Err fault) = []
+-- What is found by a start, where there is one. (own)
+abbrev pub by_start : (Loaded → List Located) → Result Loaded LoadFault → List Located
+by_start places (Ok loaded) = places loaded
+by_start places (Err fault) = []
 
--- The lines of a file's accesses, each judged in the state that the file opens with when it has no accesses: no
+-- The places of a file's accesses, each judged in the state that the file opens with when it has no accesses: no
 -- property of one access speaks of another. (own)
-abbrev pub accesses_text : SaidFile → List ℕ
-accesses_text file = by_start (accesses_lines file.accesses) (load_of_file (without_accesses file))
+abbrev pub accesses_found : SaidFile → List Located
+accesses_found file = by_start (accesses_places file.accesses) (load_of_file (without_accesses file))

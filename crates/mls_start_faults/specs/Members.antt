@@ -4,7 +4,7 @@ use Rattle.mls_facts.specs.Numbered.{holds_of}
 use Rattle.serde_json.specs.Data.{Data, Items, no_items, item}
 use Rattle.serde_json.specs.Find.{get, as_number, as_u64, as_array, as_object}
 use Rattle.mls_start_text.specs.Each.{having}
-use Rattle.mls_start_faults.specs.Places.{key, Wrong, line}
+use Rattle.mls_start_faults.specs.Places.{Located, key, Wrong, located}
 use Rattle.mls_start_faults.specs.Rows.{within, here, required, items_wrong, members_wrong, scheme_wrong, row_wrong}
 use Rattle.mls_start_faults.specs.declared.rows.Row.{Row}
 use Rattle.mls_start_faults.specs.declared.rows.Row.TheVariants.{Subject, Object, Cell}
@@ -55,11 +55,11 @@ known_wrong d =
 abbrev pub file_wrong : Data → Option Wrong
 file_wrong d = members_wrong (known_wrong d) file_keys (as_object d)
 
--- The line of what is wrong, if anything. (own)
-abbrev pub wrong_line : Option Wrong → List ℕ
-wrong_line None = []
-wrong_line (Some w) = line w
+-- The place of what is wrong, if anything. (own)
+abbrev pub wrong_place : Option Wrong → List Located
+wrong_place None = []
+wrong_place (Some w) = located w
 
--- The line of the first thing that is wrong with a start file's members. (own)
-abbrev pub members_text : Data → List ℕ
-members_text d = wrong_line (file_wrong d)
+-- The place of the first thing that is wrong with a start file's members. (own)
+abbrev pub members_found : Data → List Located
+members_found d = wrong_place (file_wrong d)

@@ -1,12 +1,13 @@
 -- Places in a start file, and what is written of them.
 use Rattle.std.specs.Prelude.{ℕ, Bool, not, ◌&&◌, ◌==◌, ◌+◌, ◌/◌, ◌%◌, nat_lt, List, [], ◌∷◌, ◌++◌, codes}
-use Rattle.std.specs.Prelude.{Option, Some, None}
+use Rattle.std.specs.Prelude.{Option, Some, None, string_bytes}
 use Rattle.std.specs.Prelude.{if◌then◌else◌}
 use Rattle.std.specs.Fmt.{decimal}
 use Rattle.std.specs.List.{flat_map}
 use Rattle.std.proofs.Common.{Bor}
 use Rattle.mls_start_faults.specs.declared.place.Place.{Place}
 use Rattle.mls_start_faults.specs.declared.place.Spot.{Spot}
+use Rattle.mls_start_faults.specs.declared.place_row.PlaceRow.{PlaceRow}
 
 -- A step of a JSON pointer: a member's key, or an item's number in a list. (own)
 pub data Step : Type 0 where
@@ -44,9 +45,13 @@ abbrev pub pointer : List Step → List ℕ
 pointer [] = codes "/"
 pointer (step ∷ steps) = step_text step ++ flat_map step_text steps
 
--- The line of a place: its pointer and the words. (own)
-abbrev pub line : Wrong → List ℕ
-line w = pointer w.0 ++ (codes ": " ++ (w.1 ++ codes "\n"))
+-- What is told of a place: the text of the pointer to it, and the words for what is wrong there. (own)
+abbrev pub Located : Type 0
+Located = List ℕ × List ℕ
+
+-- A place, as it is told. (own)
+abbrev pub located : Wrong → List Located
+located w = (pointer w.0, w.1) ∷ []
 
 -- A member of the file. (own)
 abbrev pub on_list : List ℕ → List ℕ → Wrong
@@ -85,3 +90,7 @@ spot_view s = (key_steps s.member ++ number_steps s.item, s.words.now)
 -- A place of a file, as contracts see it. (own)
 abbrev pub place_view : Place → Wrong
 place_view p = (key p.list.now ∷ number_steps p.row ++ (spot_view p.spot).0, p.spot.words.now)
+
+-- What is told of a place, as contracts see it. (own)
+abbrev pub located_view : PlaceRow → Located
+located_view row = (string_bytes row.pointer, row.words.now)

@@ -16,9 +16,9 @@ use Rattle.mls_start_text.specs.Labelling.{Labelled, labels_of}
 use Rattle.mls_start_text.specs.Naming.{names_of}
 use Rattle.mls_start_text.specs.Texts.{SaidFile}
 use Rattle.mls_start_text.specs.declared.labels.LabelledChild.{LabelledChild}
-use Rattle.mls_start_faults.specs.Accesses.{accesses_text}
+use Rattle.mls_start_faults.specs.Accesses.{accesses_found}
 use Rattle.mls_start_faults.specs.Each.{at_each}
-use Rattle.mls_start_faults.specs.Places.{line, on_list, on_member}
+use Rattle.mls_start_faults.specs.Places.{Located, located, on_list, on_member}
 
 -- The place of the parent of the object of a number, the root's being none, where its parent's name is an object's; of
 -- the objects below the root in the file's order. (own)
@@ -39,25 +39,25 @@ is_in_cycle children n = leads_to children n (length children) (parent_of childr
 abbrev pub before_words : Bool → List ℕ
 before_words in_cycle = if in_cycle then codes "not before it, in a cycle" else codes "not before it"
 
--- The line of an object that doesn't stand behind its parent. (own)
-abbrev pub before_line : List LabelledChild → ℕ → LabelledChild → List ℕ
-before_line children n c =
+-- The place of an object that doesn't stand behind its parent. (own)
+abbrev pub before_place : List LabelledChild → ℕ → LabelledChild → List Located
+before_place children n c =
     if holds_of (λ p. nat_lt p n) c.parent then []
-    else line (on_member (codes "objects") n (codes "parent") (before_words (is_in_cycle children n)))
+    else located (on_member (codes "objects") n (codes "parent") (before_words (is_in_cycle children n)))
 
--- The lines of such objects. (own)
-abbrev pub before_lines : Labelled → List ℕ
-before_lines labelled = at_each (before_line labelled.children) 1 labelled.children
+-- The places of such objects. (own)
+abbrev pub before_places : Labelled → List Located
+before_places labelled = at_each (before_place labelled.children) 1 labelled.children
 
--- The line of a subject whose maximum label doesn't dominate its current label. (own)
-abbrev pub current_line : ℕ → Subject → List ℕ
-current_line n s =
+-- The place of a subject whose maximum label doesn't dominate its current label. (own)
+abbrev pub current_place : ℕ → Subject → List Located
+current_place n s =
     if current_fits s then []
-    else line (on_member (codes "subjects") n (codes "current") (codes "maximum does not dominate it"))
+    else located (on_member (codes "subjects") n (codes "current") (codes "maximum does not dominate it"))
 
--- The lines of such subjects. (own)
-abbrev pub current_lines : Labelled → List ℕ
-current_lines labelled = at_each current_line 0 labelled.subjects
+-- The places of such subjects. (own)
+abbrev pub current_places : Labelled → List Located
+current_places labelled = at_each current_place 0 labelled.subjects
 
 -- The labels of all objects, the root's first. (own)
 abbrev pub object_labels : Labelled → List ObjectLabels
@@ -67,52 +67,52 @@ object_labels labelled = labelled.root ∷ map (λ c. c.labels) labelled.childre
 abbrev pub parent_labels : List ObjectLabels → LabelledChild → Option ObjectLabels
 parent_labels labels c = having c.parent (λ p. slice_get labels p)
 
--- The line of an object whose security label doesn't dominate its parent's. (own)
-abbrev pub security_line : List ObjectLabels → ℕ → LabelledChild → List ℕ
-security_line labels n c =
+-- The place of an object whose security label doesn't dominate its parent's. (own)
+abbrev pub security_place : List ObjectLabels → ℕ → LabelledChild → List Located
+security_place labels n c =
     if holds_of (λ p. dominates c.labels.security p.security) (parent_labels labels c) then []
-    else line (on_member (codes "objects") n (codes "security") (codes "does not dominate the parent's"))
+    else located (on_member (codes "objects") n (codes "security") (codes "does not dominate the parent's"))
 
--- The lines of such objects. (own)
-abbrev pub security_lines : Labelled → List ℕ
-security_lines labelled = at_each (security_line (object_labels labelled)) 1 labelled.children
+-- The places of such objects. (own)
+abbrev pub security_places : Labelled → List Located
+security_places labelled = at_each (security_place (object_labels labelled)) 1 labelled.children
 
--- The line of an object whose integrity label its parent's doesn't dominate. (own)
-abbrev pub integrity_line : List ObjectLabels → ℕ → LabelledChild → List ℕ
-integrity_line labels n c =
+-- The place of an object whose integrity label its parent's doesn't dominate. (own)
+abbrev pub integrity_place : List ObjectLabels → ℕ → LabelledChild → List Located
+integrity_place labels n c =
     if holds_of (λ p. dominates p.integrity c.labels.integrity) (parent_labels labels c) then []
-    else line (on_member (codes "objects") n (codes "integrity") (codes "the parent's does not dominate it"))
+    else located (on_member (codes "objects") n (codes "integrity") (codes "the parent's does not dominate it"))
 
--- The lines of such objects. (own)
-abbrev pub integrity_lines : Labelled → List ℕ
-integrity_lines labelled = at_each (integrity_line (object_labels labelled)) 1 labelled.children
+-- The places of such objects. (own)
+abbrev pub integrity_places : Labelled → List Located
+integrity_places labelled = at_each (integrity_place (object_labels labelled)) 1 labelled.children
 
--- The lines of a file by its labels, for a fault that speaks of these and of parents. (own)
-abbrev pub labelled_lines : StartFault → Labelled → List ℕ
-labelled_lines NoSubjects labelled = []
-labelled_lines TooManySubjects labelled = []
-labelled_lines TooManyObjects labelled = []
-labelled_lines BadLabel labelled = []
-labelled_lines BadParent labelled = before_lines labelled
-labelled_lines CurrentAboveMaximum labelled = current_lines labelled
-labelled_lines NotCompatible labelled = security_lines labelled
-labelled_lines IntegrityAboveParent labelled = integrity_lines labelled
-labelled_lines NoSuchCell labelled = []
-labelled_lines NotSecure labelled = []
+-- The places of a file by its labels, for a fault that speaks of these and of parents. (own)
+abbrev pub labelled_places : StartFault → Labelled → List Located
+labelled_places NoSubjects labelled = []
+labelled_places TooManySubjects labelled = []
+labelled_places TooManyObjects labelled = []
+labelled_places BadLabel labelled = []
+labelled_places BadParent labelled = before_places labelled
+labelled_places CurrentAboveMaximum labelled = current_places labelled
+labelled_places NotCompatible labelled = security_places labelled
+labelled_places IntegrityAboveParent labelled = integrity_places labelled
+labelled_places NoSuchCell labelled = []
+labelled_places NotSecure labelled = []
 
--- What is written of a file by its labels: nothing where a text spells none. (own)
-abbrev pub by_labels : (Labelled → List ℕ) → SaidFile → List ℕ
-by_labels lines file = unwrap_or (option_map lines (labels_of (names_of file) file)) []
+-- What is found of a file by its labels: nothing where a text spells none. (own)
+abbrev pub by_labels : (Labelled → List Located) → SaidFile → List Located
+by_labels places file = unwrap_or (option_map places (labels_of (names_of file) file)) []
 
--- The lines of a file for a fault that starts have. (own)
-abbrev pub start_text : StartFault → SaidFile → List ℕ
-start_text NoSubjects file = line (on_list (codes "subjects") (codes "no subject"))
-start_text TooManySubjects file = line (on_list (codes "subjects") (codes "more than 256"))
-start_text TooManyObjects file = line (on_list (codes "objects") (codes "more than 4096"))
-start_text BadLabel file = by_labels (labelled_lines BadLabel) file
-start_text BadParent file = by_labels (labelled_lines BadParent) file
-start_text CurrentAboveMaximum file = by_labels (labelled_lines CurrentAboveMaximum) file
-start_text NotCompatible file = by_labels (labelled_lines NotCompatible) file
-start_text IntegrityAboveParent file = by_labels (labelled_lines IntegrityAboveParent) file
-start_text NoSuchCell file = by_labels (labelled_lines NoSuchCell) file
-start_text NotSecure file = accesses_text file
+-- The places of a file for a fault that starts have. (own)
+abbrev pub start_found : StartFault → SaidFile → List Located
+start_found NoSubjects file = located (on_list (codes "subjects") (codes "no subject"))
+start_found TooManySubjects file = located (on_list (codes "subjects") (codes "more than 256"))
+start_found TooManyObjects file = located (on_list (codes "objects") (codes "more than 4096"))
+start_found BadLabel file = by_labels (labelled_places BadLabel) file
+start_found BadParent file = by_labels (labelled_places BadParent) file
+start_found CurrentAboveMaximum file = by_labels (labelled_places CurrentAboveMaximum) file
+start_found NotCompatible file = by_labels (labelled_places NotCompatible) file
+start_found IntegrityAboveParent file = by_labels (labelled_places IntegrityAboveParent) file
+start_found NoSuchCell file = by_labels (labelled_places NoSuchCell) file
+start_found NotSecure file = accesses_found file

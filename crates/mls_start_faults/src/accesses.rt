@@ -1,13 +1,15 @@
 //! Where a file has accesses that break a property.
-ghost use Rattle.std.specs.Prelude.{◌≡◌, ◌++◌, map, string_bytes, IsTrue, OnOk, IfOk};
+ghost use Rattle.std.specs.Prelude.{◌≡◌, ◌++◌, map, IsTrue, OnOk, IfOk};
 ghost use Rattle.mls_state.specs.State.{is_subject, is_active};
 ghost use Rattle.mls_start_file.specs.Ties.{Loaded};
 ghost use Rattle.mls_start_file.specs.Ties.{AreTied};
 ghost use Rattle.mls_start_text.specs.Views.{text_view, cell_view, file_view};
-ghost use Rattle.mls_start_faults.specs.Accesses.{broken, access_line, cell_accesses, accesses_lines, accesses_text};
+ghost use Rattle.mls_start_faults.specs.Accesses.{broken, access_place, cell_accesses, accesses_places, accesses_found};
 ghost use Rattle.mls_start_faults.specs.Each.{at_each};
+ghost use Rattle.mls_start_faults.specs.Places.{located_view};
 
 use crate::place::Place;
+use crate::place_row::PlaceRow;
 use crate::writing::push_place;
 use mls_lines::Names;
 use mls_requests::Reason;
@@ -46,9 +48,9 @@ struct Pair {
     row: usize,
 }
 
-/// Appends the line of an access that breaks a property.
+/// Adds the place of an access that breaks a property.
 fn push_access(
-    text: &mut String,
+    found: &mut Vec<PlaceRow>,
     state: &State,
     pair: &Pair,
     k: usize,
@@ -57,9 +59,9 @@ fn push_access(
     requires subject { IsTrue (is_subject state.now pair.now.subject) }
     requires object { IsTrue (is_active state.now pair.now.object) }
     ensures { OnOk result
-        (string_bytes text.new
-        ≡ string_bytes text.old
-        ++ access_line state.now pair.now.subject pair.now.object pair.now.row k (text_view word.now)) }
+        (map located_view found.new.items
+        ≡ map located_view found.old.items
+        ++ access_place state.now pair.now.subject pair.now.object pair.now.row k (text_view word.now)) }
 {
     let Some(mode) = mode_of(word) else {
         return Ok(());
@@ -67,7 +69,7 @@ fn push_access(
     match broken(state, pair.subject, pair.object, mode) {
         Some(reason) => {
             push_place(
-                text,
+                found,
                 Place::item("accesses", pair.row, "modes", k, reason.word()),
             )
         }
@@ -75,9 +77,9 @@ fn push_access(
     }
 }
 
-/// Appends the lines of the accesses of a pair, in the modes of these words.
+/// Adds the places of the accesses of a pair, in the modes of these words.
 fn push_modes(
-    text: &mut String,
+    found: &mut Vec<PlaceRow>,
     state: &State,
     pair: &Pair,
     words: &[Value],
@@ -85,20 +87,20 @@ fn push_modes(
     requires subject { IsTrue (is_subject state.now pair.now.subject) }
     requires object { IsTrue (is_active state.now pair.now.object) }
     ensures { OnOk result
-        (string_bytes text.new
-        ≡ string_bytes text.old
-        ++ at_each (access_line state.now pair.now.subject pair.now.object pair.now.row) 0 (map text_view words.now)) }
+        (map located_view found.new.items
+        ≡ map located_view found.old.items
+        ++ at_each (access_place state.now pair.now.subject pair.now.object pair.now.row) 0 (map text_view words.now)) }
 {
     for (k, word) in words.iter().enumerate() {
-        push_access(text, state, pair, k, word)?;
+        push_access(found, state, pair, k, word)?;
     }
     Ok(())
 }
 
-/// Appends the lines of the accesses of a cell.
+/// Adds the places of the accesses of a cell.
 #[tactic(auto, using(crate::proofs::Known::subject_known, crate::proofs::Known::object_known))]
 fn push_cell(
-    text: &mut String,
+    found: &mut Vec<PlaceRow>,
     names: &Names,
     state: &State,
     row: usize,
@@ -106,8 +108,8 @@ fn push_cell(
 ) -> Result<(), AllocError>
     requires { AreTied names.now state.now }
     ensures { OnOk result
-        (string_bytes text.new
-        ≡ string_bytes text.old ++ cell_accesses names.now state.now row (cell_view cell.now)) }
+        (map located_view found.new.items
+        ≡ map located_view found.old.items ++ cell_accesses names.now state.now row (cell_view cell.now)) }
 {
     let Some(subject) = names.subject(cell.subject) else {
         return Ok(());
@@ -120,49 +122,50 @@ fn push_cell(
         object,
         row,
     };
-    push_modes(text, state, &pair, cell.modes)
+    push_modes(found, state, &pair, cell.modes)
 }
 
-/// Appends the lines of the accesses of cells.
+/// Adds the places of the accesses of cells.
 fn push_cells(
-    text: &mut String,
+    found: &mut Vec<PlaceRow>,
     names: &Names,
     state: &State,
     cells: &[CellText<'_>],
 ) -> Result<(), AllocError>
     requires { AreTied names.now state.now }
     ensures { OnOk result
-        (string_bytes text.new
-        ≡ string_bytes text.old ++ at_each (cell_accesses names.now state.now) 0 (map cell_view cells.now)) }
+        (map located_view found.new.items
+        ≡ map located_view found.old.items ++ at_each (cell_accesses names.now state.now) 0 (map cell_view cells.now)) }
 {
     for (row, cell) in cells.iter().enumerate() {
-        push_cell(text, names, state, row, cell)?;
+        push_cell(found, names, state, row, cell)?;
     }
     Ok(())
 }
 
-/// The lines of accesses that break a property in the state that a start opens with.
-fn accesses_lines(
+/// The places of accesses that break a property in the state that a start opens with.
+fn accesses_places(
     alloc: Global,
     cells: &[CellText<'_>],
     loaded: &Loaded,
-) -> Result<String, AllocError>
-    ensures { IfOk result (λ text. string_bytes text ≡ accesses_lines (map cell_view cells.now) loaded.now) }
+) -> Result<Vec<PlaceRow>, AllocError>
+    ensures { IfOk result
+        (λ found. map located_view found.items ≡ accesses_places (map cell_view cells.now) loaded.now) }
 {
     let state = loaded.start().opening(alloc)?;
-    let mut text = String::new(alloc);
-    let pushed = push_cells(&mut text, loaded.names(), &state, cells);
+    let mut found = Vec::new(alloc);
+    let pushed = push_cells(&mut found, loaded.names(), &state, cells);
     drop(state);
     pushed?;
-    Ok(text)
+    Ok(found)
 }
 
-/// The lines of a file's accesses that break a property.
+/// The places of a file's accesses that break a property.
 ///
 /// # Errors
 /// `AllocError` where an allocation failed; also where the file is refused without its accesses, which no caller's is.
-pub(crate) fn accesses_text(alloc: Global, file: FileText<'_>) -> Result<String, AllocError>
-    ensures { IfOk result (λ text. string_bytes text ≡ accesses_text (file_view file.entry)) }
+pub(crate) fn accesses_found(alloc: Global, file: FileText<'_>) -> Result<Vec<PlaceRow>, AllocError>
+    ensures { IfOk result (λ found. map located_view found.items ≡ accesses_found (file_view file.entry)) }
 {
     let mut file = file;
     let accesses = mem::replace(&mut file.accesses, Vec::new(alloc));
@@ -170,9 +173,9 @@ pub(crate) fn accesses_text(alloc: Global, file: FileText<'_>) -> Result<String,
     drop(file);
     match loaded {
         Ok(loaded) => {
-            let text = accesses_lines(alloc, &accesses, &loaded);
+            let found = accesses_places(alloc, &accesses, &loaded);
             drop(loaded);
-            text
+            found
         }
         Err(_) => Err(AllocError),
     }

@@ -1,13 +1,15 @@
 //! Where a file has label texts that are refused.
-ghost use Rattle.std.specs.Prelude.{◌≡◌, ◌++◌, map, string_bytes, OnOk, IfOk};
+ghost use Rattle.std.specs.Prelude.{◌≡◌, ◌++◌, map, OnOk, IfOk};
 ghost use Rattle.mls_start_text.specs.NameViews.{names_view};
 ghost use Rattle.mls_start_text.specs.Naming.{names_of};
 ghost use Rattle.mls_start_text.specs.Views.{subject_view, object_view, child_view, file_view};
 ghost use Rattle.mls_start_faults.specs.Each.{at_each};
-ghost use Rattle.mls_start_faults.specs.Labels.{label_words, label_line, subject_lines, object_lines, child_lines};
-ghost use Rattle.mls_start_faults.specs.Labels.{labels_text};
+ghost use Rattle.mls_start_faults.specs.Labels.{label_words, label_place, subject_places, object_places, child_places};
+ghost use Rattle.mls_start_faults.specs.Labels.{labels_found};
+ghost use Rattle.mls_start_faults.specs.Places.{located_view};
 
 use crate::place::Place;
+use crate::place_row::PlaceRow;
 use crate::writing::push_place;
 use mls_labels::{LabelFault, Scheme};
 use mls_start_text::{ChildText, FileNames, FileText, ObjectText, Schemes, SubjectText};
@@ -25,9 +27,9 @@ fn label_words(fault: LabelFault) -> &'static str
     }
 }
 
-/// Appends the line of a member that is to be a label of a scheme, where it is refused.
+/// Adds the place of a member that is to be a label of a scheme, where it is refused.
 fn push_label(
-    text: &mut String,
+    found: &mut Vec<PlaceRow>,
     scheme: &Scheme,
     list: &str,
     n: usize,
@@ -35,32 +37,32 @@ fn push_label(
     label: &str,
 ) -> Result<(), AllocError>
     ensures { OnOk result
-        (string_bytes text.new
-        ≡ string_bytes text.old ++ label_line scheme.now list.now n member.now label.now) }
+        (map located_view found.new.items
+        ≡ map located_view found.old.items ++ label_place scheme.now list.now n member.now label.now) }
 {
     match scheme.read(label) {
         Ok(_) => Ok(()),
-        Err(fault) => push_place(text, Place::member(list, n, member, label_words(fault))),
+        Err(fault) => push_place(found, Place::member(list, n, member, label_words(fault))),
     }
 }
 
-/// Appends the lines of a subject's labels that are refused.
+/// Adds the places of a subject's labels that are refused.
 fn push_subject(
-    text: &mut String,
+    found: &mut Vec<PlaceRow>,
     schemes: &Schemes,
     n: usize,
     subject: &SubjectText<'_>,
 ) -> Result<(), AllocError>
     ensures { OnOk result
-        (string_bytes text.new
-        ≡ string_bytes text.old
-        ++ subject_lines schemes.now.security schemes.now.integrity n (subject_view subject.now)) }
+        (map located_view found.new.items
+        ≡ map located_view found.old.items
+        ++ subject_places schemes.now.security schemes.now.integrity n (subject_view subject.now)) }
 {
     let (security, integrity) = (&schemes.security, &schemes.integrity);
-    push_label(text, security, "subjects", n, "maximum", subject.maximum)?;
-    push_label(text, security, "subjects", n, "current", subject.current)?;
+    push_label(found, security, "subjects", n, "maximum", subject.maximum)?;
+    push_label(found, security, "subjects", n, "current", subject.current)?;
     push_label(
-        text,
+        found,
         integrity,
         "subjects",
         n,
@@ -69,20 +71,20 @@ fn push_subject(
     )
 }
 
-/// Appends the lines of an object's labels that are refused.
+/// Adds the places of an object's labels that are refused.
 fn push_object(
-    text: &mut String,
+    found: &mut Vec<PlaceRow>,
     schemes: &Schemes,
     n: usize,
     object: &ObjectText<'_>,
 ) -> Result<(), AllocError>
     ensures { OnOk result
-        (string_bytes text.new
-        ≡ string_bytes text.old
-        ++ object_lines schemes.now.security schemes.now.integrity n (object_view object.now)) }
+        (map located_view found.new.items
+        ≡ map located_view found.old.items
+        ++ object_places schemes.now.security schemes.now.integrity n (object_view object.now)) }
 {
     push_label(
-        text,
+        found,
         &schemes.security,
         "objects",
         n,
@@ -90,7 +92,7 @@ fn push_object(
         object.security,
     )?;
     push_label(
-        text,
+        found,
         &schemes.integrity,
         "objects",
         n,
@@ -99,51 +101,55 @@ fn push_object(
     )
 }
 
-/// Appends the lines of the labels of subjects.
+/// Adds the places of the labels of subjects.
 fn push_subjects(
-    text: &mut String,
+    found: &mut Vec<PlaceRow>,
     schemes: &Schemes,
     subjects: &[SubjectText<'_>],
 ) -> Result<(), AllocError>
     ensures { OnOk result
-        (string_bytes text.new
-        ≡ string_bytes text.old
-        ++ at_each (subject_lines schemes.now.security schemes.now.integrity) 0 (map subject_view subjects.now)) }
+        (map located_view found.new.items
+        ≡ map located_view found.old.items
+        ++ at_each (subject_places schemes.now.security schemes.now.integrity) 0 (map subject_view subjects.now)) }
 {
     for (n, subject) in subjects.iter().enumerate() {
-        push_subject(text, schemes, n, subject)?;
+        push_subject(found, schemes, n, subject)?;
     }
     Ok(())
 }
 
-/// Appends the lines of the labels of objects below the root.
+/// Adds the places of the labels of objects below the root.
 fn push_children(
-    text: &mut String,
+    found: &mut Vec<PlaceRow>,
     schemes: &Schemes,
     children: &[ChildText<'_>],
 ) -> Result<(), AllocError>
     ensures { OnOk result
-        (string_bytes text.new
-        ≡ string_bytes text.old
-        ++ at_each (child_lines schemes.now.security schemes.now.integrity) 1 (map child_view children.now)) }
+        (map located_view found.new.items
+        ≡ map located_view found.old.items
+        ++ at_each (child_places schemes.now.security schemes.now.integrity) 1 (map child_view children.now)) }
 {
     for (n, child) in children.iter().enumerate() {
-        push_object(text, schemes, n + 1, &child.object)?;
+        push_object(found, schemes, n + 1, &child.object)?;
     }
     Ok(())
 }
 
-/// The lines of a file's labels that these schemes refuse.
-fn labels_by(alloc: Global, schemes: &Schemes, file: &FileText<'_>) -> Result<String, AllocError>
+/// The places of a file's labels that these schemes refuse.
+fn labels_by(
+    alloc: Global,
+    schemes: &Schemes,
+    file: &FileText<'_>,
+) -> Result<Vec<PlaceRow>, AllocError>
     requires security { schemes.now.security ≡ (file_view file.now).security }
     requires integrity { schemes.now.integrity ≡ (file_view file.now).integrity }
-    ensures { IfOk result (λ text. string_bytes text ≡ labels_text (file_view file.now)) }
+    ensures { IfOk result (λ found. map located_view found.items ≡ labels_found (file_view file.now)) }
 {
-    let mut text = String::new(alloc);
-    push_subjects(&mut text, schemes, &file.subjects)?;
-    push_object(&mut text, schemes, 0, &file.root)?;
-    push_children(&mut text, schemes, &file.children)?;
-    Ok(text)
+    let mut found = Vec::new(alloc);
+    push_subjects(&mut found, schemes, &file.subjects)?;
+    push_object(&mut found, schemes, 0, &file.root)?;
+    push_children(&mut found, schemes, &file.children)?;
+    Ok(found)
 }
 
 /// The names in a file that aren't refused.
@@ -156,15 +162,15 @@ pub(crate) fn known_names(alloc: Global, file: &FileText<'_>) -> Result<FileName
     FileNames::make(alloc, file).map_err(|_| AllocError)
 }
 
-/// The lines of a file's labels that are refused.
+/// The places of a file's labels that are refused.
 ///
 /// # Errors
 /// As `known_names`.
-pub(crate) fn labels_text(alloc: Global, file: &FileText<'_>) -> Result<String, AllocError>
-    ensures { IfOk result (λ text. string_bytes text ≡ labels_text (file_view file.now)) }
+pub(crate) fn labels_found(alloc: Global, file: &FileText<'_>) -> Result<Vec<PlaceRow>, AllocError>
+    ensures { IfOk result (λ found. map located_view found.items ≡ labels_found (file_view file.now)) }
 {
     let names = known_names(alloc, file)?;
-    let text = labels_by(alloc, &names.schemes, file);
+    let found = labels_by(alloc, &names.schemes, file);
     drop(names);
-    text
+    found
 }

@@ -8,7 +8,9 @@ mod members;
 mod name_fault;
 mod naming;
 mod place;
+mod place_row;
 mod refused_json;
+mod repeating;
 mod repeats;
 mod rows;
 mod schemes;
@@ -18,4 +20,4 @@ mod unknowns;
 mod writing;
 
 pub use answering::places;
-pub use repeats::repeated_members;
+pub use repeating::repeated_members;

@@ -1,17 +1,18 @@
 //! What is wrong first with the members of a start file.
-ghost use Rattle.std.specs.Prelude.{◌≡◌, ◌==◌, ◌||◌, codes, map, option_map, string_bytes, IfOk};
+ghost use Rattle.std.specs.Prelude.{◌≡◌, ◌==◌, ◌||◌, codes, map, option_map, IfOk};
 ghost use Rattle.std.specs.Option.{option_or};
 ghost use Rattle.mls_facts.specs.Numbered.{holds_of};
 ghost use Rattle.serde_json.specs.Find.{get, as_array, as_number, as_u64};
 ghost use Rattle.serde_json.specs.View.{view, members_view};
 ghost use Rattle.mls_start_text.specs.Each.{having};
 ghost use Rattle.mls_start_faults.specs.Members.{rows_wrong, objects_wrong, has_none, optional, profile_wrong, file_keys};
-ghost use Rattle.mls_start_faults.specs.Members.{known_wrong, members_text};
-ghost use Rattle.mls_start_faults.specs.Places.{key, place_view, spot_view};
+ghost use Rattle.mls_start_faults.specs.Members.{known_wrong, members_found};
+ghost use Rattle.mls_start_faults.specs.Places.{located_view, key, place_view, spot_view};
 ghost use Rattle.mls_start_faults.specs.Rows.{within, first_found, required, first_of, unknown_among, scheme_wrong};
 ghost use Rattle.mls_start_faults.specs.Rows.{row_wrong};
 
 use crate::place::{Place, Spot};
+use crate::place_row::{PlaceRow, push_whole};
 use crate::rows::{Row, row_spot, scheme_spot, unknown_key};
 use crate::writing::push_place;
 use serde_json::{Map, Value};
@@ -189,18 +190,18 @@ fn file_place<'a>(file: &'a Value, members: &'a Map<String, Value>) -> Option<Pl
     }
 }
 
-/// The line of the first thing that is wrong with the members of a file.
-pub(crate) fn members_text(alloc: Global, file: &Value) -> Result<String, AllocError>
-    ensures { IfOk result (λ text. string_bytes text ≡ members_text (view file.now)) }
+/// The place of the first thing that is wrong with the members of a file.
+pub(crate) fn members_found(alloc: Global, file: &Value) -> Result<Vec<PlaceRow>, AllocError>
+    ensures { IfOk result (λ found. map located_view found.items ≡ members_found (view file.now)) }
 {
-    let mut text = String::new(alloc);
+    let mut found = Vec::new(alloc);
     match file.as_object() {
         Some(members) => {
             if let Some(place) = file_place(file, members) {
-                push_place(&mut text, place)?;
+                push_place(&mut found, place)?;
             }
         }
-        None => text.push_str("/: not an object\n")?,
+        None => push_whole(&mut found, "not an object")?,
     }
-    Ok(text)
+    Ok(found)
 }

@@ -1,18 +1,18 @@
-//! Where a start file has a member more than once in one object. The last one counts, and is accepted.
-ghost use Rattle.std.specs.Prelude.{◌≡◌, ◌++◌, nat_lt, map, option_map, string_bytes, Some, IfOk, OnOk};
-ghost use Rattle.std.specs.Str.{IsUtf8};
-ghost use Rattle.json.specs.Json.{Json, document};
+//! Where the tree of a start file has a member more than once in one object.
+ghost use Rattle.std.specs.Prelude.{◌≡◌, ◌++◌, nat_lt, map, option_map, Some, IfOk, OnOk};
 ghost use Rattle.json.specs.Find.{get};
 ghost use Rattle.json.specs.Value.{value_view, members_view};
 ghost use Rattle.mls_start_faults.specs.Each.{at_each};
-ghost use Rattle.mls_start_faults.specs.Places.{place_view};
-ghost use Rattle.mls_start_faults.specs.Repeated.{count_of, is_repeated, line_where, file_line, name_line, member_line};
-ghost use Rattle.mls_start_faults.specs.Repeated.{scheme_lines, row_lines, list_lines, scheme_part, list_part};
-ghost use Rattle.mls_start_faults.specs.Repeated.{schemes_part, known_part, cells_part, lists_part, repeated_text};
+ghost use Rattle.mls_start_faults.specs.Places.{located_view, place_view};
+ghost use Rattle.mls_start_faults.specs.Repeated.{count_of, is_repeated, place_where, file_place, name_place};
+ghost use Rattle.mls_start_faults.specs.Repeated.{member_place};
+ghost use Rattle.mls_start_faults.specs.Repeated.{scheme_places, row_places, list_places, scheme_part, list_part};
+ghost use Rattle.mls_start_faults.specs.Repeated.{schemes_part, known_part, cells_part, lists_part, repeated_found};
 
 use crate::place::Place;
+use crate::place_row::PlaceRow;
 use crate::writing::push_place;
-use json::{Error, Scratch, Value};
+use json::Value;
 use std::alloc::{AllocError, Global};
 
 /// What the objects in a list of the file tell of.
@@ -52,214 +52,221 @@ fn is_repeated(value: &Value<'_>, key: &str) -> bool
     }
 }
 
-/// Appends the line of a place, where something is so.
-fn push_where(text: &mut String, so: bool, place: Place<'_>) -> Result<(), AllocError>
+/// Adds a place, where something is so.
+fn push_where(found: &mut Vec<PlaceRow>, so: bool, place: Place<'_>) -> Result<(), AllocError>
     ensures { OnOk result
-        (string_bytes text.new ≡ string_bytes text.old ++ line_where so (place_view place.entry)) }
+        (map located_view found.new.items
+        ≡ map located_view found.old.items ++ place_where so (place_view place.entry)) }
 {
-    if so { push_place(text, place) } else { Ok(()) }
+    if so { push_place(found, place) } else { Ok(()) }
 }
 
-/// Appends the line of a member of the file, where it is repeated.
-fn push_file(text: &mut String, file: &Value<'_>, key: &str) -> Result<(), AllocError>
+/// Adds the place of a member of the file, where it is repeated.
+fn push_file(found: &mut Vec<PlaceRow>, file: &Value<'_>, key: &str) -> Result<(), AllocError>
     ensures { OnOk result
-        (string_bytes text.new ≡ string_bytes text.old ++ file_line (value_view file.now) key.now) }
+        (map located_view found.new.items
+        ≡ map located_view found.old.items ++ file_place (value_view file.now) key.now) }
 {
-    push_where(text, is_repeated(file, key), Place::list(key, REPEATED))
+    push_where(found, is_repeated(file, key), Place::list(key, REPEATED))
 }
 
-/// Appends the line of a member of a scheme, where it is repeated.
+/// Adds the place of a member of a scheme, where it is repeated.
 fn push_name(
-    text: &mut String,
+    found: &mut Vec<PlaceRow>,
     scheme: &str,
     value: &Value<'_>,
     key: &str,
 ) -> Result<(), AllocError>
     ensures { OnOk result
-        (string_bytes text.new ≡ string_bytes text.old ++ name_line scheme.now (value_view value.now) key.now) }
+        (map located_view found.new.items
+        ≡ map located_view found.old.items ++ name_place scheme.now (value_view value.now) key.now) }
 {
     push_where(
-        text,
+        found,
         is_repeated(value, key),
         Place::names(scheme, key, REPEATED),
     )
 }
 
-/// Appends the line of a member of an object in a list, where it is repeated.
+/// Adds the place of a member of an object in a list, where it is repeated.
 fn push_member(
-    text: &mut String,
+    found: &mut Vec<PlaceRow>,
     list: &str,
     n: usize,
     value: &Value<'_>,
     key: &str,
 ) -> Result<(), AllocError>
     ensures { OnOk result
-        (string_bytes text.new
-        ≡ string_bytes text.old ++ member_line list.now n (value_view value.now) key.now) }
+        (map located_view found.new.items
+        ≡ map located_view found.old.items ++ member_place list.now n (value_view value.now) key.now) }
 {
     push_where(
-        text,
+        found,
         is_repeated(value, key),
         Place::member(list, n, key, REPEATED),
     )
 }
 
-/// Appends the lines within a scheme.
-fn push_scheme(text: &mut String, scheme: &str, value: &Value<'_>) -> Result<(), AllocError>
+/// Adds the places within a scheme.
+fn push_scheme(found: &mut Vec<PlaceRow>, scheme: &str, value: &Value<'_>) -> Result<(), AllocError>
     ensures { OnOk result
-        (string_bytes text.new ≡ string_bytes text.old ++ scheme_lines scheme.now (Some (value_view value.now))) }
+        (map located_view found.new.items
+        ≡ map located_view found.old.items ++ scheme_places scheme.now (Some (value_view value.now))) }
 {
-    push_name(text, scheme, value, "levels")?;
-    push_name(text, scheme, value, "categories")
+    push_name(found, scheme, value, "levels")?;
+    push_name(found, scheme, value, "categories")
 }
 
-/// Appends the lines of an object in a list.
+/// Adds the places of an object in a list.
 fn push_row(
-    text: &mut String,
+    found: &mut Vec<PlaceRow>,
     kept: Kept,
     list: &str,
     n: usize,
     value: &Value<'_>,
 ) -> Result<(), AllocError>
     ensures { OnOk result
-        (string_bytes text.new ≡ string_bytes text.old ++ row_lines kept list.now n (value_view value.now)) }
+        (map located_view found.new.items
+        ≡ map located_view found.old.items ++ row_places kept list.now n (value_view value.now)) }
 {
     match kept {
         Kept::Subject => {
-            push_member(text, list, n, value, "name")?;
-            push_member(text, list, n, value, "maximum")?;
-            push_member(text, list, n, value, "current")?;
-            push_member(text, list, n, value, "integrity")?;
-            push_member(text, list, n, value, "trusted")
+            push_member(found, list, n, value, "name")?;
+            push_member(found, list, n, value, "maximum")?;
+            push_member(found, list, n, value, "current")?;
+            push_member(found, list, n, value, "integrity")?;
+            push_member(found, list, n, value, "trusted")
         }
         Kept::Object => {
-            push_member(text, list, n, value, "name")?;
-            push_member(text, list, n, value, "parent")?;
-            push_member(text, list, n, value, "security")?;
-            push_member(text, list, n, value, "integrity")
+            push_member(found, list, n, value, "name")?;
+            push_member(found, list, n, value, "parent")?;
+            push_member(found, list, n, value, "security")?;
+            push_member(found, list, n, value, "integrity")
         }
         Kept::Cell => {
-            push_member(text, list, n, value, "subject")?;
-            push_member(text, list, n, value, "object")?;
-            push_member(text, list, n, value, "modes")
+            push_member(found, list, n, value, "subject")?;
+            push_member(found, list, n, value, "object")?;
+            push_member(found, list, n, value, "modes")
         }
     }
 }
 
-/// Appends the lines of the objects in a list.
+/// Adds the places of the objects in a list.
 fn push_rows(
-    text: &mut String,
+    found: &mut Vec<PlaceRow>,
     kept: Kept,
     list: &str,
     rows: &[Value<'_>],
 ) -> Result<(), AllocError>
     ensures { OnOk result
-        (string_bytes text.new
-        ≡ string_bytes text.old ++ at_each (row_lines kept list.now) 0 (map value_view rows.now)) }
+        (map located_view found.new.items
+        ≡ map located_view found.old.items ++ at_each (row_places kept list.now) 0 (map value_view rows.now)) }
 {
     for n in 0..rows.len() {
-        push_row(text, kept, list, n, &rows[n])?;
+        push_row(found, kept, list, n, &rows[n])?;
     }
     Ok(())
 }
 
-/// Appends the lines of a scheme that is a member of the file, and of its members.
-fn push_scheme_part(text: &mut String, file: &Value<'_>, key: &str) -> Result<(), AllocError>
+/// Adds the places of a scheme that is a member of the file, and of its members.
+fn push_scheme_part(
+    found: &mut Vec<PlaceRow>,
+    file: &Value<'_>,
+    key: &str,
+) -> Result<(), AllocError>
     ensures { OnOk result
-        (string_bytes text.new ≡ string_bytes text.old ++ scheme_part (value_view file.now) key.now) }
+        (map located_view found.new.items
+        ≡ map located_view found.old.items ++ scheme_part (value_view file.now) key.now) }
 {
-    push_file(text, file, key)?;
+    push_file(found, file, key)?;
     match file.get(key) {
-        Some(value) => push_scheme(text, key, value),
+        Some(value) => push_scheme(found, key, value),
         None => Ok(()),
     }
 }
 
-/// Appends the lines within a value that is to be a list.
-fn push_list(text: &mut String, kept: Kept, list: &str, value: &Value<'_>) -> Result<(), AllocError>
+/// Adds the places within a value that is to be a list.
+fn push_list(
+    found: &mut Vec<PlaceRow>,
+    kept: Kept,
+    list: &str,
+    value: &Value<'_>,
+) -> Result<(), AllocError>
     ensures { OnOk result
-        (string_bytes text.new ≡ string_bytes text.old ++ list_lines kept list.now (Some (value_view value.now))) }
+        (map located_view found.new.items
+        ≡ map located_view found.old.items ++ list_places kept list.now (Some (value_view value.now))) }
 {
     match value {
-        Value::Array(rows) => push_rows(text, kept, list, rows),
+        Value::Array(rows) => push_rows(found, kept, list, rows),
         _ => Ok(()),
     }
 }
 
-/// Appends the lines of a list that is a member of the file, and of the objects in it.
+/// Adds the places of a list that is a member of the file, and of the objects in it.
 fn push_list_part(
-    text: &mut String,
+    found: &mut Vec<PlaceRow>,
     file: &Value<'_>,
     kept: Kept,
     key: &str,
 ) -> Result<(), AllocError>
     ensures { OnOk result
-        (string_bytes text.new ≡ string_bytes text.old ++ list_part (value_view file.now) kept key.now) }
+        (map located_view found.new.items
+        ≡ map located_view found.old.items ++ list_part (value_view file.now) kept key.now) }
 {
-    push_file(text, file, key)?;
+    push_file(found, file, key)?;
     match file.get(key) {
-        Some(value) => push_list(text, kept, key, value),
+        Some(value) => push_list(found, kept, key, value),
         None => Ok(()),
     }
 }
 
-/// Appends the lines of the schemes of a file.
-fn push_schemes(text: &mut String, file: &Value<'_>) -> Result<(), AllocError>
-    ensures { OnOk result (string_bytes text.new ≡ string_bytes text.old ++ schemes_part (value_view file.now)) }
+/// Adds the places of the schemes of a file.
+fn push_schemes(found: &mut Vec<PlaceRow>, file: &Value<'_>) -> Result<(), AllocError>
+    ensures { OnOk result
+        (map located_view found.new.items
+        ≡ map located_view found.old.items ++ schemes_part (value_view file.now)) }
 {
-    push_scheme_part(text, file, "security")?;
-    push_scheme_part(text, file, "integrity")
+    push_scheme_part(found, file, "security")?;
+    push_scheme_part(found, file, "integrity")
 }
 
-/// Appends the lines of the subjects and the objects of a file.
-fn push_known(text: &mut String, file: &Value<'_>) -> Result<(), AllocError>
-    ensures { OnOk result (string_bytes text.new ≡ string_bytes text.old ++ known_part (value_view file.now)) }
+/// Adds the places of the subjects and the objects of a file.
+fn push_known(found: &mut Vec<PlaceRow>, file: &Value<'_>) -> Result<(), AllocError>
+    ensures { OnOk result
+        (map located_view found.new.items
+        ≡ map located_view found.old.items ++ known_part (value_view file.now)) }
 {
-    push_list_part(text, file, Kept::Subject, "subjects")?;
-    push_list_part(text, file, Kept::Object, "objects")
+    push_list_part(found, file, Kept::Subject, "subjects")?;
+    push_list_part(found, file, Kept::Object, "objects")
 }
 
-/// Appends the lines of the matrix and the accesses of a file.
-fn push_cells(text: &mut String, file: &Value<'_>) -> Result<(), AllocError>
-    ensures { OnOk result (string_bytes text.new ≡ string_bytes text.old ++ cells_part (value_view file.now)) }
+/// Adds the places of the matrix and the accesses of a file.
+fn push_cells(found: &mut Vec<PlaceRow>, file: &Value<'_>) -> Result<(), AllocError>
+    ensures { OnOk result
+        (map located_view found.new.items
+        ≡ map located_view found.old.items ++ cells_part (value_view file.now)) }
 {
-    push_list_part(text, file, Kept::Cell, "matrix")?;
-    push_list_part(text, file, Kept::Cell, "accesses")
+    push_list_part(found, file, Kept::Cell, "matrix")?;
+    push_list_part(found, file, Kept::Cell, "accesses")
 }
 
-/// Appends the lines of the lists of a file.
-fn push_lists(text: &mut String, file: &Value<'_>) -> Result<(), AllocError>
-    ensures { OnOk result (string_bytes text.new ≡ string_bytes text.old ++ lists_part (value_view file.now)) }
+/// Adds the places of the lists of a file.
+fn push_lists(found: &mut Vec<PlaceRow>, file: &Value<'_>) -> Result<(), AllocError>
+    ensures { OnOk result
+        (map located_view found.new.items
+        ≡ map located_view found.old.items ++ lists_part (value_view file.now)) }
 {
-    push_known(text, file)?;
-    push_cells(text, file)
+    push_known(found, file)?;
+    push_cells(found, file)
 }
 
-/// The lines of a file.
-fn file_text(alloc: Global, file: &Value<'_>) -> Result<String, AllocError>
-    ensures { IfOk result (λ text. string_bytes text ≡ repeated_text (value_view file.now)) }
+/// The places of a file.
+pub(crate) fn file_found(alloc: Global, file: &Value<'_>) -> Result<Vec<PlaceRow>, AllocError>
+    ensures { IfOk result (λ found. map located_view found.items ≡ repeated_found (value_view file.now)) }
 {
-    let mut text = String::new(alloc);
-    push_schemes(&mut text, file)?;
-    push_lists(&mut text, file)?;
-    push_file(&mut text, file, "profile")?;
-    Ok(text)
-}
-
-/// The members that an object of a start file has more than once, a line each: a JSON pointer, a colon, a space and
-/// `repeated member`, in the file's order. Of each the last counts; what stands within the others isn't looked at.
-/// Bytes that aren't JSON have no line.
-///
-/// # Errors
-/// `AllocError` where an allocation failed.
-pub fn repeated_members(alloc: Global, bytes: &[u8]) -> Result<String, AllocError>
-    ensures { IfOk result (λ text. (j : Json) → IsUtf8 bytes.now → document bytes.now ≡ Some j
-        → string_bytes text ≡ repeated_text j) }
-{
-    let mut scratch = Scratch::new(alloc);
-    match Value::from_slice(alloc, bytes, &mut scratch) {
-        Ok(file) => file_text(alloc, &file),
-        Err(Error::OutOfMemory) => Err(AllocError),
-        Err(_) => Ok(String::new(alloc)),
-    }
+    let mut found = Vec::new(alloc);
+    push_schemes(&mut found, file)?;
+    push_lists(&mut found, file)?;
+    push_file(&mut found, file, "profile")?;
+    Ok(found)
 }

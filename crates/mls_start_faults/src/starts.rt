@@ -1,36 +1,41 @@
 //! Where the start that a file says is refused.
-ghost use Rattle.std.specs.Prelude.{◌≡◌, ◌++◌, [], nat_lt, string_bytes, slice_get, Some, if◌then◌else◌, OnOk, IfOk};
+ghost use Rattle.std.specs.Prelude.{◌≡◌, ◌++◌, [], nat_lt, slice_get, Some, if◌then◌else◌, OnOk, IfOk, map};
 ghost use Rattle.mls_facts.specs.Numbered.{holds_of};
 ghost use Rattle.mls_labels.specs.Label.{dominates};
 ghost use Rattle.mls_start_text.specs.Labelling.{labels_of};
 ghost use Rattle.mls_start_text.specs.LabelViews.{labels_view};
 ghost use Rattle.mls_start_text.specs.Naming.{names_of};
 ghost use Rattle.mls_start_text.specs.Views.{file_view};
-ghost use Rattle.mls_start_faults.specs.Starts.{parent_of, is_in_cycle, before_words, before_line, before_lines};
-ghost use Rattle.mls_start_faults.specs.Starts.{current_line, current_lines, object_labels};
-ghost use Rattle.mls_start_faults.specs.Starts.{parent_labels, security_line, security_lines, integrity_line};
-ghost use Rattle.mls_start_faults.specs.Starts.{integrity_lines, labelled_lines, by_labels, start_text};
-ghost use Rattle.mls_start_faults.specs.Places.{line, on_list, place_view};
+ghost use Rattle.mls_start_faults.specs.Starts.{parent_of, is_in_cycle, before_words, before_place, before_places};
+ghost use Rattle.mls_start_faults.specs.Starts.{current_place, current_places, object_labels};
+ghost use Rattle.mls_start_faults.specs.Starts.{parent_labels, security_place, security_places, integrity_place};
+ghost use Rattle.mls_start_faults.specs.Starts.{integrity_places, labelled_places, by_labels, start_found};
+ghost use Rattle.mls_start_faults.specs.Places.{located_view, located, on_list, place_view};
 
-use crate::accesses::accesses_text;
+use crate::accesses::accesses_found;
 use crate::labels::known_names;
 use crate::place::Place;
+use crate::place_row::PlaceRow;
 use crate::writing::push_place;
 use mls_start::StartFault;
 use mls_start_text::{FileLabels, FileText, LabelledChild};
 use mls_state::{ObjectLabels, Subject};
 use std::alloc::{AllocError, Global};
 
-/// Appends the line of a place where something isn't as it is to be.
-fn push_unless(text: &mut String, is_right: bool, place: Place<'_>) -> Result<(), AllocError>
+/// Adds the place of a place where something isn't as it is to be.
+fn push_unless(
+    found: &mut Vec<PlaceRow>,
+    is_right: bool,
+    place: Place<'_>,
+) -> Result<(), AllocError>
     ensures { OnOk result
-        (string_bytes text.new
-        ≡ string_bytes text.old ++ (if is_right then [] else line (place_view place.entry))) }
+        (map located_view found.new.items
+        ≡ map located_view found.old.items ++ (if is_right then [] else located (place_view place.entry))) }
 {
     if is_right {
         Ok(())
     } else {
-        push_place(text, place)
+        push_place(found, place)
     }
 }
 
@@ -85,51 +90,55 @@ fn before_words(is_in_cycle: bool) -> &'static str
     }
 }
 
-/// Appends the line of an object that doesn't stand behind its parent.
+/// Adds the place of an object that doesn't stand behind its parent.
 fn push_parent(
-    text: &mut String,
+    found: &mut Vec<PlaceRow>,
     labels: &FileLabels,
     n: usize,
     child: &LabelledChild,
 ) -> Result<(), AllocError>
     ensures { OnOk result
-        (string_bytes text.new
-        ≡ string_bytes text.old ++ before_line (labels_view labels.now).children n child.now) }
+        (map located_view found.new.items
+        ≡ map located_view found.old.items ++ before_place (labels_view labels.now).children n child.now) }
 {
     if is_before(child.parent, n) {
         return Ok(());
     }
     let words = before_words(is_in_cycle(labels, n));
-    push_place(text, Place::member("objects", n, "parent", words))
+    push_place(found, Place::member("objects", n, "parent", words))
 }
 
-/// Appends the lines of objects that don't stand behind their parents.
-fn push_before(text: &mut String, labels: &FileLabels) -> Result<(), AllocError>
+/// Adds the places of objects that don't stand behind their parents.
+fn push_before(found: &mut Vec<PlaceRow>, labels: &FileLabels) -> Result<(), AllocError>
     ensures { OnOk result
-        (string_bytes text.new ≡ string_bytes text.old ++ before_lines (labels_view labels.now)) }
+        (map located_view found.new.items
+        ≡ map located_view found.old.items ++ before_places (labels_view labels.now)) }
 {
     for (n, child) in labels.children.iter().enumerate() {
-        push_parent(text, labels, n + 1, child)?;
+        push_parent(found, labels, n + 1, child)?;
     }
     Ok(())
 }
 
-/// Appends the line of a subject whose maximum label doesn't dominate its current label.
-fn push_subject(text: &mut String, n: usize, subject: &Subject) -> Result<(), AllocError>
-    ensures { OnOk result (string_bytes text.new ≡ string_bytes text.old ++ current_line n subject.now) }
+/// Adds the place of a subject whose maximum label doesn't dominate its current label.
+fn push_subject(found: &mut Vec<PlaceRow>, n: usize, subject: &Subject) -> Result<(), AllocError>
+    ensures { OnOk result
+        (map located_view found.new.items
+        ≡ map located_view found.old.items ++ current_place n subject.now) }
 {
     let words = "maximum does not dominate it";
     let place = Place::member("subjects", n, "current", words);
-    push_unless(text, subject.maximum.dominates(&subject.current), place)
+    push_unless(found, subject.maximum.dominates(&subject.current), place)
 }
 
-/// Appends the lines of subjects whose maximum label doesn't dominate their current label.
-fn push_current(text: &mut String, labels: &FileLabels) -> Result<(), AllocError>
+/// Adds the places of subjects whose maximum label doesn't dominate their current label.
+fn push_current(found: &mut Vec<PlaceRow>, labels: &FileLabels) -> Result<(), AllocError>
     ensures { OnOk result
-        (string_bytes text.new ≡ string_bytes text.old ++ current_lines (labels_view labels.now)) }
+        (map located_view found.new.items
+        ≡ map located_view found.old.items ++ current_places (labels_view labels.now)) }
 {
     for (n, subject) in labels.subjects.iter().enumerate() {
-        push_subject(text, n, subject)?;
+        push_subject(found, n, subject)?;
     }
     Ok(())
 }
@@ -174,74 +183,77 @@ fn is_trustworthy(labels: &FileLabels, child: &LabelledChild) -> bool
     }
 }
 
-/// Appends the line of an object whose security label doesn't dominate its parent's.
+/// Adds the place of an object whose security label doesn't dominate its parent's.
 fn push_incompatible(
-    text: &mut String,
+    found: &mut Vec<PlaceRow>,
     labels: &FileLabels,
     n: usize,
     child: &LabelledChild,
 ) -> Result<(), AllocError>
     ensures { OnOk result
-        (string_bytes text.new
-        ≡ string_bytes text.old ++ security_line (object_labels (labels_view labels.now)) n child.now) }
+        (map located_view found.new.items
+        ≡ map located_view found.old.items ++ security_place (object_labels (labels_view labels.now)) n child.now) }
 {
     let words = "does not dominate the parent's";
     let place = Place::member("objects", n, "security", words);
-    push_unless(text, is_compatible(labels, child), place)
+    push_unless(found, is_compatible(labels, child), place)
 }
 
-/// Appends the line of an object whose integrity label its parent's doesn't dominate.
+/// Adds the place of an object whose integrity label its parent's doesn't dominate.
 fn push_untrustworthy(
-    text: &mut String,
+    found: &mut Vec<PlaceRow>,
     labels: &FileLabels,
     n: usize,
     child: &LabelledChild,
 ) -> Result<(), AllocError>
     ensures { OnOk result
-        (string_bytes text.new
-        ≡ string_bytes text.old ++ integrity_line (object_labels (labels_view labels.now)) n child.now) }
+        (map located_view found.new.items
+        ≡ map located_view found.old.items ++ integrity_place (object_labels (labels_view labels.now)) n child.now) }
 {
     let words = "the parent's does not dominate it";
     let place = Place::member("objects", n, "integrity", words);
-    push_unless(text, is_trustworthy(labels, child), place)
+    push_unless(found, is_trustworthy(labels, child), place)
 }
 
-/// Appends the lines of objects whose security label doesn't dominate their parent's.
-fn push_security(text: &mut String, labels: &FileLabels) -> Result<(), AllocError>
+/// Adds the places of objects whose security label doesn't dominate their parent's.
+fn push_security(found: &mut Vec<PlaceRow>, labels: &FileLabels) -> Result<(), AllocError>
     ensures { OnOk result
-        (string_bytes text.new ≡ string_bytes text.old ++ security_lines (labels_view labels.now)) }
+        (map located_view found.new.items
+        ≡ map located_view found.old.items ++ security_places (labels_view labels.now)) }
 {
     for (n, child) in labels.children.iter().enumerate() {
-        push_incompatible(text, labels, n + 1, child)?;
+        push_incompatible(found, labels, n + 1, child)?;
     }
     Ok(())
 }
 
-/// Appends the lines of objects whose integrity label their parent's doesn't dominate.
-fn push_integrity(text: &mut String, labels: &FileLabels) -> Result<(), AllocError>
+/// Adds the places of objects whose integrity label their parent's doesn't dominate.
+fn push_integrity(found: &mut Vec<PlaceRow>, labels: &FileLabels) -> Result<(), AllocError>
     ensures { OnOk result
-        (string_bytes text.new ≡ string_bytes text.old ++ integrity_lines (labels_view labels.now)) }
+        (map located_view found.new.items
+        ≡ map located_view found.old.items ++ integrity_places (labels_view labels.now)) }
 {
     for (n, child) in labels.children.iter().enumerate() {
-        push_untrustworthy(text, labels, n + 1, child)?;
+        push_untrustworthy(found, labels, n + 1, child)?;
     }
     Ok(())
 }
 
-/// Appends the lines of a file by its labels, for a fault that speaks of these and of parents.
+/// Adds the places of a file by its labels, for a fault that speaks of these and of parents.
 fn push_labelled(
-    text: &mut String,
+    found: &mut Vec<PlaceRow>,
     fault: StartFault,
     labels: &FileLabels,
 ) -> Result<(), AllocError>
     ensures { OnOk result
-        (string_bytes text.new ≡ string_bytes text.old ++ labelled_lines fault (labels_view labels.now)) }
+        (map located_view found.new.items
+        ≡ map located_view found.old.items ++ labelled_places fault (labels_view labels.now)) }
 {
     match fault {
-        StartFault::BadParent => push_before(text, labels),
-        StartFault::CurrentAboveMaximum => push_current(text, labels),
-        StartFault::NotCompatible => push_security(text, labels),
-        StartFault::IntegrityAboveParent => push_integrity(text, labels),
+        StartFault::BadParent => push_before(found, labels),
+        StartFault::CurrentAboveMaximum => push_current(found, labels),
+        StartFault::NotCompatible => push_security(found, labels),
+        StartFault::IntegrityAboveParent => push_integrity(found, labels),
         StartFault::NoSubjects
         | StartFault::TooManySubjects
         | StartFault::TooManyObjects
@@ -265,45 +277,45 @@ fn known_labels(alloc: Global, file: &FileText<'_>) -> Result<FileLabels, AllocE
     labels.map_err(|_| AllocError)
 }
 
-/// The lines of a file by its labels, for a fault that speaks of these and of parents.
-fn labelled_text(
+/// The places of a file by its labels, for a fault that speaks of these and of parents.
+fn labelled_found(
     alloc: Global,
     fault: StartFault,
     file: &FileText<'_>,
-) -> Result<String, AllocError>
+) -> Result<Vec<PlaceRow>, AllocError>
     ensures { IfOk result
-        (λ text. string_bytes text ≡ by_labels (labelled_lines fault) (file_view file.now)) }
+        (λ found. map located_view found.items ≡ by_labels (labelled_places fault) (file_view file.now)) }
 {
     let labels = known_labels(alloc, file)?;
-    let mut text = String::new(alloc);
-    let pushed = push_labelled(&mut text, fault, &labels);
+    let mut found = Vec::new(alloc);
+    let pushed = push_labelled(&mut found, fault, &labels);
     drop(labels);
     pushed?;
-    Ok(text)
+    Ok(found)
 }
 
-/// The line of a member of the file.
-fn list_text(alloc: Global, list: &str, words: &'static str) -> Result<String, AllocError>
-    ensures { IfOk result (λ text. string_bytes text ≡ line (on_list list.now words.now)) }
+/// The place of a member of the file.
+fn list_found(alloc: Global, list: &str, words: &'static str) -> Result<Vec<PlaceRow>, AllocError>
+    ensures { IfOk result (λ found. map located_view found.items ≡ located (on_list list.now words.now)) }
 {
-    let mut text = String::new(alloc);
-    push_place(&mut text, Place::list(list, words))?;
-    Ok(text)
+    let mut found = Vec::new(alloc);
+    push_place(&mut found, Place::list(list, words))?;
+    Ok(found)
 }
 
-/// The lines of a file for a fault that starts have.
-pub(crate) fn start_text(
+/// The places of a file for a fault that starts have.
+pub(crate) fn start_found(
     alloc: Global,
     fault: StartFault,
     file: FileText<'_>,
-) -> Result<String, AllocError>
-    ensures { IfOk result (λ text. string_bytes text ≡ start_text fault (file_view file.entry)) }
+) -> Result<Vec<PlaceRow>, AllocError>
+    ensures { IfOk result (λ found. map located_view found.items ≡ start_found fault (file_view file.entry)) }
 {
     match fault {
-        StartFault::NoSubjects => list_text(alloc, "subjects", "no subject"),
-        StartFault::TooManySubjects => list_text(alloc, "subjects", "more than 256"),
-        StartFault::TooManyObjects => list_text(alloc, "objects", "more than 4096"),
-        StartFault::NotSecure => accesses_text(alloc, file),
-        fault => labelled_text(alloc, fault, &file),
+        StartFault::NoSubjects => list_found(alloc, "subjects", "no subject"),
+        StartFault::TooManySubjects => list_found(alloc, "subjects", "more than 256"),
+        StartFault::TooManyObjects => list_found(alloc, "objects", "more than 4096"),
+        StartFault::NotSecure => accesses_found(alloc, file),
+        fault => labelled_found(alloc, fault, &file),
     }
 }

@@ -1,12 +1,13 @@
-//! What is written of a place: a JSON pointer, and words.
-ghost use Rattle.std.specs.Prelude.{◌≡◌, ◌<◌, ◌++◌, ◌∷◌, string_bytes, OnOk};
+//! The JSON pointer to a place.
+ghost use Rattle.std.specs.Prelude.{◌≡◌, ◌<◌, ◌++◌, ◌∷◌, map, string_bytes, IfOk, OnOk};
 ghost use Rattle.std.specs.List.{flat_map};
-ghost use Rattle.mls_start_faults.specs.Places.{key, number, byte_text, hex_digit, hex_text, step_text, line};
-ghost use Rattle.mls_start_faults.specs.Places.{key_steps, number_steps, place_view, is_plain};
+ghost use Rattle.mls_start_faults.specs.Places.{key, number, byte_text, hex_digit, hex_text, step_text, pointer};
+ghost use Rattle.mls_start_faults.specs.Places.{key_steps, number_steps, place_view, is_plain, located, located_view};
 
 use crate::place::Place;
+use crate::place_row::{PlaceRow, push_row};
 use mls_wording::push_number;
-use std::alloc::AllocError;
+use std::alloc::{AllocError, Global};
 
 /// A hexadecimal digit.
 fn hex_digit(number: u8) -> char
@@ -93,15 +94,32 @@ fn push_some_item(text: &mut String, item: Option<usize>) -> Result<(), AllocErr
     }
 }
 
-/// Appends the line of a place.
-pub(crate) fn push_place(text: &mut String, place: Place<'_>) -> Result<(), AllocError>
-    ensures { OnOk result (string_bytes text.new ≡ string_bytes text.old ++ line (place_view place.entry)) }
+/// Appends the pointer to a place.
+fn push_pointer(text: &mut String, place: Place<'_>) -> Result<(), AllocError>
+    ensures { OnOk result
+        (string_bytes text.new ≡ string_bytes text.old ++ pointer (place_view place.entry).0) }
 {
     push_key(text, place.list)?;
     push_some_item(text, place.row)?;
     push_some_key(text, place.spot.member)?;
-    push_some_item(text, place.spot.item)?;
-    text.push_str(": ")?;
-    text.push_str(place.spot.words)?;
-    text.push_str("\n")
+    push_some_item(text, place.spot.item)
+}
+
+/// The pointer to a place.
+fn pointer_to(alloc: Global, place: Place<'_>) -> Result<String, AllocError>
+    ensures { IfOk result (λ text. string_bytes text ≡ pointer (place_view place.entry).0) }
+{
+    let mut text = String::new(alloc);
+    push_pointer(&mut text, place)?;
+    Ok(text)
+}
+
+/// Adds a place.
+pub(crate) fn push_place(found: &mut Vec<PlaceRow>, place: Place<'_>) -> Result<(), AllocError>
+    ensures { OnOk result (map located_view found.new.items
+        ≡ map located_view found.old.items ++ located (place_view place.entry)) }
+{
+    let words = place.spot.words;
+    let pointer = pointer_to(*found.allocator(), place)?;
+    push_row(found, pointer, words)
 }

@@ -74,23 +74,3 @@ pub(crate) static VERIFY: [Form; 4] = [
         ],
     },
 ];
-
-/// Of `ask`.
-pub(crate) static ASK: [Form; 3] = [
-    Form {
-        place: Place::Object,
-        parts: &[Part::Word("held"), Part::Says("held", Fixed::True)],
-    },
-    Form {
-        place: Place::Object,
-        parts: &[
-            Part::Word("not"),
-            Part::Word("held"),
-            Part::Says("held", Fixed::False),
-        ],
-    },
-    Form {
-        place: Place::Object,
-        parts: &[Part::Reply],
-    },
-];

@@ -1,8 +1,9 @@
-use Rattle.std.proofs.Common.{◌++◌, ◌∙◌, ap, string_bytes, ◌+◌, arith}
+use Rattle.std.proofs.Common.{◌++◌, ◌∙◌, ap, ◌+◌, arith, map}
 use Rattle.mls_start_faults.proofs.Each.{one_more}
-use Rattle.mls_start_faults.specs.Starts.{before_line}
+use Rattle.mls_start_faults.specs.Starts.{before_place}
+use Rattle.mls_start_faults.specs.Places.{located_view}
 use Rattle.mls_start_faults.proofs.starts.push_before.Goals as goal
 
 pub loop-n-preserved : goal.loop-n-preserved
 loop-n-preserved c =
-    one_more (before_line c.args.labels.now.children.items) 1 c.deref-child-items.result.now c.loop-n.n c.child-item.result (c.loop-n.n + 1) _ _ _ c.loop-n-test.true (omega arith) c.loop-n.invariant (c.in_ok-push_parent.ensures ∙ ap (λ x. string_bytes c.loop-n.text ++ before_line c.args.labels.now.children.items (c.loop-n.n + 1) x) c.child-item.is)
+    one_more (before_place c.args.labels.now.children.items) 1 c.deref-child-items.result.now c.loop-n.n c.child-item.result (c.loop-n.n + 1) _ _ _ c.loop-n-test.true (omega arith) c.loop-n.invariant (c.in_ok-push_parent.ensures ∙ ap (λ x. map located_view c.loop-n.found.items ++ before_place c.args.labels.now.children.items (c.loop-n.n + 1) x) c.child-item.is)

@@ -1,0 +1,4 @@
+use Rattle.mls_review.proofs.change_members.write_power.Goals as goal
+
+pub returns : goal.returns
+returns c = c.write_text.ensures

@@ -1,8 +1,0 @@
-use Rattle.std.proofs.Common.{◌≡◌, ◌++◌, take, string_bytes}
-use Rattle.std.specs.List.{flat_map}
-use Rattle.mls_review.specs.Powers.{power_line}
-use Rattle.mls_review.proofs.power.Power.push_lines.Given as goal
-
--- what was looked at is written
-abbrev pub invariant-loop-o : goal.invariant-loop-o
-invariant-loop-o g l = string_bytes l.text ≡ string_bytes l.fn.text ++ flat_map (power_line l.names l.state l.s l.self) (take l.o-index l.objects)

@@ -1,0 +1,4 @@
+use Rattle.mls_start_faults.proofs.refused_json.write_whole.Goals as goal
+
+pub returns : goal.returns
+returns c = c.write_pointer.ensures
