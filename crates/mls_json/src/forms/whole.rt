@@ -1,6 +1,6 @@
 //! Lines that are told by one object.
 use crate::form::{Form, Place};
-use crate::part::{Fixed, Kind, Mark, Part};
+use crate::part::{Kind, Mark, Part};
 
 /// Of `check`.
 pub(crate) static CHECK: [Form; 5] = [
