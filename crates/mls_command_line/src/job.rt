@@ -1,8 +1,8 @@
 //! What a command line asks for.
 
 use crate::question::Question;
-use mls_json::Lines;
 use mls_marks::Digest;
+use mls_terminal::Objects;
 
 /// What a run of scripts is asked for.
 #[derive(Drop)]
@@ -77,6 +77,6 @@ pub enum Job<'a> {
 #[derive(Drop)]
 pub struct Asked<'a> {
     pub job: Job<'a>,
-    /// The lines that are printed as JSON objects, where this is asked for.
-    pub lines: Option<Lines>,
+    /// Which JSON objects are printed, where they are asked for.
+    pub objects: Option<Objects>,
 }

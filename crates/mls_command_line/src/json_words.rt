@@ -3,6 +3,7 @@ use crate::argument::{Argument, Kind};
 use crate::command_rows::CommandName;
 use clap::ArgMatches;
 use mls_json::Lines;
+use mls_terminal::Objects;
 
 /// The option, with an object for each line.
 const EACH: Argument = Argument {
@@ -25,7 +26,7 @@ const ONE: Argument = Argument {
     help: "Prints one JSON object, in a line",
 };
 
-/// Which lines a command prints, where they may be asked for as JSON objects.
+/// Which lines tell a command's JSON objects, where lines do.
 fn lines_of(command: CommandName) -> Option<Lines> {
     match command {
         CommandName::Check => Some(Lines::Check),
@@ -37,31 +38,36 @@ fn lines_of(command: CommandName) -> Option<Lines> {
         CommandName::About => Some(Lines::About),
         CommandName::Lint => Some(Lines::Lint),
         CommandName::State => Some(Lines::State),
-        CommandName::Held => Some(Lines::Held),
-        CommandName::Usage => Some(Lines::Usage),
-        CommandName::Compare => Some(Lines::Compare),
         _ => None,
+    }
+}
+
+/// Which JSON objects a command prints, where they may be asked for.
+fn objects_of(command: CommandName) -> Option<Objects> {
+    match command {
+        CommandName::Held | CommandName::Usage | CommandName::Compare => Some(Objects::Rows),
+        _ => Some(Objects::Lines(lines_of(command)?)),
     }
 }
 
 /// The option of a command, but of `journal`, whose entries have their own objects.
 pub(crate) fn json_argument(command: CommandName) -> Option<Argument> {
-    match lines_of(command)? {
-        Lines::State => Some(STATE),
-        lines if lines.is_whole() => Some(ONE),
+    match objects_of(command)? {
+        Objects::Lines(Lines::State) => Some(STATE),
+        Objects::Lines(lines) if lines.is_whole() => Some(ONE),
         _ => Some(EACH),
     }
 }
 
-/// The lines that are asked for as JSON objects.
-pub(crate) fn asked_lines(command: CommandName, matches: &ArgMatches<'_>) -> Option<Lines> {
-    let lines = match command {
-        CommandName::Journal if matches.get_flag("summary") => Lines::Summary,
-        CommandName::Who if matches.get_flag("ever") => Lines::Ever,
-        _ => lines_of(command)?,
+/// The JSON objects that are asked for.
+pub(crate) fn asked_objects(command: CommandName, matches: &ArgMatches<'_>) -> Option<Objects> {
+    let objects = match command {
+        CommandName::Journal if matches.get_flag("summary") => Objects::Lines(Lines::Summary),
+        CommandName::Who if matches.get_flag("ever") => Objects::Rows,
+        _ => objects_of(command)?,
     };
     if matches.get_flag("json") {
-        Some(lines)
+        Some(objects)
     } else {
         None
     }

@@ -4,9 +4,7 @@ use Rattle.std.specs.List.{flat_map}
 use Rattle.std.proofs.lemmas.Grind.{flat_map-append}
 use Rattle.std.proofs.lemmas.List.{map_more}
 use Rattle.mls_json.specs.Objects.{line_object}
-use Rattle.mls_json.specs.Spans.{ever_object}
 use Rattle.mls_json.specs.declared.form.Form.{Form}
-use Rattle.mls_json.specs.declared.part.Part.{Part}
 
 -- with one line more
 more : (f : List ℕ → List ℕ) (lines : List (Bor (List ℕ))) (n : ℕ) (d : Bor (List ℕ)) → n < length lines
@@ -22,8 +20,3 @@ pub lines_more : (forms : List Form) (lines : List (Bor (List ℕ))) (n : ℕ) (
     → flat_map (line_object forms) (map (λ line. line.now) (take (n + 1) lines))
     ≡ flat_map (line_object forms) (map (λ line. line.now) (take n lines)) ++ line_object forms (get_or lines n d).now
 lines_more forms = more (line_object forms)
-
-pub ever_more : (head : List Part) (forms : List Form) (lines : List (Bor (List ℕ))) (n : ℕ) (d : Bor (List ℕ)) → n < length lines
-    → flat_map (ever_object head forms) (map (λ line. line.now) (take (n + 1) lines))
-    ≡ flat_map (ever_object head forms) (map (λ line. line.now) (take n lines)) ++ ever_object head forms (get_or lines n d).now
-ever_more head forms = more (ever_object head forms)

@@ -2,5 +2,4 @@ pub mod Words
 pub mod Adding
 pub mod Telling
 pub mod Objects
-pub mod Spans
 pub mod Tables

@@ -3,7 +3,6 @@ ghost use Rattle.std.specs.Prelude.{◌≡◌, IfOk};
 ghost use Rattle.mls_json.specs.Tables.{table_text};
 
 use crate::each::objects_of_lines;
-use crate::ever::objects_with_spans;
 use crate::table::Table;
 use crate::whole::whole_object;
 use std::alloc::{AllocError, Global};
@@ -19,6 +18,5 @@ pub fn objects(alloc: Global, table: Table, text: &str) -> Result<Vec<u8>, Alloc
     match table {
         Table::Each(forms) => objects_of_lines(alloc, forms, text),
         Table::Whole(forms) => whole_object(alloc, forms, text),
-        Table::Spans(forms) => objects_with_spans(alloc, &forms, text),
     }
 }

@@ -1,19 +1,13 @@
 //! The forms of the lines of each command. The first that a line has tells it.
 mod about;
 mod common;
-mod compared;
 mod explained;
-mod spans;
 mod starts;
 mod subjects;
-mod usages;
 mod whole;
 
 pub(crate) use about::{ABOUT_OBJECT, ABOUT_SUBJECT, ABOUT_WORD};
-pub(crate) use compared::COMPARE;
 pub(crate) use explained::{EXPLAIN, EXPLAIN_LEVEL};
-pub(crate) use spans::{EVER_HEAD, EVER_SPANS, HELD};
 pub(crate) use starts::{LINT, STATE};
 pub(crate) use subjects::{POWERS, WHO};
-pub(crate) use usages::USAGE;
 pub(crate) use whole::{ASK, CHECK, SUMMARY, VERIFY};

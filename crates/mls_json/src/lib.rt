@@ -4,7 +4,6 @@
 mod by_table;
 mod choosing;
 mod each;
-mod ever;
 mod fitting;
 mod form;
 mod forms;
@@ -21,7 +20,6 @@ mod word;
 mod words;
 
 pub use by_table::objects;
-pub use ever::SpanForms;
 pub use form::{Form, Place};
 pub use lines::Lines;
 pub use part::{Fixed, Kind, Mark, Part};

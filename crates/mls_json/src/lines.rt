@@ -1,8 +1,7 @@
 //! Which lines a text has.
-use crate::ever::SpanForms;
 use crate::forms::{
-    ABOUT_OBJECT, ABOUT_SUBJECT, ABOUT_WORD, ASK, CHECK, COMPARE, EVER_HEAD, EVER_SPANS, EXPLAIN,
-    EXPLAIN_LEVEL, HELD, LINT, POWERS, STATE, SUMMARY, USAGE, VERIFY, WHO,
+    ABOUT_OBJECT, ABOUT_SUBJECT, ABOUT_WORD, ASK, CHECK, EXPLAIN, EXPLAIN_LEVEL, LINT, POWERS,
+    STATE, SUMMARY, VERIFY, WHO,
 };
 use crate::table::Table;
 
@@ -14,15 +13,10 @@ pub enum Lines {
     Ask,
     Explain,
     Who,
-    /// Of `who --ever`.
-    Ever,
     Powers,
     About,
     Lint,
     State,
-    Held,
-    Usage,
-    Compare,
     /// Of `journal --summary`.
     Summary,
 }
@@ -65,17 +59,10 @@ impl Lines {
             Lines::Ask => Table::Whole(&ASK),
             Lines::Explain => explained(text),
             Lines::Who => Table::Each(&WHO),
-            Lines::Ever => Table::Spans(SpanForms {
-                head: &EVER_HEAD,
-                spans: &EVER_SPANS,
-            }),
             Lines::Powers => Table::Each(&POWERS),
             Lines::About => told(text),
             Lines::Lint => Table::Each(&LINT),
             Lines::State => Table::Each(&STATE),
-            Lines::Held => Table::Each(&HELD),
-            Lines::Usage => Table::Each(&USAGE),
-            Lines::Compare => Table::Each(&COMPARE),
             Lines::Summary => Table::Whole(&SUMMARY),
         }
     }

@@ -1,5 +1,4 @@
 //! By which forms a text is told.
-use crate::ever::SpanForms;
 use crate::form::Form;
 
 /// By which forms a text is told, and by how many objects.
@@ -9,6 +8,4 @@ pub enum Table {
     Each(&'static [Form]),
     /// One object for all lines.
     Whole(&'static [Form]),
-    /// One object for each line, with a list of spans.
-    Spans(SpanForms),
 }

@@ -2,7 +2,6 @@
 ghost use Rattle.std.specs.Prelude.{◌≡◌, ◌<◌, ◌==◌, filter, length, map, nat_lt, IfOk};
 ghost use Rattle.std.specs.List.{slice_split};
 ghost use Rattle.mls_json.specs.Words.{lines_of};
-ghost use Rattle.mls_lines.specs.Tokens.{tokens_of};
 
 use std::alloc::{AllocError, Global};
 
@@ -46,11 +45,4 @@ pub(crate) fn lines_of(alloc: Global, text: &str) -> Result<Vec<&str>, AllocErro
     ensures { IfOk result (λ lines. map (λ line. line.now) lines.items ≡ lines_of text.now) }
 {
     cut_filled(alloc, text, '\n')
-}
-
-/// The words of a part of a line that may begin or end with a space.
-pub(crate) fn tokens_of(alloc: Global, part: &str) -> Result<Vec<&str>, AllocError>
-    ensures { IfOk result (λ words. map (λ word. word.now) words.items ≡ tokens_of part.now) }
-{
-    cut_filled(alloc, part, ' ')
 }

@@ -12,6 +12,7 @@ mod one_state;
 mod renaming;
 mod report;
 mod report_parts;
+mod row_answers;
 mod segmented;
 mod snapshots;
 mod source_names;

@@ -1,6 +1,7 @@
 //! Questions about a journal whose start was made of a state, with its objects by the names that they had before.
-use crate::answering::{answered, bare_refused, ended, question_refused};
+use crate::answering::{answered, bare_refused, question_refused};
 use crate::named::Named;
+use crate::row_answers::{form_of, listed};
 use crate::sources::Bytes;
 use mls_command_line::{HeldWords, JournalWords, UsageWords};
 use mls_compare::{MapFault, names_after};
@@ -10,6 +11,7 @@ use mls_lines::Names;
 use mls_listings::{Choice, Filter, ListFault, Words, choose, list_chosen};
 use mls_marks::Marks;
 use mls_replay::{QuestionFault, Replay, replay_at};
+use mls_rows::{Form, Listing};
 use mls_spans::{
     Filter as SpanFilter, States, Words as SpanWords, choose as choose_spans, list_spans,
     list_usages_of,
@@ -144,19 +146,33 @@ fn journal_by(
     }
 }
 
-/// Ends a command: prints the answer, or tells why there is none.
+/// Tells why there is no answer.
+fn refused_by(
+    progress: &mut Progress<'_>,
+    named: Named<'_>,
+    start: &[u8],
+    fault: QuestionFault,
+) -> ExitCode {
+    progress.end();
+    match fault {
+        QuestionFault::Object => bare_refused(progress.rt(), named.object),
+        fault => question_refused(progress.rt(), named, start, fault),
+    }
+}
+
+/// Ends a command whose answer is of rows: prints the answer, or tells why there is none.
 fn ended_by(
     progress: &mut Progress<'_>,
     named: Named<'_>,
     start: &[u8],
-    done: Result<Answer, QuestionFault>,
+    done: Result<Listing, QuestionFault>,
 ) -> ExitCode {
     match done {
-        Err(QuestionFault::Object) => {
+        Ok(listing) => {
             progress.end();
-            bare_refused(progress.rt(), named.object)
+            listed(progress, listing)
         }
-        done => ended(progress, named, start, done),
+        Err(fault) => refused_by(progress, named, start, fault),
     }
 }
 
@@ -201,10 +217,10 @@ pub(crate) fn journal_after(
             progress.end();
             answered(progress, answer)
         }
-        Err(ListFault::Question(fault)) => ended_by(progress, about, &bytes.start, Err(fault)),
+        Err(ListFault::Question(fault)) => refused_by(progress, about, &bytes.start, fault),
         Err(ListFault::By) => {
             let about = named(words.start, words.journal, filter.by, filter.object);
-            ended_by(progress, about, &bytes.start, Err(QuestionFault::Subject))
+            refused_by(progress, about, &bytes.start, QuestionFault::Subject)
         }
     }
 }
@@ -212,11 +228,13 @@ pub(crate) fn journal_after(
 /// Who held what over a journal that was replayed, by these names of objects.
 fn held_over(
     alloc: Global,
+    form: Form,
     names: &Names,
     replay: &Replay,
     marks: Option<&Marks>,
     words: &SpanWords<'_>,
-) -> Result<Answer, QuestionFault> {
+) -> Result<Listing, QuestionFault> {
+    words.states.begin_in(replay.entries())?;
     let object = any_number_word(alloc, names, words.object)?;
     let by_number = SpanFilter {
         subject: words.subject,
@@ -227,6 +245,7 @@ fn held_over(
     let choice = choose_spans(names, &by_number)?;
     list_spans(
         alloc,
+        form,
         names,
         replay.start(),
         replay.entries(),
@@ -238,17 +257,13 @@ fn held_over(
 /// Who held what over a journal, by these names of objects.
 fn held_by(
     alloc: Global,
+    form: Form,
     names: &Names,
     bytes: &Bytes,
     words: &SpanWords<'_>,
-) -> Result<Answer, QuestionFault> {
-    let replay = replay_at(
-        alloc,
-        &bytes.start,
-        bytes.journal(),
-        Some(words.states.first),
-    )?;
-    let listed = held_over(alloc, names, &replay, bytes.marks.as_ref(), words);
+) -> Result<Listing, QuestionFault> {
+    let replay = replay_at(alloc, &bytes.start, bytes.journal(), None)?;
+    let listed = held_over(alloc, form, names, &replay, bytes.marks.as_ref(), words);
     drop(replay);
     listed
 }
@@ -270,7 +285,8 @@ pub(crate) fn held_after(
         Err(status) => return status,
     };
     progress.begin("listing");
-    let done = held_by(progress.rt().alloc(), &names, bytes, filter);
+    let form = form_of(progress);
+    let done = held_by(progress.rt().alloc(), form, &names, bytes, filter);
     drop(names);
     let about = named(words.start, words.journal, filter.subject, filter.object);
     ended_by(progress, about, &bytes.start, done)
@@ -279,12 +295,13 @@ pub(crate) fn held_after(
 /// How the permissions over some states of a journal were used, by these names of objects.
 fn usage_by(
     alloc: Global,
+    form: Form,
     names: &Names,
     bytes: &Bytes,
     states: States,
-) -> Result<Answer, QuestionFault> {
+) -> Result<Listing, QuestionFault> {
     let replay = replay_at(alloc, &bytes.start, bytes.journal(), Some(states.first))?;
-    let listed = list_usages_of(alloc, names, bytes.marks.as_ref(), &replay, states);
+    let listed = list_usages_of(alloc, form, names, bytes.marks.as_ref(), &replay, states);
     drop(replay);
     Ok(listed?)
 }
@@ -306,7 +323,8 @@ pub(crate) fn usage_after(
         Err(status) => return status,
     };
     progress.begin("listing");
-    let done = usage_by(progress.rt().alloc(), &names, bytes, states);
+    let form = form_of(progress);
+    let done = usage_by(progress.rt().alloc(), form, &names, bytes, states);
     drop(names);
     let about = named(words.start, words.journal, None, None);
     ended_by(progress, about, &bytes.start, done)

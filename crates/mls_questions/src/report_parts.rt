@@ -1,5 +1,5 @@
 //! The sections of a page about a journal that was replayed, each of what another question prints.
-use mls_explain_text::{Answer, explain_chosen};
+use mls_explain_text::explain_chosen;
 use mls_listings::{Choice, Filter, ListFault, ReplyFront, summarize};
 use mls_marks::{Marks, Verified};
 use mls_monitor::Entry;
@@ -7,6 +7,7 @@ use mls_page::{Found, Page, SHOWN};
 use mls_replay::{QuestionFault, Replay};
 use mls_requests::{Reply, ReplyWord};
 use mls_review::{Asked, lattice, powers};
+use mls_rows::{Form, Listing};
 use mls_spans::{Choice as HeldChoice, Filter as HeldFilter, States, list_spans, list_usages};
 use std::alloc::{AllocError, Global};
 use std::str;
@@ -146,16 +147,31 @@ fn add_spans(alloc: Global, page: &mut Page, seen: &Replay) -> Result<(), Questi
         states: States::between(None, None),
     };
     let entries = seen.entries();
-    let listed = list_spans(alloc, seen.names(), seen.start(), entries, None, &all)?;
-    let done = page.add_spans(alloc, &listed.text, entries.len() as u64);
+    let listed = list_spans(
+        alloc,
+        Form::Text,
+        seen.names(),
+        seen.start(),
+        entries,
+        None,
+        &all,
+    )?;
+    let done = page.add_spans(alloc, ascii(&listed.bytes), entries.len() as u64);
     drop(listed);
     Ok(done?)
 }
 
 /// How permissions were used, from the opening of the start on.
-fn usage_of(alloc: Global, seen: &Replay) -> Result<Answer, AllocError> {
+fn usage_of(alloc: Global, seen: &Replay) -> Result<Listing, AllocError> {
     let opening = seen.start().opening(alloc)?;
-    let listed = list_usages(alloc, seen.names(), None, &opening, seen.entries());
+    let listed = list_usages(
+        alloc,
+        Form::Text,
+        seen.names(),
+        None,
+        &opening,
+        seen.entries(),
+    );
     drop(opening);
     listed
 }
@@ -163,7 +179,7 @@ fn usage_of(alloc: Global, seen: &Replay) -> Result<Answer, AllocError> {
 /// Appends how permissions were used.
 fn add_usage(alloc: Global, page: &mut Page, seen: &Replay) -> Result<(), QuestionFault> {
     let listed = usage_of(alloc, seen)?;
-    let done = page.add_usage(&listed.text);
+    let done = page.add_usage(ascii(&listed.bytes));
     drop(listed);
     Ok(done?)
 }

@@ -1,8 +1,8 @@
 //! The commands that look at all states of a journal.
-use crate::answering::ended;
 use crate::listing::earlier;
 use crate::named::Named;
 use crate::renaming::{held_after, usage_after};
+use crate::row_answers::{form_of, rows_ended};
 use crate::sources::Bytes;
 use mls_command_line::{EverWords, HeldWords, Times, UsageWords};
 use mls_marks::{Marks, Time};
@@ -71,7 +71,8 @@ pub(crate) fn held(progress: &mut Progress<'_>, words: &HeldWords<'_>, bytes: &B
     progress.begin("listing");
     let alloc = progress.rt().alloc();
     let marks = bytes.marks.as_ref();
-    let done = list_held(alloc, &bytes.start, bytes.journal(), marks, &filter);
+    let form = form_of(progress);
+    let done = list_held(alloc, form, &bytes.start, bytes.journal(), marks, &filter);
     let named = Named {
         start: words.start,
         journal: words.journal,
@@ -79,7 +80,7 @@ pub(crate) fn held(progress: &mut Progress<'_>, words: &HeldWords<'_>, bytes: &B
         object: filter.object.unwrap_or(""),
         line: "",
     };
-    ended(progress, named, &bytes.start, done)
+    rows_ended(progress, named, &bytes.start, done)
 }
 
 /// Prints how the permissions over a journal were used.
@@ -95,9 +96,10 @@ pub(crate) fn usage(
     progress.begin("listing");
     let alloc = progress.rt().alloc();
     let marks = bytes.marks.as_ref();
-    let done = list_usage(alloc, &bytes.start, bytes.journal(), marks, states);
+    let form = form_of(progress);
+    let done = list_usage(alloc, form, &bytes.start, bytes.journal(), marks, states);
     let named = Named::files(words.start, words.journal);
-    ended(progress, named, &bytes.start, done)
+    rows_ended(progress, named, &bytes.start, done)
 }
 
 /// Prints who could ever get an object over a journal.
@@ -110,6 +112,7 @@ pub(crate) fn who_ever(
     progress.begin("looking");
     let done = list_ever(
         progress.rt().alloc(),
+        form_of(progress),
         &bytes.start,
         bytes.journal(),
         bytes.marks.as_ref(),
@@ -124,5 +127,5 @@ pub(crate) fn who_ever(
         object: words.object,
         line: "",
     };
-    ended(progress, named, &bytes.start, done)
+    rows_ended(progress, named, &bytes.start, done)
 }

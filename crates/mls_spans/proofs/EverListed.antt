@@ -1,6 +1,6 @@
 -- What is listed of the states in which gets would be granted.
 use Rattle.std.proofs.Common.{◌≡◌, ℕ, ◌<◌, Bool, true, false, cond, List, [], Option, Some, Result, Ok, Err, sym, ap, subst, ◌∙◌, inr}
-use Rattle.std.specs.Prelude.{IfOk, IfErr, filter, string_bytes}
+use Rattle.std.specs.Prelude.{IfOk, IfErr, filter}
 use Rattle.std.specs.List.{All, flat_map, list_any}
 use Rattle.std.proofs.lemmas.List.Elements.{All-filter, All-nil}
 use Rattle.mls_lines.specs.Names.{Names}
@@ -8,13 +8,14 @@ use Rattle.mls_marks.specs.declared.row.Row.{Row}
 use Rattle.mls_requests.specs.declared.entry.Entry.{Entry}
 use Rattle.mls_replay.specs.Replays.{Replayed, ReplaysAt}
 use Rattle.mls_replay.specs.declared.question_fault.QuestionFault.{QuestionFault}
+use Rattle.mls_rows.specs.declared.form.Form.{Form}
+use Rattle.mls_rows.specs.declared.listing.Listing.{Listing}
 use Rattle.mls_state.specs.State.{State}
 use Rattle.mls_tables.specs.Mode.{ModeSet}
 use Rattle.mls_tables.specs.Triples.{Triple}
 use Rattle.mls_tables.specs.declared.mode.Mode.{Mode}
-use Rattle.mls_wording.specs.declared.answer.Answer.{Answer}
 use Rattle.mls_spans.specs.Asked.{has_window, is_some_state}
-use Rattle.mls_spans.specs.EverLines.{ever_line}
+use Rattle.mls_spans.specs.EverLines.{ever_row}
 use Rattle.mls_spans.specs.EverListings.{IsEver, ListsEver, ListsWord, RefusesEver, RefusesWord, is_seen, permissions_seen, windows_seen}
 use Rattle.mls_spans.specs.Kept.{IsTally, is_there}
 use Rattle.mls_spans.specs.Permissions.{accesses_to, permissions_to}
@@ -45,19 +46,19 @@ found_is : (r : Replayed) (states : States) (o : ℕ) (m : Turns) (t : Triple) �
 found_is r states o m t object turns to =
     ap (λ k. filter (has_window states) (between k.1)) (turns.each t (to.0 ∙ sym object) to.1)
 
-is_ever : (r : Replayed) (rows : Option (List Row)) (states : States) (asked : ModeSet) (o : ℕ) (m : Turns) (accesses : List Triple)
-    (answer : Answer) → m.object ≡ o → AreTurns r.start r.entries m → accesses ≡ permissions_seen r states asked o
-    → string_bytes answer.text ≡ flat_map (λ t. ever_line r.names rows t (found_seen m.turns.items states t)) accesses
-    → answer.is_positive ≡ list_any (λ t. is_any (found_seen m.turns.items states t)) accesses → IsEver r rows states asked o answer
-is_ever r rows states asked o m accesses answer object turns are text positive =
+is_ever : (form : Form) (r : Replayed) (rows : Option (List Row)) (states : States) (asked : ModeSet) (o : ℕ) (m : Turns) (accesses : List Triple)
+    (listing : Listing) → m.object ≡ o → AreTurns r.start r.entries m → accesses ≡ permissions_seen r states asked o
+    → listing.bytes.items ≡ flat_map (λ t. ever_row form r.names rows t (found_seen m.turns.items states t)) accesses
+    → listing.is_positive ≡ list_any (λ t. is_any (found_seen m.turns.items states t)) accesses → IsEver form r rows states asked o listing
+is_ever form r rows states asked o m accesses listing object turns are bytes positive =
     let seen = permissions_seen r states asked o in
     let to : All (IsTo o) seen = seen_to (is_some_state states) r.state (entries_between states r.entries) asked o in
     record {
-      text =
-          text ∙ ap (flat_map (λ t. ever_line r.names rows t (found_seen m.turns.items states t))) are
-          ∙ flat_alike (IsTo o) (λ t. ever_line r.names rows t (found_seen m.turns.items states t))
-          (λ t. ever_line r.names rows t (windows_seen r states t)) seen to
-          (λ t is. ap (ever_line r.names rows t) (found_is r states o m t object turns is));
+      bytes =
+          bytes ∙ ap (flat_map (λ t. ever_row form r.names rows t (found_seen m.turns.items states t))) are
+          ∙ flat_alike (IsTo o) (λ t. ever_row form r.names rows t (found_seen m.turns.items states t))
+          (λ t. ever_row form r.names rows t (windows_seen r states t)) seen to
+          (λ t is. ap (ever_row form r.names rows t) (found_is r states o m t object turns is));
       positive =
           positive ∙ ap (list_any (λ t. is_any (found_seen m.turns.items states t))) are
           ∙ any_alike (IsTo o) (λ t. is_any (found_seen m.turns.items states t)) (is_seen r states) seen to
@@ -65,27 +66,27 @@ is_ever r rows states asked o m accesses answer object turns are text positive =
     }
 
 -- the same of a result, by names that are those of the replay, and by turns that are those that are kept
-pub ever_ok : (r : Replayed) (names : Names) (rows : Option (List Row)) (states : States) (asked : ModeSet) (o : ℕ) (m : Turns)
-    (found : List Turn) (accesses : List Triple) {E : Type 0} (result : Result Answer E) → names ≡ r.names → m.object ≡ o
+pub ever_ok : (form : Form) (r : Replayed) (names : Names) (rows : Option (List Row)) (states : States) (asked : ModeSet) (o : ℕ) (m : Turns)
+    (found : List Turn) (accesses : List Triple) {E : Type 0} (result : Result Listing E) → names ≡ r.names → m.object ≡ o
     → AreTurns r.start r.entries m → found ≡ m.turns.items → accesses ≡ permissions_seen r states asked o
-    → IfOk result (λ answer. string_bytes answer.text ≡ flat_map (λ t. ever_line names rows t (found_seen found states t)) accesses)
-    → IfOk result (λ answer. answer.is_positive ≡ list_any (λ t. is_any (found_seen found states t)) accesses)
-    → IfOk result (λ answer. IsEver r rows states asked o answer)
-ever_ok r names rows states asked o m found accesses (Ok answer) same object turns at are text positive =
-    is_ever r rows states asked o m accesses answer object turns are
-    (text ∙ (λ i. flat_map (λ t. ever_line (same i) rows t (found_seen (at i) states t)) accesses))
+    → IfOk result (λ listing. listing.bytes.items ≡ flat_map (λ t. ever_row form names rows t (found_seen found states t)) accesses)
+    → IfOk result (λ listing. listing.is_positive ≡ list_any (λ t. is_any (found_seen found states t)) accesses)
+    → IfOk result (λ listing. IsEver form r rows states asked o listing)
+ever_ok form r names rows states asked o m found accesses (Ok listing) same object turns at are bytes positive =
+    is_ever form r rows states asked o m accesses listing object turns are
+    (bytes ∙ (λ i. flat_map (λ t. ever_row form (same i) rows t (found_seen (at i) states t)) accesses))
     (positive ∙ (λ i. list_any (λ t. is_any (found_seen (at i) states t)) accesses))
-ever_ok r names rows states asked o m found accesses (Err fault) same object turns at are text positive = tt
+ever_ok form r names rows states asked o m found accesses (Err fault) same object turns at are bytes positive = tt
 
-pub lists_ever : (bytes journal : List ℕ) (rows : Option (List Row)) (states : States) (mode : Option Mode) (word : List ℕ) (r : Replayed)
-    (result : Result Answer QuestionFault) → ReplaysAt bytes journal (Some states.first) r
-    → IfOk result (λ answer. ListsWord r rows states mode word answer)
-    → IfOk result (λ answer. ListsEver bytes journal rows states mode word answer)
-lists_ever bytes journal rows states mode word r (Ok answer) replays listed = (r, replays, listed)
-lists_ever bytes journal rows states mode word r (Err fault) replays listed = tt
+pub lists_ever : (form : Form) (bytes journal : List ℕ) (rows : Option (List Row)) (states : States) (mode : Option Mode) (word : List ℕ) (r : Replayed)
+    (result : Result Listing QuestionFault) → ReplaysAt bytes journal (Some states.first) r
+    → IfOk result (λ listing. ListsWord form r rows states mode word listing)
+    → IfOk result (λ listing. ListsEver form bytes journal rows states mode word listing)
+lists_ever form bytes journal rows states mode word r (Ok listing) replays listed = (r, replays, listed)
+lists_ever form bytes journal rows states mode word r (Err fault) replays listed = tt
 
-pub refuses_ever : (bytes journal : List ℕ) (states : States) (word : List ℕ) (r : Replayed) (result : Result Answer QuestionFault)
+pub refuses_ever : (bytes journal : List ℕ) (states : States) (word : List ℕ) (r : Replayed) (result : Result Listing QuestionFault)
     → ReplaysAt bytes journal (Some states.first) r → IfErr result (λ fault. RefusesWord r.names word fault)
     → IfErr result (λ fault. RefusesEver bytes journal states word fault)
-refuses_ever bytes journal states word r (Ok answer) at why = tt
+refuses_ever bytes journal states word r (Ok listing) at why = tt
 refuses_ever bytes journal states word r (Err fault) at why = inr (r, at, why)

@@ -18,4 +18,3 @@ mod Turned
 mod Pairing
 mod EverRows
 mod EverListed
-mod EverTimes

@@ -8,7 +8,8 @@ use Rattle.mls_tables.specs.declared.limits.TheConstants.{MAX_OBJECTS}
 use Rattle.mls_spans.specs.Uses.{is_permission, usage_by, usage_of, usages, accesses_on, accesses_by, all_accesses}
 use Rattle.mls_replay.specs.Replays.{Replayed, ReplaysAt}
 use Rattle.mls_replay.specs.declared.question_fault.QuestionFault.{QuestionFault}
-use Rattle.mls_wording.specs.declared.answer.Answer.{Answer}
+use Rattle.mls_rows.specs.declared.form.Form.{Form}
+use Rattle.mls_rows.specs.declared.listing.Listing.{Listing}
 use Rattle.mls_spans.specs.UsageListings.{IsUsage, ListsUsage, usages_seen}
 use Rattle.mls_spans.specs.declared.states.States.{States}
 use Rattle.std.specs.Prelude.{IfOk, Option, Some, Result, Ok, Err}
@@ -41,9 +42,9 @@ all_by_known v m s n rows new known all is =
     is ∙ ap (λ k. rows ++ usages_told v m (flat_map (accesses_on s) (range_with_len 0 k))) all ∙ ap (λ b. rows ++ usages_told v m (cond b (flat_map (accesses_on s) (range_with_len 0 MAX_OBJECTS)) [])) (sym known)
 
 -- the permissions of a start file and a journal are listed
-pub lists_usage : (bytes journal : List ℕ) (rows : Option (List Row)) (states : States) (r : Replayed)
-    (result : Result Answer QuestionFault) → ReplaysAt bytes journal (Some states.first) r
-    → IfOk result (λ answer. IsUsage r.names rows (usages_seen r states) answer)
-    → IfOk result (λ answer. ListsUsage bytes journal rows states answer)
-lists_usage bytes journal rows states r (Ok answer) replays listed = (r, replays, listed)
-lists_usage bytes journal rows states r (Err fault) replays listed = tt
+pub lists_usage : (form : Form) (bytes journal : List ℕ) (rows : Option (List Row)) (states : States) (r : Replayed)
+    (result : Result Listing QuestionFault) → ReplaysAt bytes journal (Some states.first) r
+    → IfOk result (λ listing. IsUsage form r.names rows (usages_seen r states) listing)
+    → IfOk result (λ listing. ListsUsage form bytes journal rows states listing)
+lists_usage form bytes journal rows states r (Ok listing) replays listed = (r, replays, listed)
+lists_usage form bytes journal rows states r (Err fault) replays listed = tt

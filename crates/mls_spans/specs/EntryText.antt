@@ -1,17 +1,8 @@
 -- An entry, as a span begins or ends with it: its number, and its time.
-use Rattle.std.specs.Prelude.{ℕ, nat_le, List, [], ◌++◌, codes, Option, option_map, Some, None}
-use Rattle.std.specs.Borrow.{Bor}
+use Rattle.std.specs.Prelude.{ℕ, List, [], ◌++◌, codes, Option, Some, None}
 use Rattle.std.specs.Fmt.{decimal}
-use Rattle.std.specs.List.{find}
 use Rattle.mls_marks.specs.declared.row.Row.{Row}
-
--- The rows of the marks that are lent, where some are. (own)
-abbrev pub rows_lent : Option (Bor (List Row)) → Option (List Row)
-rows_lent lent = option_map (λ rows. rows.now) lent
-
--- The time of the entry of a number: that of the first row whose last entry is this one or behind it. (own)
-abbrev pub time_of : List Row → ℕ → Option (List ℕ)
-time_of rows n = option_map (λ row. row.time) (find (λ row. nat_le n row.last) rows)
+use Rattle.mls_rows.specs.Times.{time_of}
 
 -- A time behind an entry's number, or that no mark covers the entry. (own)
 abbrev pub time_text : Option (List ℕ) → List ℕ

@@ -4,9 +4,12 @@ use Rattle.std.specs.List.{flat_map}
 use Rattle.mls_lines.specs.Names.{Names}
 use Rattle.mls_marks.specs.declared.row.Row.{Row}
 use Rattle.mls_requests.specs.ModeWords.{mode_word}
+use Rattle.mls_rows.specs.Rows.{row_bytes}
+use Rattle.mls_rows.specs.declared.form.Form.{Form}
 use Rattle.mls_tables.specs.Triples.{Triple}
 use Rattle.mls_wording.specs.Wording.{subject_text}
 use Rattle.mls_spans.specs.EntryText.{begin_text, entry_text}
+use Rattle.mls_spans.specs.Members.{ever_members}
 use Rattle.mls_spans.specs.declared.window.Window.{Window}
 
 -- The entry up to which it would be granted, or that it would be on. (own)
@@ -31,3 +34,7 @@ windows_text rows (window ∷ rest) = window_text rows window ++ flat_map (next_
 abbrev pub ever_line : Names → Option (List Row) → Triple → List Window → List ℕ
 ever_line names rows t found =
     subject_text names t.0 ++ codes " " ++ mode_word t.2 ++ codes ": " ++ windows_text rows found ++ codes "\n"
+
+-- It in a form: the line, or the object in a line. (own)
+abbrev pub ever_row : Form → Names → Option (List Row) → Triple → List Window → List ℕ
+ever_row form names rows t found = row_bytes form (ever_line names rows t found) (ever_members names rows t found)

@@ -1,5 +1,5 @@
 -- What is listed of the states in which gets of an object would be granted.
-use Rattle.std.specs.Prelude.{◌≡◌, ◌⊎◌, ℕ, Bool, List, [], filter, Option, Some, None, string_bytes}
+use Rattle.std.specs.Prelude.{◌≡◌, ◌⊎◌, ℕ, Bool, List, [], filter, Option, Some, None}
 use Rattle.std.specs.Prelude.{if◌then◌else◌}
 use Rattle.std.specs.FinSet as set
 use Rattle.std.specs.List.{flat_map, list_any}
@@ -10,13 +10,14 @@ use Rattle.mls_replay.specs.Replays.{Replayed, ReplaysAt, RefusesAt}
 use Rattle.mls_replay.specs.declared.command.CommandFault.TheVariants.{Memory}
 use Rattle.mls_replay.specs.declared.question_fault.QuestionFault.{QuestionFault}
 use Rattle.mls_replay.specs.declared.question_fault.QuestionFault.TheVariants.{Files, Object}
+use Rattle.mls_rows.specs.declared.form.Form.{Form}
+use Rattle.mls_rows.specs.declared.listing.Listing.{Listing}
 use Rattle.mls_tables.specs.Mode.{ModeSet}
 use Rattle.mls_tables.specs.Triples.{Triple}
 use Rattle.mls_tables.specs.declared.mode.Mode.{Mode}
 use Rattle.mls_tables.specs.declared.mode.Mode.TheVariants.{Execute, Read, Append, Write}
-use Rattle.mls_wording.specs.declared.answer.Answer.{Answer}
 use Rattle.mls_spans.specs.Asked.{has_window, is_some_state}
-use Rattle.mls_spans.specs.EverLines.{ever_line}
+use Rattle.mls_spans.specs.EverLines.{ever_row}
 use Rattle.mls_spans.specs.Permissions.{permissions_to}
 use Rattle.mls_spans.specs.UsageListings.{entries_between}
 use Rattle.mls_spans.specs.Windows.{windows, is_any}
@@ -41,25 +42,25 @@ windows_seen r states t = filter (has_window states) (windows r.start r.entries 
 abbrev pub is_seen : Replayed → States → Triple → Bool
 is_seen r states t = is_any (windows_seen r states t)
 
--- The lines of just the permissions on an object in the modes that are asked for, by subject and mode, each with all
+-- Just the permissions on an object in the modes that are asked for, by subject and mode, in a form, each with all
 -- spans in which its get would be granted; it is positive where there is such a span. (own)
-pub record IsEver (r : Replayed) (rows : Option (List Row)) (states : States) (asked : ModeSet) (o : ℕ)
-    (answer : Answer) : Type 0 where
-  pub text : string_bytes answer.text
-      ≡ flat_map (λ t. ever_line r.names rows t (windows_seen r states t)) (permissions_seen r states asked o)
-  pub positive : answer.is_positive ≡ list_any (is_seen r states) (permissions_seen r states asked o)
+pub record IsEver (form : Form) (r : Replayed) (rows : Option (List Row)) (states : States) (asked : ModeSet) (o : ℕ)
+    (listing : Listing) : Type 0 where
+  pub bytes : listing.bytes.items
+      ≡ flat_map (λ t. ever_row form r.names rows t (windows_seen r states t)) (permissions_seen r states asked o)
+  pub positive : listing.is_positive ≡ list_any (is_seen r states) (permissions_seen r states asked o)
 
 -- The same of the object that a word names. (own)
-pub record ListsWord (r : Replayed) (rows : Option (List Row)) (states : States) (mode : Option Mode) (word : List ℕ)
-    (answer : Answer) : Type 0 where
+pub record ListsWord (form : Form) (r : Replayed) (rows : Option (List Row)) (states : States) (mode : Option Mode)
+    (word : List ℕ) (listing : Listing) : Type 0 where
   pub object : ℕ
   pub names : object_word r.names word ≡ Some object
-  pub ever : IsEver r rows states (modes_asked mode) object answer
+  pub ever : IsEver form r rows states (modes_asked mode) object listing
 
 -- A start file and a journal are replayed, and this lists who could ever get the object that a word names. (own)
-abbrev pub ListsEver : List ℕ → List ℕ → Option (List Row) → States → Option Mode → List ℕ → Answer → Type 0
-ListsEver bytes journal rows states mode word answer =
-    (r : Replayed) × ReplaysAt bytes journal (Some states.first) r × ListsWord r rows states mode word answer
+abbrev pub ListsEver : Form → List ℕ → List ℕ → Option (List Row) → States → Option Mode → List ℕ → Listing → Type 0
+ListsEver form bytes journal rows states mode word listing =
+    (r : Replayed) × ReplaysAt bytes journal (Some states.first) r × ListsWord form r rows states mode word listing
 
 -- Why the object of a replay isn't looked at: the word names none, or memory ran out. (own)
 abbrev pub RefusesWord : Names → List ℕ → QuestionFault → Type 0

@@ -3,6 +3,7 @@ pub mod Sweeping
 pub mod Asked
 pub mod EntryText
 pub mod Lines
+pub mod Members
 pub mod Listings
 pub mod Opening
 pub mod Uses

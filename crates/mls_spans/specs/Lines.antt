@@ -5,10 +5,13 @@ use Rattle.mls_lines.specs.Names.{Names}
 use Rattle.mls_marks.specs.declared.row.Row.{Row}
 use Rattle.mls_requests.specs.ActionWords.{action_word}
 use Rattle.mls_requests.specs.ModeWords.{mode_word}
+use Rattle.mls_rows.specs.Rows.{row_bytes}
+use Rattle.mls_rows.specs.declared.form.Form.{Form}
 use Rattle.mls_tables.specs.Triples.{Triple}
 use Rattle.mls_wording.specs.Wording.{subject_text, object_text}
 use Rattle.mls_spans.specs.Asked.{Choice, is_asked}
 use Rattle.mls_spans.specs.EntryText.{begin_text, entry_text}
+use Rattle.mls_spans.specs.Members.{span_members}
 use Rattle.mls_spans.specs.declared.span.Ending.{Ending}
 use Rattle.mls_spans.specs.declared.span.Span.{Span}
 
@@ -26,10 +29,14 @@ abbrev pub span_line : Names → Option (List Row) → Span → List ℕ
 span_line names rows span =
     access_text names span.access ++ codes ": " ++ begin_text rows span.made ++ end_text rows span.ended ++ 10 ∷ []
 
--- The line of a span that is asked for; none of another. (own)
-abbrev pub line_where : Names → Option (List Row) → Choice → Span → List ℕ
-line_where names rows c span = if is_asked c span then span_line names rows span else []
+-- A span in a form: its line, or its object in a line. (own)
+abbrev pub span_row : Form → Names → Option (List Row) → Span → List ℕ
+span_row form names rows span = row_bytes form (span_line names rows span) (span_members names rows span)
 
--- The lines of the spans that are asked for. (own)
-abbrev pub lines_text : Names → Option (List Row) → Choice → List Span → List ℕ
-lines_text names rows c spans = flat_map (line_where names rows c) spans
+-- A span that is asked for; nothing of another. (own)
+abbrev pub row_where : Form → Names → Option (List Row) → Choice → Span → List ℕ
+row_where form names rows c span = if is_asked c span then span_row form names rows span else []
+
+-- The spans that are asked for. (own)
+abbrev pub spans_bytes : Form → Names → Option (List Row) → Choice → List Span → List ℕ
+spans_bytes form names rows c spans = flat_map (row_where form names rows c) spans

@@ -1,13 +1,14 @@
 -- What is listed of permissions and their uses.
-use Rattle.std.specs.Prelude.{◌≡◌, ℕ, ◌==◌, List, [], length, filter, take, drop, Option, Some, None, string_bytes}
+use Rattle.std.specs.Prelude.{◌≡◌, ℕ, ◌==◌, List, [], length, filter, take, drop, Option, Some, None}
 use Rattle.std.specs.Prelude.{◌++◌, if◌then◌else◌}
 use Rattle.mls_lines.specs.Names.{Names}
 use Rattle.mls_marks.specs.declared.row.Row.{Row}
 use Rattle.mls_requests.specs.declared.entry.Entry.{Entry}
 use Rattle.mls_replay.specs.Replays.{Replayed, ReplaysAt}
-use Rattle.mls_wording.specs.declared.answer.Answer.{Answer}
+use Rattle.mls_rows.specs.declared.form.Form.{Form}
+use Rattle.mls_rows.specs.declared.listing.Listing.{Listing}
 use Rattle.mls_spans.specs.Asked.{is_some_state}
-use Rattle.mls_spans.specs.UsageLines.{usages_text, ending_text}
+use Rattle.mls_spans.specs.UsageLines.{usages_bytes, ending_row}
 use Rattle.mls_spans.specs.Uses.{is_unused, usages}
 use Rattle.mls_spans.specs.declared.states.States.{States}
 use Rattle.mls_spans.specs.declared.usage.Usage.{Usage}
@@ -29,16 +30,17 @@ usages_seen r states = if is_some_state states then usages r.state (entries_betw
 abbrev pub count_unused : List Usage → ℕ
 count_unused found = length (filter is_unused found)
 
--- The lines of permissions, with times by the rows of marks, where there are some, then how many they are and how many
--- of them were never granted; it is positive where that is none. (own)
-pub record IsUsage (names : Names) (rows : Option (List Row)) (found : List Usage) (answer : Answer) : Type 0 where
-  pub text : string_bytes answer.text
-      ≡ usages_text names rows found ++ ending_text (length found) (count_unused found)
-  pub positive : answer.is_positive ≡ (count_unused found == 0)
+-- Permissions in a form, with times by the rows of marks, where there are some, then how many they are and how many of
+-- them were never granted; it is positive where that is none. (own)
+pub record IsUsage (form : Form) (names : Names) (rows : Option (List Row)) (found : List Usage) (listing : Listing)
+    : Type 0 where
+  pub bytes : listing.bytes.items
+      ≡ usages_bytes form names rows found ++ ending_row form (length found) (count_unused found)
+  pub positive : listing.is_positive ≡ (count_unused found == 0)
 
 -- A start file and a journal are replayed, and this lists the permissions of some states, by the entries between the
 -- first and the last of them. (own)
-abbrev pub ListsUsage : List ℕ → List ℕ → Option (List Row) → States → Answer → Type 0
-ListsUsage bytes journal rows states answer =
+abbrev pub ListsUsage : Form → List ℕ → List ℕ → Option (List Row) → States → Listing → Type 0
+ListsUsage form bytes journal rows states listing =
     (r : Replayed) × ReplaysAt bytes journal (Some states.first) r
-    × IsUsage r.names rows (usages_seen r states) answer
+    × IsUsage form r.names rows (usages_seen r states) listing

@@ -1,9 +1,10 @@
 //! An entry, as a span begins or ends with it: its number, and its time.
 ghost use Rattle.std.specs.Prelude.{◌≡◌, ◌++◌, string_bytes, codes, OnOk};
-ghost use Rattle.mls_spans.specs.EntryText.{begin_text, entry_text, mark_text, rows_lent};
-ghost use Rattle.mls_spans.specs.EntryText.{time_of as time_of_entry};
+ghost use Rattle.mls_rows.specs.Times.{rows_lent};
+ghost use Rattle.mls_spans.specs.EntryText.{begin_text, entry_text, mark_text};
 
 use mls_marks::{Marks, Time};
+use mls_rows::time_of;
 use mls_wording::push_number;
 use std::alloc::AllocError;
 use std::str;
@@ -19,13 +20,6 @@ fn push_time(text: &mut String, time: &Time) -> Result<(), AllocError>
     text.push_str(" [")?;
     text.push_str(word)?;
     text.push_str("]")
-}
-
-/// The time of an entry, where a mark covers it.
-fn time_of(marks: &Marks, number: u64) -> Option<Time>
-    ensures { result ≡ time_of_entry marks.now number }
-{
-    marks.time_of(number)
 }
 
 /// Appends what marks tell of the time of an entry, where there are marks.

@@ -1,15 +1,16 @@
 //! Who could ever get an object over a journal.
-ghost use Rattle.std.specs.Prelude.{◌≡◌, ◌<◌, ◌++◌, ◌||◌, string_bytes, IfOk, IfErr, OnOk};
+ghost use Rattle.std.specs.Prelude.{◌≡◌, ◌<◌, ◌++◌, IfOk, IfErr};
 ghost use Rattle.std.specs.List.{flat_map, list_any};
-ghost use Rattle.mls_spans.specs.EntryText.{rows_lent};
-ghost use Rattle.mls_spans.specs.EverLines.{ever_line};
+ghost use Rattle.mls_rows.specs.Times.{rows_lent};
+ghost use Rattle.mls_rows.specs.Rows.{bytes_of, form_of};
+ghost use Rattle.mls_spans.specs.EverLines.{ever_row};
 ghost use Rattle.mls_spans.specs.EverListings.{IsEver, ListsEver, ListsWord, RefusesEver, RefusesWord};
 ghost use Rattle.mls_spans.specs.EverListings.{modes_asked as modes_in, permissions_seen};
 ghost use Rattle.mls_spans.specs.Permissions.{permissions_to};
 ghost use Rattle.mls_spans.specs.Turning.{AreTurns, found_seen};
 ghost use Rattle.mls_spans.specs.Windows.{is_any as is_any_in};
 
-use crate::ever_lines::push_line;
+use crate::ever_rows::EverRow;
 use crate::permissions::permissions_on;
 use crate::states::States;
 use crate::tallying::tally_over;
@@ -23,9 +24,9 @@ use mls_marks::Marks;
 use mls_monitor::Start;
 use mls_replay::{QuestionFault, Replay, named_object, replay_at};
 use mls_requests::Entry;
+use mls_rows::{Form, Listing, Output};
 use mls_rules::State;
 use mls_tables::{Mode, Modes, ObjectId, SubjectId};
-use mls_wording::Answer;
 use std::alloc::{AllocError, Global};
 
 /// The modes that are asked for: one, or all.
@@ -99,91 +100,101 @@ fn turns_over(
     turns
 }
 
-/// Adds the line of an access, and whether its get would be granted in one of some states.
-fn push_access(
+/// Adds an access, and tells whether its get would be granted in one of some states.
+fn with_access(
     alloc: Global,
-    answer: &mut Answer,
+    output: Output,
     names: &Names,
     marks: Option<&Marks>,
     turns: &[Turn],
     states: &States,
     access: &(SubjectId, ObjectId, Mode),
-) -> Result<(), AllocError>
-    ensures text { OnOk result (string_bytes answer.new.text ≡ string_bytes answer.old.text
-        ++ ever_line names.now (rows_lent marks.entry) access.now (found_seen turns.now states.now access.now)) }
-    ensures positive { OnOk result (answer.new.is_positive
-        ≡ (answer.old.is_positive || is_any_in (found_seen turns.now states.now access.now))) }
+) -> Result<(Output, bool), AllocError>
+    ensures form { IfOk result (λ p. form_of p.0 ≡ form_of output) }
+    ensures bytes { IfOk result (λ p. bytes_of p.0 ≡ bytes_of output ++ ever_row (form_of output) names.now
+        (rows_lent marks.entry) access.now (found_seen turns.now states.now access.now)) }
+    ensures seen { IfOk result (λ p. p.1 ≡ is_any_in (found_seen turns.now states.now access.now)) }
 {
     let windows = windows_of(alloc, turns, access, states)?;
-    push_line(&mut answer.text, names, marks, access, &windows)?;
-    answer.is_positive = answer.is_positive || is_any(&windows);
-    drop(windows);
-    Ok(())
+    let is_seen = is_any(&windows);
+    let row = EverRow {
+        access: *access,
+        windows,
+    };
+    let output = output.with(names, marks, &row);
+    drop(row);
+    Ok((output?, is_seen))
 }
 
-/// The lines of accesses, by where gets turn.
+/// Accesses, by where gets turn.
 fn told(
     alloc: Global,
+    form: Form,
     names: &Names,
     marks: Option<&Marks>,
     turns: &[Turn],
     states: &States,
     accesses: &[(SubjectId, ObjectId, Mode)],
-) -> Result<Answer, AllocError>
-    ensures text { IfOk result (λ answer. string_bytes answer.text ≡ flat_map
-        (λ t. ever_line names.now (rows_lent marks.entry) t (found_seen turns.now states.now t)) accesses.now) }
-    ensures positive { IfOk result (λ answer. answer.is_positive
+) -> Result<Listing, AllocError>
+    ensures bytes { IfOk result (λ listing. listing.bytes.items ≡ flat_map
+        (λ t. ever_row form names.now (rows_lent marks.entry) t (found_seen turns.now states.now t)) accesses.now) }
+    ensures positive { IfOk result (λ listing. listing.is_positive
         ≡ list_any (λ t. is_any_in (found_seen turns.now states.now t)) accesses.now) }
 {
-    let mut answer = Answer {
-        text: String::new(alloc),
-        is_positive: false,
-    };
+    let mut output = Output::new(alloc, form);
+    let mut is_positive = false;
     for access in accesses {
-        push_access(alloc, &mut answer, names, marks, turns, states, access)?;
+        let (next, is_seen) = with_access(alloc, output, names, marks, turns, states, access)?;
+        output = next;
+        is_positive = is_positive || is_seen;
     }
-    Ok(answer)
+    Ok(Listing {
+        bytes: output.into_bytes(),
+        is_positive,
+    })
 }
 
 /// Who could ever get an object over a replay.
 fn tell_object(
     alloc: Global,
+    form: Form,
     replay: &Replay,
     marks: Option<&Marks>,
     states: States,
     asked: Modes,
     o: ObjectId,
-) -> Result<Answer, AllocError>
-    ensures { IfOk result (λ answer. IsEver replay.now (rows_lent marks.entry) states asked o answer) }
+) -> Result<Listing, AllocError>
+    ensures { IfOk result (λ listing. IsEver form replay.now (rows_lent marks.entry) states asked o listing) }
 {
     let accesses = permissions_of(alloc, replay, states, asked, o)?;
     let turns = turns_over(alloc, replay.start(), replay.entries(), o)?;
     let known = replay.names();
-    let answer = told(alloc, known, marks, &turns.turns, &states, &accesses);
+    let listing = told(alloc, form, known, marks, &turns.turns, &states, &accesses);
     drop(turns);
     drop(accesses);
-    answer
+    listing
 }
 
 /// Who could ever get the object that a word names, over a replay.
 fn tell_word(
     alloc: Global,
+    form: Form,
     replay: &Replay,
     marks: Option<&Marks>,
     states: States,
     word: &str,
     mode: Option<Mode>,
-) -> Result<Answer, QuestionFault>
+) -> Result<Listing, QuestionFault>
     ensures ok { IfOk result
-        (λ answer. ListsWord replay.now (rows_lent marks.entry) states mode word.now answer) }
+        (λ listing. ListsWord form replay.now (rows_lent marks.entry) states mode word.now listing) }
     ensures fault { IfErr result (λ fault. RefusesWord replay.now.names word.now fault) }
 {
     let o = named_object(replay.names(), word)?;
-    let answer = tell_object(alloc, replay, marks, states, modes_asked(mode), o)?;
-    Ok(answer)
+    let listing = tell_object(alloc, form, replay, marks, states, modes_asked(mode), o)?;
+    Ok(listing)
 }
 
-/// Who could ever get an object, and when: a line for each subject and mode of which one of some states has the
+/// Who could ever get an object, and when: a row in this form for each subject and mode of which one of some states has the
 /// permission on it, with the spans of states in which the get would be granted, as long as they are, that have one of
 /// the states. With the journal's marks the times of their entries are told. The object is named by a name of the start,
 /// or by `#` and its number; without a mode all are asked for. The answer is a positive one where there is such a span.
@@ -194,19 +205,20 @@ fn tell_word(
 /// - `Object` where the word is neither a name of the start's objects nor `#` and a number.
 pub fn list_ever(
     alloc: Global,
+    form: Form,
     start: &[u8],
     journal: &[u8],
     marks: Option<&Marks>,
     states: States,
     word: &str,
     mode: Option<Mode>,
-) -> Result<Answer, QuestionFault>
+) -> Result<Listing, QuestionFault>
     ensures ok { IfOk result
-        (λ answer. ListsEver start.now journal.now (rows_lent marks.entry) states mode word.now answer) }
+        (λ listing. ListsEver form start.now journal.now (rows_lent marks.entry) states mode word.now listing) }
     ensures fault { IfErr result (λ fault. RefusesEver start.now journal.now states word.now fault) }
 {
     let replay = replay_at(alloc, start, journal, Some(states.first))?;
-    let answer = tell_word(alloc, &replay, marks, states, word, mode);
+    let listing = tell_word(alloc, form, &replay, marks, states, word, mode);
     drop(replay);
-    answer
+    listing
 }

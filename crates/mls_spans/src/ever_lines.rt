@@ -1,7 +1,7 @@
 //! The lines of the states in which gets would be granted.
 ghost use Rattle.std.specs.Prelude.{◌≡◌, ◌++◌, string_bytes, OnOk};
 ghost use Rattle.std.specs.List.{flat_map};
-ghost use Rattle.mls_spans.specs.EntryText.{rows_lent};
+ghost use Rattle.mls_rows.specs.Times.{rows_lent};
 ghost use Rattle.mls_spans.specs.EverLines.{closed_text, ever_line, next_text, window_text, windows_text};
 
 use crate::entry_text::{push_begin, push_entry};
@@ -30,7 +30,11 @@ fn push_closed(
 }
 
 /// Appends a span.
-fn push_window(text: &mut String, marks: Option<&Marks>, window: &Window) -> Result<(), AllocError>
+pub(crate) fn push_window(
+    text: &mut String,
+    marks: Option<&Marks>,
+    window: &Window,
+) -> Result<(), AllocError>
     ensures { OnOk result (string_bytes text.new
         ≡ string_bytes text.old ++ window_text (rows_lent marks.entry) window.now) }
 {
@@ -69,7 +73,7 @@ fn push_windows(
 }
 
 /// Appends the line of an access and the spans in which its get would be granted.
-pub(crate) fn push_line(
+pub(crate) fn push_ever(
     text: &mut String,
     names: &Names,
     marks: Option<&Marks>,

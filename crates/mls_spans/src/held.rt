@@ -4,19 +4,20 @@ ghost use Rattle.std.specs.List.{list_any};
 ghost use Rattle.mls_replay.specs.declared.command.CommandFault.TheVariants.{Memory};
 ghost use Rattle.mls_replay.specs.declared.question_fault.QuestionFault.TheVariants.{Files};
 ghost use Rattle.mls_spans.specs.Asked.{is_asked as is_asked_for};
-ghost use Rattle.mls_spans.specs.EntryText.{rows_lent};
+ghost use Rattle.mls_rows.specs.Times.{rows_lent};
 ghost use Rattle.mls_spans.specs.Spans.{spans_over};
-ghost use Rattle.mls_spans.specs.Listings.{IsListing, ListsOver, ListsHeld, RefusesNames, RefusesHeld};
+ghost use Rattle.mls_spans.specs.Listings.{IsListing, ListsFrom, ListsHeld, ListsOver, RefusesFrom, RefusesHeld};
+ghost use Rattle.mls_spans.specs.Listings.{RefusesNames};
 
 use crate::choosing::{Choice, Words, choose, is_asked};
 use crate::following::spans_from;
-use crate::held_lines::lines;
+use crate::held_rows::spans_written;
 use crate::span::Span;
 use mls_lines::Names;
 use mls_marks::Marks;
 use mls_monitor::{Entry, Start};
 use mls_replay::{QuestionFault, Replay, replay_at};
-use mls_wording::Answer;
+use mls_rows::{Form, Listing};
 use std::alloc::{AllocError, Global};
 
 /// Whether a span is asked for.
@@ -48,65 +49,91 @@ fn spans_of(alloc: Global, start: &Start, entries: &[Entry]) -> Result<Vec<Span>
 /// `Files` with `Memory` where an allocation failed.
 pub fn list_spans(
     alloc: Global,
+    form: Form,
     names: &Names,
     start: &Start,
     entries: &[Entry],
     marks: Option<&Marks>,
     choice: &Choice,
-) -> Result<Answer, QuestionFault>
+) -> Result<Listing, QuestionFault>
     ensures ok { IfOk result
-        (λ answer. IsListing names.now (rows_lent marks.entry) start.now entries.now choice.now answer) }
+        (λ listing. IsListing form names.now (rows_lent marks.entry) start.now entries.now choice.now listing) }
     ensures fault { IfErr result (λ fault. fault ≡ Files Memory) }
 {
     let spans = spans_of(alloc, start, entries)?;
-    let text = lines(alloc, names, marks, choice, &spans);
+    let bytes = spans_written(alloc, form, names, marks, choice, &spans);
     let is_positive = is_any_asked(choice, &spans);
     drop(spans);
-    let text = text?;
-    Ok(Answer { text, is_positive })
+    let bytes = bytes?;
+    Ok(Listing { bytes, is_positive })
 }
 
 /// The spans of the accesses of a replay that a filter asks for.
 #[tactic(auto, using(crate::proofs::Listed::lists_over, crate::proofs::Listed::refuses_memory))]
 fn list_replay(
     alloc: Global,
+    form: Form,
     replay: &Replay,
     marks: Option<&Marks>,
     words: &Words<'_>,
-) -> Result<Answer, QuestionFault>
-    ensures ok { IfOk result (λ answer. ListsOver replay.now (rows_lent marks.entry) words.now answer) }
+) -> Result<Listing, QuestionFault>
+    ensures ok { IfOk result (λ listing. ListsOver form replay.now (rows_lent marks.entry) words.now listing) }
     ensures fault { IfErr result (λ fault. RefusesNames replay.now.names words.now fault) }
 {
     let names = replay.names();
     let start = replay.start();
     let entries = replay.entries();
     match choose(names, words) {
-        Ok(choice) => list_spans(alloc, names, start, entries, marks, &choice),
+        Ok(choice) => list_spans(alloc, form, names, start, entries, marks, &choice),
         Err(fault) => Err(fault),
     }
 }
 
-/// The spans of states in which an access is held over a journal, as long as they are, a line each: those that a filter
-/// asks for. Where there are marks the times of entries are told. The answer is a positive one where there is such a
-/// span.
+/// The same, where the replay has the first of the states that are asked about.
+#[tactic(auto, using(crate::proofs::Listed::lists_from, crate::proofs::Listed::refuses_from))]
+fn list_from(
+    alloc: Global,
+    form: Form,
+    replay: &Replay,
+    marks: Option<&Marks>,
+    words: &Words<'_>,
+) -> Result<Listing, QuestionFault>
+    ensures ok { IfOk result (λ listing. ListsFrom form replay.now (rows_lent marks.entry) words.now listing) }
+    ensures fault { IfErr result (λ fault. RefusesFrom replay.now words.now fault) }
+{
+    match words.states.begin_in(replay.entries()) {
+        Ok(()) => list_replay(alloc, form, replay, marks, words),
+        Err(fault) => Err(fault),
+    }
+}
+
+/// The spans of states in which an access is held over a journal, as long as they are, a row each in this form: those
+/// that a filter asks for. Where there are marks the times of entries are told. The answer is a positive one where there
+/// is such a span.
 ///
 /// # Errors
 /// - `Files` as `mls replay` of these files is refused, and with `Memory` where an allocation failed.
 /// - `AtMost` with the number of entries, where the number of the first state that is asked about is above it.
 /// - `Subject` where the filter's word for a subject names none, else `Object` where that for an object names none.
+#[tactic(auto, using(crate::proofs::Listed::whole_refuses))]
 pub fn list_held(
     alloc: Global,
+    form: Form,
     start: &[u8],
     journal: &[u8],
     marks: Option<&Marks>,
     words: &Words<'_>,
-) -> Result<Answer, QuestionFault>
+) -> Result<Listing, QuestionFault>
     ensures ok { IfOk result
-        (λ answer. ListsHeld start.now journal.now (rows_lent marks.entry) words.now answer) }
+        (λ listing. ListsHeld form start.now journal.now (rows_lent marks.entry) words.now listing) }
     ensures fault { IfErr result (λ fault. RefusesHeld start.now journal.now words.now fault) }
 {
-    let replay = replay_at(alloc, start, journal, Some(words.states.first))?;
-    let answer = list_replay(alloc, &replay, marks, words);
-    drop(replay);
-    answer
+    match replay_at(alloc, start, journal, None) {
+        Ok(replay) => {
+            let listing = list_from(alloc, form, &replay, marks, words);
+            drop(replay);
+            listing
+        }
+        Err(fault) => Err(fault),
+    }
 }

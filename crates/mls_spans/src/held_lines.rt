@@ -1,9 +1,8 @@
 //! The lines of spans in which an access is held.
-ghost use Rattle.std.specs.Prelude.{◌≡◌, ◌++◌, string_bytes, IfOk, OnOk};
-ghost use Rattle.mls_spans.specs.EntryText.{rows_lent};
-ghost use Rattle.mls_spans.specs.Lines.{access_text, end_text, span_line, line_where, lines_text};
+ghost use Rattle.std.specs.Prelude.{◌≡◌, ◌++◌, string_bytes, OnOk};
+ghost use Rattle.mls_rows.specs.Times.{rows_lent};
+ghost use Rattle.mls_spans.specs.Lines.{access_text, end_text, span_line};
 
-use crate::choosing::{Choice, is_asked};
 use crate::entry_text::{push_begin, push_entry};
 use crate::span::{Ending, Span};
 use mls_lines::Names;
@@ -11,7 +10,7 @@ use mls_marks::Marks;
 use mls_requests::mode_word;
 use mls_tables::{Mode, ObjectId, SubjectId};
 use mls_wording::{push_object, push_subject};
-use std::alloc::{AllocError, Global};
+use std::alloc::AllocError;
 
 /// Appends an access: `SUBJECT MODE OBJECT`.
 pub(crate) fn push_access(
@@ -52,7 +51,7 @@ fn push_end(
 }
 
 /// Appends the line of a span.
-fn push_line(
+pub(crate) fn push_span(
     text: &mut String,
     names: &Names,
     marks: Option<&Marks>,
@@ -67,39 +66,4 @@ fn push_line(
     push_end(text, marks, &span.ended)?;
     text.push_str("\n")?;
     Ok(())
-}
-
-/// Appends the line of a span, where it is asked for.
-fn push_line_where(
-    text: &mut String,
-    names: &Names,
-    marks: Option<&Marks>,
-    choice: &Choice,
-    span: &Span,
-) -> Result<(), AllocError>
-    ensures { OnOk result (string_bytes text.new
-        ≡ string_bytes text.old ++ line_where names.now (rows_lent marks.entry) choice.now span.now) }
-{
-    if is_asked(choice, span) {
-        push_line(text, names, marks, span)?;
-    }
-    Ok(())
-}
-
-/// The lines of the spans that are asked for, with times where there are marks.
-pub(crate) fn lines(
-    alloc: Global,
-    names: &Names,
-    marks: Option<&Marks>,
-    choice: &Choice,
-    spans: &[Span],
-) -> Result<String, AllocError>
-    ensures { IfOk result (λ text. string_bytes text
-        ≡ lines_text names.now (rows_lent marks.entry) choice.now spans.now) }
-{
-    let mut text = String::new(alloc);
-    for span in spans {
-        push_line_where(&mut text, names, marks, choice, span)?;
-    }
-    Ok(text)
 }

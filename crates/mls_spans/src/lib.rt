@@ -2,13 +2,16 @@
 #![tactic(auto)]
 
 mod choosing;
+mod edges;
 mod entry_text;
 mod ever;
 mod ever_lines;
+mod ever_rows;
 mod following;
 mod granting;
 mod held;
 mod held_lines;
+mod held_rows;
 mod opening;
 mod permissions;
 mod reach;
@@ -22,6 +25,7 @@ mod turning;
 mod turns_over;
 mod usage;
 mod usage_lines;
+mod usage_rows;
 mod uses;
 mod using;
 mod window;

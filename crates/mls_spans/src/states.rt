@@ -1,10 +1,12 @@
 //! Which states are asked about.
-ghost use Rattle.std.specs.Prelude.{◌≡◌, Some};
+ghost use Rattle.std.specs.Prelude.{◌≡◌, ◌≤◌, Some, length, IfErr, OnOk};
 ghost use Rattle.mls_spans.specs.Asked.{state_before, state_after, first_state, is_up_to, meets};
-ghost use Rattle.mls_spans.specs.Asked.{has_window, is_some_state};
+ghost use Rattle.mls_spans.specs.Asked.{IsBehind, has_window, is_some_state};
 
 use crate::span::Span;
 use crate::window::Window;
+use mls_replay::QuestionFault;
+use mls_requests::Entry;
 
 /// The states that are asked about, by their numbers: state N is the one before entry N, and the last one is behind all
 /// entries.
@@ -76,6 +78,21 @@ impl States {
             None => true,
         };
         is_begun && is_late
+    }
+
+    /// Looks whether entries lead to the first of them.
+    ///
+    /// # Errors
+    /// `AtMost` with the number of entries, where they don't.
+    pub fn begin_in(&self, entries: &[Entry]) -> Result<(), QuestionFault>
+        ensures ok { OnOk result (self.now.first ≤ length entries.now) }
+        ensures fault { IfErr result (λ fault. IsBehind self.now.first entries.now fault) }
+    {
+        let many = entries.len() as u64;
+        if self.first > many {
+            return Err(QuestionFault::AtMost(many));
+        }
+        Ok(())
     }
 
     /// Whether there is one of them.

@@ -3,7 +3,7 @@ ghost use Rattle.std.specs.Prelude.{◌≡◌, drop as dropped, IfOk, IfErr, Som
 ghost use Rattle.mls_replay.specs.Replays.{RefusesAt};
 ghost use Rattle.mls_replay.specs.declared.command.CommandFault.TheVariants.{Memory};
 ghost use Rattle.mls_replay.specs.declared.question_fault.QuestionFault.TheVariants.{Files};
-ghost use Rattle.mls_spans.specs.EntryText.{rows_lent};
+ghost use Rattle.mls_rows.specs.Times.{rows_lent};
 ghost use Rattle.mls_spans.specs.Uses.{usages as usages_in};
 ghost use Rattle.mls_spans.specs.UsageListings.{IsUsage, ListsUsage, up_to, usages_seen};
 ghost use Rattle.mls_spans.specs.UsageListings.{entries_between as between};
@@ -11,13 +11,13 @@ ghost use Rattle.mls_spans.specs.UsageListings.{entries_between as between};
 use crate::states::States;
 use crate::tallying::tally_over;
 use crate::usage::{Usage, usages_by};
-use crate::usage_lines::{count_unused, usage_lines};
+use crate::usage_rows::{count_unused, usages_written};
 use mls_lines::Names;
 use mls_marks::Marks;
 use mls_monitor::Entry;
 use mls_replay::{QuestionFault, Replay, replay_at};
+use mls_rows::{Form, Listing};
 use mls_rules::State;
-use mls_wording::Answer;
 use std::alloc::{AllocError, Global};
 
 /// The entries below a number, where one is told, or else all.
@@ -74,16 +74,17 @@ fn usages_of(alloc: Global, replay: &Replay, states: States) -> Result<Vec<Usage
 /// The answer that lists permissions.
 fn list_permissions(
     alloc: Global,
+    form: Form,
     names: &Names,
     marks: Option<&Marks>,
     usages: &[Usage],
-) -> Result<Answer, AllocError>
-    ensures { IfOk result (λ answer. IsUsage names.now (rows_lent marks.entry) usages.now answer) }
+) -> Result<Listing, AllocError>
+    ensures { IfOk result (λ listing. IsUsage form names.now (rows_lent marks.entry) usages.now listing) }
 {
     let unused = count_unused(usages);
-    let text = usage_lines(alloc, names, marks, usages, unused)?;
-    Ok(Answer {
-        text,
+    let bytes = usages_written(alloc, form, names, marks, usages, unused)?;
+    Ok(Listing {
+        bytes,
         is_positive: unused == 0,
     })
 }
@@ -95,18 +96,19 @@ fn list_permissions(
 /// `AllocError` where an allocation failed.
 pub fn list_usages(
     alloc: Global,
+    form: Form,
     names: &Names,
     marks: Option<&Marks>,
     first: &State,
     entries: &[Entry],
-) -> Result<Answer, AllocError>
+) -> Result<Listing, AllocError>
     ensures { IfOk result
-        (λ answer. IsUsage names.now (rows_lent marks.entry) (usages_in first.now entries.now) answer) }
+        (λ listing. IsUsage form names.now (rows_lent marks.entry) (usages_in first.now entries.now) listing) }
 {
     let usages = usages_over(alloc, first, entries)?;
-    let answer = list_permissions(alloc, names, marks, &usages);
+    let listing = list_permissions(alloc, form, names, marks, &usages);
     drop(usages);
-    answer
+    listing
 }
 
 /// The answer that lists the permissions of some states of a replay, by these names; where there are marks, with times.
@@ -116,56 +118,59 @@ pub fn list_usages(
 /// `AllocError` where an allocation failed.
 pub fn list_usages_of(
     alloc: Global,
+    form: Form,
     names: &Names,
     marks: Option<&Marks>,
     replay: &Replay,
     states: States,
-) -> Result<Answer, AllocError>
+) -> Result<Listing, AllocError>
     ensures { IfOk result
-        (λ answer. IsUsage names.now (rows_lent marks.entry) (usages_seen replay.now states) answer) }
+        (λ listing. IsUsage form names.now (rows_lent marks.entry) (usages_seen replay.now states) listing) }
 {
     let usages = usages_of(alloc, replay, states)?;
-    let answer = list_permissions(alloc, names, marks, &usages);
+    let listing = list_permissions(alloc, form, names, marks, &usages);
     drop(usages);
-    answer
+    listing
 }
 
 /// The answer that lists the permissions of some states of a replay, by the names of its start.
 fn list_replay(
     alloc: Global,
+    form: Form,
     replay: &Replay,
     marks: Option<&Marks>,
     states: States,
-) -> Result<Answer, QuestionFault>
-    ensures ok { IfOk result (λ answer.
-        IsUsage replay.now.names (rows_lent marks.entry) (usages_seen replay.now states) answer) }
+) -> Result<Listing, QuestionFault>
+    ensures ok { IfOk result (λ listing.
+        IsUsage form replay.now.names (rows_lent marks.entry) (usages_seen replay.now states) listing) }
     ensures fault { IfErr result (λ fault. fault ≡ Files Memory) }
 {
-    let answer = list_usages_of(alloc, replay.names(), marks, replay, states)?;
-    Ok(answer)
+    let listing = list_usages_of(alloc, form, replay.names(), marks, replay, states)?;
+    Ok(listing)
 }
 
-/// How the permissions over a journal were used, a line each: of each permission of one of some states, how many of its
-/// gets were granted and how many were denied while it was there, and which was the last; what the first of the states
-/// has as a current access counts as one granted. Where there are marks the time of the last is told. The answer is a
-/// positive one where each was granted.
+/// How the permissions over a journal were used, a row each in this form: of each permission of one of some states, how
+/// many of its gets were granted and how many were denied while it was there, and which was the last; what the first of
+/// the states has as a current access counts as one granted. Where there are marks the time of the last is told. The
+/// answer is a positive one where each was granted.
 ///
 /// # Errors
 /// - `Files` as `mls replay` of these files is refused, and with `Memory` where an allocation failed.
 /// - `AtMost` with the number of entries, where the number of the first state that is asked about is above it.
 pub fn list_usage(
     alloc: Global,
+    form: Form,
     start: &[u8],
     journal: &[u8],
     marks: Option<&Marks>,
     states: States,
-) -> Result<Answer, QuestionFault>
+) -> Result<Listing, QuestionFault>
     ensures ok { IfOk result
-        (λ answer. ListsUsage start.now journal.now (rows_lent marks.entry) states answer) }
+        (λ listing. ListsUsage form start.now journal.now (rows_lent marks.entry) states listing) }
     ensures fault { IfErr result (λ fault. RefusesAt start.now journal.now (Some states.first) fault) }
 {
     let replay = replay_at(alloc, start, journal, Some(states.first))?;
-    let answer = list_replay(alloc, &replay, marks, states);
+    let listing = list_replay(alloc, form, &replay, marks, states);
     drop(replay);
-    answer
+    listing
 }

@@ -1,6 +1,7 @@
 //! What a person at a terminal is told while a command works for more than a second, and how its answer is printed.
 ghost use Rattle.std.specs.Prelude.{◌≡◌};
 
+use crate::objects::Objects;
 use crate::output::{NO_MEMORY, print, refused};
 use mls_json::{Lines, objects};
 use std::io::IsTerminal;
@@ -27,13 +28,13 @@ pub struct Progress<'a> {
     read: usize,
     /// Whether a line stands on the terminal.
     is_shown: bool,
-    /// The lines that are printed as JSON objects, where this is asked for.
-    lines: Option<Lines>,
+    /// Which JSON objects are printed, where they are asked for.
+    objects: Option<Objects>,
 }
 
 impl<'a> Progress<'a> {
-    /// The progress of work that begins now, whose lines are printed as JSON objects where they are named.
-    pub fn new(rt: &'a HostRuntime, lines: Option<Lines>) -> Progress<'a> {
+    /// The progress of work that begins now, which prints JSON objects where they are named.
+    pub fn new(rt: &'a HostRuntime, objects: Option<Objects>) -> Progress<'a> {
         let begun = if rt.stderr().is_terminal() {
             Instant::now(rt).ok()
         } else {
@@ -44,7 +45,7 @@ impl<'a> Progress<'a> {
             begun,
             read: 0,
             is_shown: false,
-            lines,
+            objects,
         }
     }
 
@@ -95,14 +96,14 @@ impl<'a> Progress<'a> {
 
     /// Whether JSON objects are printed.
     pub fn is_json(&self) -> bool {
-        self.lines.is_some()
+        self.objects.is_some()
     }
 
-    /// Ends the work, and prints the text that it came to, or the JSON objects that tell it.
+    /// Ends the work, and prints the answer that it came to, or the JSON objects that tell its lines.
     pub fn print(&mut self, text: &[u8]) -> ExitCode {
         self.end();
-        match (self.lines, str::from_utf8(text)) {
-            (Some(lines), Ok(text)) => print_objects(self.rt, lines, text),
+        match (self.objects, str::from_utf8(text)) {
+            (Some(Objects::Lines(lines)), Ok(text)) => print_objects(self.rt, lines, text),
             _ => print(self.rt, text),
         }
     }

@@ -5,8 +5,6 @@ pub(crate) const FROM: Part = Part::Told("from", Kind::Named("from_name"), Mark:
 
 pub(crate) const MODE: Part = Part::Told("mode", Kind::Text, Mark::Nothing);
 
-pub(crate) const MODE_COLON: Part = Part::Told("mode", Kind::Text, Mark::Colon);
-
 pub(crate) const OBJECT: Part = Part::Told("object", Kind::Named("object_name"), Mark::Nothing);
 
 pub(crate) const OBJECT_COLON: Part = Part::Told("object", Kind::Named("object_name"), Mark::Colon);

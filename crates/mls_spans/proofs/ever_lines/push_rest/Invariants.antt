@@ -1,7 +1,7 @@
 use Rattle.std.proofs.Common.{◌≡◌, ◌++◌, take}
 use Rattle.std.specs.Prelude.{string_bytes}
 use Rattle.std.specs.List.{flat_map}
-use Rattle.mls_spans.specs.EntryText.{rows_lent}
+use Rattle.mls_rows.specs.Times.{rows_lent}
 use Rattle.mls_spans.specs.EverLines.{next_text}
 use Rattle.mls_spans.proofs.ever_lines.push_rest.Given as goal
 

@@ -1,6 +1,6 @@
 use Rattle.std.proofs.Common.{◌≡◌, ◌≤◌, length, filter, take}
 use Rattle.mls_spans.specs.Uses.{is_unused}
-use Rattle.mls_spans.proofs.usage_lines.count_unused.Given as goal
+use Rattle.mls_spans.proofs.usage_rows.count_unused.Given as goal
 
 -- the permissions so far that were never granted are counted
 abbrev pub invariant-loop-usage : goal.invariant-loop-usage
