@@ -69,6 +69,6 @@ impl Compared for EntryRow {
         write_kind(writer)?;
         write_place(writer, self.entry.number)?;
         write_asked(alloc, writer, names.0, &self.entry.request)?;
-        write_replies(writer, self.entry.reply, self.second)
+        write_replies(writer, &self.entry.reply, &self.second)
     }
 }

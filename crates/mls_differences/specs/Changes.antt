@@ -90,10 +90,13 @@ abbrev pub parent_text : Names → Option ℕ → List ℕ
 parent_text names None = codes "(none)"
 parent_text names (Some p) = name_at names.objects p
 
+-- Whether two parents have the same name, or both are none. (own)
+abbrev pub same_parent : Names → Names → Option ℕ → Option ℕ → Bool
+same_parent a b here there = bytes_eq (parent_text a here) (parent_text b there)
+
 -- The row of the parents of an object in two starts, where they don't have the same name. (own)
 abbrev pub parent_rows : Names → Names → ℕ → Option ℕ → Option ℕ → List Change
-parent_rows a b o here there =
-    row_unless (bytes_eq (parent_text a here) (parent_text b there)) (change.Parent o here there)
+parent_rows a b o here there = row_unless (same_parent a b here there) (change.Parent o here there)
 
 -- The rows of an object of one state and an object of another: its parent, by name, and its labels. (own)
 abbrev pub object_changes : Names → Names → State → State → ℕ → ℕ → List Change

@@ -58,6 +58,6 @@ impl Compared for GetRow {
         let access = (self.subject, self.object, self.mode);
         write_get(writer)?;
         write_access(writer, names.0, access)?;
-        write_replies(writer, self.first, self.second)
+        write_replies(writer, &self.first, &self.second)
     }
 }

@@ -3,7 +3,7 @@ ghost use Rattle.std.specs.Prelude.{◌≡◌, ◌++◌, IsTrue, OnOk};
 ghost use Rattle.std.specs.FinMap as map;
 ghost use Rattle.std.specs.List.{flat_map};
 ghost use Rattle.mls_state.specs.State.{is_active};
-ghost use Rattle.mls_differences.specs.Changes.{integrity_rows, object_changes, object_rows, parent_rows};
+ghost use Rattle.mls_differences.specs.Changes.{integrity_rows, object_changes, object_rows, parent_rows, same_parent};
 ghost use Rattle.mls_differences.specs.Changes.{security_rows};
 
 use crate::alike::{push_integrity, push_security};
@@ -16,6 +16,19 @@ use mls_lines::Names;
 use mls_rules::State;
 use mls_tables::ObjectId;
 use std::alloc::{AllocError, Global};
+
+/// Whether two parents have the same name, or both are none.
+fn is_same_parent(
+    names: (&Names, &Names),
+    here: &Option<ObjectId>,
+    there: &Option<ObjectId>,
+) -> bool
+    ensures { result ≡ same_parent names.entry.0.now names.entry.1.now here.now there.now }
+{
+    let first = parent_text(names.0, *here);
+    let second = parent_text(names.1, *there);
+    is_same(first, second)
+}
 
 /// Adds the row of the parents of an object of one state and an object of another, where they don't have the same name.
 fn push_parent(
@@ -32,8 +45,7 @@ fn push_parent(
 {
     let here = states.0.parent(o);
     let there = states.1.parent(p);
-    let same = is_same(parent_text(names.0, here), parent_text(names.1, there));
-    if !same {
+    if !is_same_parent(names, &here, &there) {
         rows.push(Change::Parent(o, here, there))?;
     }
     Ok(())

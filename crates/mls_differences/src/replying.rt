@@ -60,26 +60,26 @@ fn write_reason(writer: &mut Writer, reason: Reason) -> Result<(), AllocError>
 }
 
 /// Writes what a reply tells besides its word.
-fn write_told(writer: &mut Writer, reply: Reply) -> Result<(), AllocError>
-    ensures { Adds result writer.old writer.new (told_members reply) }
+fn write_told(writer: &mut Writer, reply: &Reply) -> Result<(), AllocError>
+    ensures { Adds result writer.old writer.new (told_members reply.now) }
 {
     match reply {
         Reply::Created(o) => write_made(writer, u64::from(o.number())),
-        Reply::No(reason) => write_reason(writer, reason),
+        Reply::No(reason) => write_reason(writer, *reason),
         Reply::Yes | Reply::Undefined => Ok(()),
     }
 }
 
 /// Writes the word of a reply.
-fn write_word(writer: &mut Writer, reply: Reply) -> Result<(), AllocError>
-    ensures { Adds result writer.old writer.new (text_member (codes "reply") (reply_word (word_of_reply reply))) }
+fn write_word(writer: &mut Writer, reply: &Reply) -> Result<(), AllocError>
+    ensures { Adds result writer.old writer.new (text_member (codes "reply") (reply_word (word_of_reply reply.now))) }
 {
-    write_text(writer, "reply", ReplyWord::of(reply).word())
+    write_text(writer, "reply", ReplyWord::of(*reply).word())
 }
 
 /// Writes a member that is a reply.
-fn write_reply(writer: &mut Writer, at: &str, reply: Reply) -> Result<(), AllocError>
-    ensures { Adds result writer.old writer.new (reply_member at.now reply) }
+fn write_reply(writer: &mut Writer, at: &str, reply: &Reply) -> Result<(), AllocError>
+    ensures { Adds result writer.old writer.new (reply_member at.now reply.now) }
 {
     writer.key(at)?;
     writer.begin_object()?;
@@ -92,11 +92,11 @@ fn write_reply(writer: &mut Writer, at: &str, reply: Reply) -> Result<(), AllocE
 fn write_two_replies(
     writer: &mut Writer,
     keys: (&str, &str),
-    first: Reply,
-    second: Reply,
+    first: &Reply,
+    second: &Reply,
 ) -> Result<(), AllocError>
     ensures { Adds result writer.old writer.new
-        (both_replies keys.entry.0.now keys.entry.1.now first second) }
+        (both_replies keys.entry.0.now keys.entry.1.now first.now second.now) }
 {
     write_reply(writer, keys.0, first)?;
     write_reply(writer, keys.1, second)
@@ -106,8 +106,8 @@ fn write_two_replies(
 ///
 /// # Errors
 /// `AllocError` where an allocation failed.
-pub fn write_replies(writer: &mut Writer, first: Reply, second: Reply) -> Result<(), AllocError>
-    ensures { Adds result writer.old writer.new (replies_members first second) }
+pub fn write_replies(writer: &mut Writer, first: &Reply, second: &Reply) -> Result<(), AllocError>
+    ensures { Adds result writer.old writer.new (replies_members first.now second.now) }
 {
     write_two_replies(writer, ("first", "second"), first, second)
 }
