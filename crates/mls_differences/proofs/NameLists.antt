@@ -3,7 +3,8 @@ use Rattle.std.proofs.Common.{◌≡◌, ℕ, ◌+◌, ◌<◌, ◌≤◌, Bool,
 use Rattle.std.proofs.lemmas.List.{append_assoc, drop_more, drop_all}
 use Rattle.std.proofs.lemmas.List.Concat.{flat_map-cons}
 use Rattle.std.specs.Prelude.{◌||◌, filter, is_some, option_map}
-use Rattle.std.specs.List.{flat_map}
+use Rattle.std.proofs.lemmas.Option.{slice_get-map}
+use Rattle.std.specs.List.{flat_map, slice_get}
 use Rattle.std.specs.Str.{bytes_eq}
 use Rattle.mls_labels.specs.LabelText.{words_after}
 use Rattle.mls_labels.specs.Reading.{place_of}
@@ -79,3 +80,7 @@ common_strings f others (x ∷ xs) =
           ≡ map string (cond b (f x ∷ filter (is_among others) (map f xs)) (filter (is_among others) (map f xs)))
       by_name true = refl
       by_name false = refl
+
+-- the name in a place
+pub named_place : {X : Type 0} (f : X → List ℕ) (xs : List X) (n : ℕ) → slice_get (map f xs) n ≡ option_map f (slice_get xs n)
+named_place f xs n = slice_get-map f xs n

@@ -16,7 +16,7 @@ use Rattle.mls_differences.specs.declared.change.Change.{Change}
 use Rattle.mls_differences.specs.declared.change.Change.TheVariants as change
 use Rattle.mls_differences.specs.declared.change.Part.{Part}
 use Rattle.mls_differences.specs.declared.change.Part.TheVariants as part
-use Rattle.mls_differences.specs.declared.thing.Thing.TheVariants.{Subject, Object}
+use Rattle.mls_differences.specs.declared.change.Thing.TheVariants.{Subject, Object}
 
 -- The word for which security label it is. (own)
 abbrev pub part_word : Part → List ℕ

@@ -19,8 +19,8 @@ use Rattle.mls_differences.specs.declared.change.Part.TheVariants as part
 use Rattle.mls_differences.specs.declared.shared.Shared.{Shared}
 use Rattle.mls_differences.specs.declared.side.Area.{Area}
 use Rattle.mls_differences.specs.declared.side.Area.TheVariants as area
-use Rattle.mls_differences.specs.declared.thing.Thing.{Thing}
-use Rattle.mls_differences.specs.declared.thing.Thing.TheVariants.{Subject, Object}
+use Rattle.mls_differences.specs.declared.change.Thing.{Thing}
+use Rattle.mls_differences.specs.declared.change.Thing.TheVariants.{Subject, Object}
 
 -- Whether two profiles are the same. (own)
 abbrev pub same_profile : Profile → Profile → Bool

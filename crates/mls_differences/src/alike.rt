@@ -3,8 +3,7 @@ ghost use Rattle.std.specs.Prelude.{◌≡◌, ◌++◌, IfOk, OnOk, Some};
 ghost use Rattle.mls_differences.specs.Alike.{carried_label, is_like, label_read};
 ghost use Rattle.mls_differences.specs.Changes.{integrity_rows, security_rows};
 
-use crate::change::{Change, Part};
-use crate::thing::Thing;
+use crate::change::{Change, Part, Thing};
 use mls_labels::{IntLabel, Label, LabelFault, Scheme, SecLabel};
 use mls_lines::Names;
 use std::alloc::{AllocError, Global};

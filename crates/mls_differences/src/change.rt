@@ -3,10 +3,16 @@ ghost use Rattle.std.specs.Prelude.{◌≡◌};
 ghost use Rattle.mls_differences.specs.ChangeForms.{change_word, part_word};
 
 use crate::side::Area;
-use crate::thing::Thing;
 use mls_labels::{IntLabel, SecLabel};
 use mls_tables::{ObjectId, SubjectId};
 use mls_tree::Profile;
+
+/// A subject or an object, by its number in the first of two starts.
+#[derive(Clone, Copy)]
+pub(crate) enum Thing {
+    Subject(SubjectId),
+    Object(ObjectId),
+}
 
 /// Which security label of a subject or an object it is.
 #[derive(Clone, Copy)]

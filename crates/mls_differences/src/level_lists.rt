@@ -5,7 +5,7 @@ ghost use Rattle.json.specs.Token.{string};
 ghost use Rattle.mls_rows.specs.Members.{Adds, text_member};
 ghost use Rattle.mls_differences.specs.ChangeForms.{common_member, common_members, levels_members};
 ghost use Rattle.mls_differences.specs.Counterparts.{is_among};
-ghost use Rattle.mls_differences.specs.Sides.{area_word, levels_of};
+ghost use Rattle.mls_differences.specs.Sides.{area_word, common, levels_of};
 
 use crate::name_lists::is_among;
 use crate::side::Area;
@@ -37,8 +37,15 @@ fn write_names(writer: &mut Writer, names: &[String], others: &[String]) -> Resu
     Ok(())
 }
 
+/// Writes those of some names that are among others, in their order.
+fn write_shared(writer: &mut Writer, names: &[String], others: &[String]) -> Result<(), AllocError>
+    ensures { Adds result writer.old writer.new
+        (map string (common (map string_bytes names.now) (map string_bytes others.now))) }
+{
+    write_names(writer, names, others)
+}
+
 /// Writes the list of those of some names that are among others.
-#[tactic(auto, using(crate::proofs::NameLists::common_strings))]
 fn write_common(
     writer: &mut Writer,
     at: &str,
@@ -50,7 +57,7 @@ fn write_common(
 {
     writer.key(at)?;
     writer.begin_array()?;
-    write_names(writer, names, others)?;
+    write_shared(writer, names, others)?;
     writer.end_array()
 }
 

@@ -16,6 +16,7 @@ mod levels;
 mod name_lists;
 mod objects;
 mod only;
+mod only_listed;
 mod replying;
 mod sections;
 mod shared;

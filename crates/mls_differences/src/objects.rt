@@ -7,11 +7,10 @@ ghost use Rattle.mls_differences.specs.Changes.{integrity_rows, object_changes, 
 ghost use Rattle.mls_differences.specs.Changes.{security_rows};
 
 use crate::alike::{push_integrity, push_security};
-use crate::change::{Change, Part};
+use crate::change::{Change, Part, Thing};
 use crate::change_lines::parent_text;
 use crate::name_lists::is_same;
 use crate::shared::Shared;
-use crate::thing::Thing;
 use mls_lines::Names;
 use mls_rules::State;
 use mls_tables::ObjectId;
@@ -30,6 +29,24 @@ fn is_same_parent(
     is_same(first, second)
 }
 
+/// Adds the row of the parents of an object, where they don't have the same name.
+fn push_parents(
+    rows: &mut Vec<Change>,
+    names: (&Names, &Names),
+    o: ObjectId,
+    here: Option<ObjectId>,
+    there: Option<ObjectId>,
+) -> Result<(), AllocError>
+    ensures { OnOk result (rows.new.items
+        ≡ rows.old.items ++ parent_rows names.entry.0.now names.entry.1.now o here there) }
+{
+    let same = is_same_parent(names, &here, &there);
+    if !same {
+        rows.push(Change::Parent(o, here, there))?;
+    }
+    Ok(())
+}
+
 /// Adds the row of the parents of an object of one state and an object of another, where they don't have the same name.
 fn push_parent(
     rows: &mut Vec<Change>,
@@ -45,10 +62,7 @@ fn push_parent(
 {
     let here = states.0.parent(o);
     let there = states.1.parent(p);
-    if !is_same_parent(names, &here, &there) {
-        rows.push(Change::Parent(o, here, there))?;
-    }
-    Ok(())
+    push_parents(rows, names, o, here, there)
 }
 
 /// Adds the row of the security labels of an object of one state and an object of another.

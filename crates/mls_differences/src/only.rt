@@ -1,33 +1,14 @@
 //! The names that only one of two starts has.
-ghost use Rattle.std.specs.Prelude.{◌≡◌, ◌++◌, map, slice_get, string_bytes, OnOk};
+ghost use Rattle.std.specs.Prelude.{◌≡◌, ◌++◌, slice_get, OnOk};
 ghost use Rattle.mls_tables.specs.declared.limits.TheConstants.{MAX_OBJECTS, MAX_SUBJECTS};
-ghost use Rattle.mls_differences.specs.Sides.{row_unless};
 ghost use Rattle.mls_differences.specs.Singles.{kind_rows, name_rows, names_rows, only_rows};
-ghost use Rattle.mls_differences.specs.declared.single.Single.TheVariants.{Name};
 
-use crate::name_lists::is_among;
+use crate::only_listed::{push_categories, push_levels, push_name};
 use crate::side::{Area, Side};
 use crate::single::{Kind, Single};
-use mls_labels::{MAX_CATEGORIES, MAX_LEVELS};
 use mls_lines::Names;
 use mls_tables::{MAX_OBJECTS, MAX_SUBJECTS, ObjectId, SubjectId};
 use std::alloc::{AllocError, Global};
-
-/// Adds the row of the name of a number, where it isn't found in the other start.
-fn push_name(
-    rows: &mut Vec<Single>,
-    side: Side,
-    kind: Kind,
-    n: u16,
-    is_found: bool,
-) -> Result<(), AllocError>
-    ensures { OnOk result (rows.new.items ≡ rows.old.items ++ row_unless is_found (Name side kind n)) }
-{
-    if !is_found {
-        rows.push(Single::Name(side, kind, n))?;
-    }
-    Ok(())
-}
 
 /// Adds the row of the subject of a number, where a start has it and the other hasn't.
 fn push_subject(
@@ -63,25 +44,6 @@ fn push_object(
     Ok(())
 }
 
-/// Adds the row of the name of a number in a list, where the other list hasn't got it.
-fn push_place(
-    rows: &mut Vec<Single>,
-    side: Side,
-    kind: Kind,
-    names: &[String],
-    others: &[String],
-    n: u16,
-) -> Result<(), AllocError>
-    ensures { OnOk result (rows.new.items ≡ rows.old.items
-        ++ name_rows side kind (map string_bytes others.now) n (slice_get (map string_bytes names.now) n)) }
-{
-    if let Some(name) = names.get(n as usize) {
-        let is_found = is_among(others, name.as_str());
-        push_name(rows, side, kind, n, is_found)?;
-    }
-    Ok(())
-}
-
 /// Adds the rows of the subjects that a start has and the other hasn't, by number.
 fn push_subjects(
     rows: &mut Vec<Single>,
@@ -112,82 +74,6 @@ fn push_objects(
         push_object(rows, side, names, others, n)?;
     }
     Ok(())
-}
-
-/// Adds the rows of the names of the numbers below a count that are in a list, and not in the other.
-fn push_places(
-    rows: &mut Vec<Single>,
-    side: Side,
-    kind: Kind,
-    names: &[String],
-    others: &[String],
-    count: u16,
-) -> Result<(), AllocError>
-    ensures { OnOk result (rows.new.items ≡ rows.old.items
-        ++ names_rows side kind (map string_bytes names.now) (map string_bytes others.now) count) }
-{
-    for n in 0..count {
-        push_place(rows, side, kind, names, others, n)?;
-    }
-    Ok(())
-}
-
-/// Adds the rows of the names that only one of two lists has, the first start's first.
-fn push_lists(
-    rows: &mut Vec<Single>,
-    kind: Kind,
-    here: &[String],
-    there: &[String],
-    count: u16,
-) -> Result<(), AllocError>
-    ensures { OnOk result (rows.new.items ≡ rows.old.items
-        ++ names_rows Side.First kind (map string_bytes here.now) (map string_bytes there.now) count
-        ++ names_rows Side.Second kind (map string_bytes there.now) (map string_bytes here.now) count) }
-{
-    push_places(rows, Side::First, kind, here, there, count)?;
-    push_places(rows, Side::Second, kind, there, here, count)
-}
-
-/// Adds the rows of the levels that only one of two schemes has, the first start's first.
-fn push_levels(
-    alloc: Global,
-    rows: &mut Vec<Single>,
-    names: (&Names, &Names),
-    area: Area,
-) -> Result<(), AllocError>
-    ensures { OnOk result (rows.new.items ≡ rows.old.items
-        ++ kind_rows names.entry.0.now names.entry.1.now (Kind.Level area)) }
-{
-    let here = area.levels(alloc, names.0)?;
-    let there = area.levels(alloc, names.1)?;
-    let pushed = push_lists(rows, Kind::Level(area), &here, &there, MAX_LEVELS as u16);
-    drop(there);
-    drop(here);
-    pushed
-}
-
-/// Adds the rows of the categories that only one of two schemes has, the first start's first.
-fn push_categories(
-    alloc: Global,
-    rows: &mut Vec<Single>,
-    names: (&Names, &Names),
-    area: Area,
-) -> Result<(), AllocError>
-    ensures { OnOk result (rows.new.items ≡ rows.old.items
-        ++ kind_rows names.entry.0.now names.entry.1.now (Kind.Category area)) }
-{
-    let here = area.categories(alloc, names.0)?;
-    let there = area.categories(alloc, names.1)?;
-    let pushed = push_lists(
-        rows,
-        Kind::Category(area),
-        &here,
-        &there,
-        MAX_CATEGORIES as u16,
-    );
-    drop(there);
-    drop(here);
-    pushed
 }
 
 /// Adds the rows of the subjects, then of the objects, that only one of two starts has, of each kind the first start's

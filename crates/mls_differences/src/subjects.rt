@@ -8,9 +8,8 @@ ghost use Rattle.mls_differences.specs.Changes.{integrity_rows, same_truth, secu
 ghost use Rattle.mls_differences.specs.Changes.{subject_rows, trusted_rows};
 
 use crate::alike::{push_integrity, push_security};
-use crate::change::{Change, Part};
+use crate::change::{Change, Part, Thing};
 use crate::shared::Shared;
-use crate::thing::Thing;
 use mls_lines::Names;
 use mls_rules::State;
 use mls_tables::SubjectId;
@@ -99,6 +98,21 @@ fn push_own(
     push_integrity(alloc, rows, names, Thing::Subject(s), here, there)
 }
 
+/// Adds the row of whether a subject is trusted, where it is in one start alone.
+fn push_trust(
+    rows: &mut Vec<Change>,
+    s: SubjectId,
+    here: bool,
+    there: bool,
+) -> Result<(), AllocError>
+    ensures { OnOk result (rows.new.items ≡ rows.old.items ++ trusted_rows s here there) }
+{
+    if !is_same_truth(here, there) {
+        rows.push(Change::Trusted(s, here, there))?;
+    }
+    Ok(())
+}
+
 /// Adds the row of whether a subject of one state and a subject of another are trusted, where only one of them is.
 fn push_trusted(
     rows: &mut Vec<Change>,
@@ -113,10 +127,7 @@ fn push_trusted(
 {
     let here = states.0.is_trusted(s);
     let there = states.1.is_trusted(t);
-    if !is_same_truth(here, there) {
-        rows.push(Change::Trusted(s, here, there))?;
-    }
-    Ok(())
+    push_trust(rows, s, here, there)
 }
 
 /// Adds the rows of a subject of one state and a subject of another.

@@ -1,9 +1,9 @@
 use Rattle.std.proofs.Common.{map, string_bytes}
 use Rattle.mls_differences.proofs.Growing.{names_more, names_none}
-use Rattle.mls_differences.proofs.only.push_places.Goals as goal
+use Rattle.mls_differences.proofs.only_listed.push_places.Goals as goal
 
-pub loop-n-entered : goal.loop-n-entered
-loop-n-entered c =
+pub loop-n-init : goal.loop-n-init
+loop-n-init c =
     names_none c.args.side c.args.kind (map string_bytes c.args.names.now) (map string_bytes c.args.others.now) c.args.rows.now.items
 
 pub loop-n-preserved : goal.loop-n-preserved

@@ -1,6 +1,6 @@
 use Rattle.std.proofs.Common.{◌≡◌, ◌++◌, map, string_bytes}
 use Rattle.mls_differences.specs.Singles.{names_rows}
-use Rattle.mls_differences.proofs.only.push_places.Given as goal
+use Rattle.mls_differences.proofs.only_listed.push_places.Given as goal
 
 -- the rows of the names so far are there
 abbrev pub invariant-loop-n : goal.invariant-loop-n
