@@ -33,7 +33,6 @@ fn lines_of(command: CommandName) -> Option<Lines> {
         CommandName::Verify => Some(Lines::Verify),
         CommandName::About => Some(Lines::About),
         CommandName::State => Some(Lines::State),
-        CommandName::Compare => Some(Lines::Compare),
         _ => None,
     }
 }
@@ -42,7 +41,7 @@ fn lines_of(command: CommandName) -> Option<Lines> {
 fn objects_of(command: CommandName) -> Option<Objects> {
     match command {
         CommandName::Ask | CommandName::Explain | CommandName::Who => Some(Objects::Rows),
-        CommandName::Powers | CommandName::Lint => Some(Objects::Rows),
+        CommandName::Powers | CommandName::Lint | CommandName::Compare => Some(Objects::Rows),
         CommandName::Held | CommandName::Usage => Some(Objects::Rows),
         _ => Some(Objects::Lines(lines_of(command)?)),
     }

@@ -7,8 +7,8 @@ use Rattle.std.proofs.lemmas.List.Elements.{All-nil, All-cons, All-append, All-s
 use Rattle.std.proofs.lemmas.List.FromFn.{get_or-map-range_with_len, length-map-range_with_len, map-range_with_len_more}
 use Rattle.mls_labels.specs.Scheme.{Scheme}
 use Rattle.mls_compare.specs.Carriers.{IsKept, AreKept}
-use Rattle.mls_compare.specs.Carrying.{carried_label}
-use Rattle.mls_compare.specs.Counterparts.{counterpart, counterparts, place_where}
+use Rattle.mls_differences.specs.Alike.{carried_label}
+use Rattle.mls_differences.specs.Counterparts.{counterpart, counterparts, place_where}
 use Rattle.mls_compare.specs.declared.carried.Carried.{Carried}
 
 -- a place more in which no label is kept

@@ -6,7 +6,7 @@ use Rattle.std.proofs.lemmas.Bool.Decides.{nat_tests}
 use Rattle.std.proofs.lemmas.List.{length-replicate, map-append, map-set, length-set, get_or-set_same, get_or-set_other}
 use Rattle.std.proofs.lemmas.List.Elements.{All-nil, All-cons, All-head, All-tail, All-set}
 use Rattle.mls_compare.specs.Carriers.{if_still, IsBefore, Holds, from_the_beginning}
-use Rattle.mls_compare.specs.Counterparts.{counterpart, counterparts}
+use Rattle.mls_differences.specs.Counterparts.{counterpart, counterparts}
 use Rattle.mls_compare.specs.Following.{other_than, without, after_create}
 use Rattle.mls_requests.specs.declared.reason.Reason.{Reason}
 use Rattle.mls_requests.specs.declared.reply.Reply.{Reply}

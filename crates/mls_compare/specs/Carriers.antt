@@ -3,8 +3,8 @@ use Rattle.std.specs.Prelude.{◌≡◌, ℕ, ◌<◌, nat_le, All, IfSome, List
 use Rattle.std.specs.Prelude.{if◌then◌else◌}
 use Rattle.mls_labels.specs.Scheme.{Scheme}
 use Rattle.mls_lines.specs.Names.{Names}
-use Rattle.mls_compare.specs.Carrying.{carried_label}
-use Rattle.mls_compare.specs.Counterparts.{counterpart}
+use Rattle.mls_differences.specs.Alike.{carried_label}
+use Rattle.mls_differences.specs.Counterparts.{counterpart}
 use Rattle.mls_compare.specs.declared.carried.Carried.{Carried}
 use Rattle.mls_compare.specs.declared.carrier.Carrier.{Carrier}
 use Rattle.mls_compare.specs.Following.{Reached}

@@ -1,27 +1,13 @@
 -- What a request of one start asks of another, where all that it names is carried over by name.
-use Rattle.std.specs.Prelude.{ℕ, List, Option, Some, None, Result, Ok, Err, option_map, get_or, if◌then◌else◌}
-use Rattle.mls_labels.specs.Label.{Label, has_label}
-use Rattle.mls_labels.specs.LabelText.{written}
-use Rattle.mls_labels.specs.Reading.{label_at}
-use Rattle.mls_labels.specs.Scheme.{Scheme, bounds_of}
-use Rattle.mls_labels.specs.declared.label_fault.LabelFault.{LabelFault}
+use Rattle.std.specs.Prelude.{ℕ, List, Option, Some, None, option_map, get_or}
+use Rattle.mls_labels.specs.Label.{Label}
 use Rattle.mls_requests.specs.declared.action.Action.{Action}
 use Rattle.mls_requests.specs.declared.action.Action.TheVariants.{Get, Release, Give, Rescind, Create, Delete}
 use Rattle.mls_requests.specs.declared.action.Action.TheVariants.{SubjectLevel, ObjectLevel}
 use Rattle.mls_requests.specs.declared.request.Request.{Request}
 use Rattle.mls_lines.specs.Names.{Names}
-use Rattle.mls_compare.specs.Counterparts.{counterpart}
-
--- A label that was read, where one was. (own)
-abbrev pub label_read : Result Label LabelFault → Option Label
-label_read (Ok l) = Some l
-label_read (Err fault) = None
-
--- The counterpart of a label: the label that has the names in the other scheme that this one has in its own, which is
--- the one that the other scheme reads from its text. (own)
-abbrev pub carried_label : Scheme → Scheme → Label → Option Label
-carried_label scheme other l =
-    if has_label (bounds_of scheme) l then label_read (label_at other (written scheme l)) else None
+use Rattle.mls_differences.specs.Alike.{carried_label}
+use Rattle.mls_differences.specs.Counterparts.{counterpart}
 
 -- Of two things that may lack: what is made of both, where both are there. (own)
 abbrev pub of_both : {A B C : Type 0} → (A → B → C) → Option A → Option B → Option C

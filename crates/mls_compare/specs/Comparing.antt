@@ -1,5 +1,5 @@
 -- What a comparison of start files tells, and why there is none.
-use Rattle.std.specs.Prelude.{◌≡◌, ◌==◌, ℕ, List, length, string_bytes, Option, Some, None}
+use Rattle.std.specs.Prelude.{◌≡◌, ℕ, List, Option, Some, None}
 use Rattle.mls_journal.specs.EntryText.{journal_text}
 use Rattle.mls_monitor.specs.Journal.{IsLegal}
 use Rattle.mls_requests.specs.declared.entry.Entry.{Entry}
@@ -10,41 +10,38 @@ use Rattle.mls_start_file.specs.Ties.{Loaded}
 use Rattle.mls_replay.specs.Loads.{RefusesLoad}
 use Rattle.mls_replay.specs.declared.command.CommandFault.TheVariants as refused
 use Rattle.mls_replay.specs.Replayed.{RefusesJournal}
-use Rattle.mls_wording.specs.declared.answer.Answer.{Answer}
-use Rattle.mls_compare.specs.Differences.{starts_text}
-use Rattle.mls_compare.specs.Following.{followed_text}
+use Rattle.mls_rows.specs.declared.form.Form.{Form}
+use Rattle.mls_rows.specs.declared.listing.Listing.{Listing}
+use Rattle.mls_differences.specs.Differences.{IsListing, starts_bytes}
+use Rattle.mls_compare.specs.Entries.{entries_bytes}
+use Rattle.mls_compare.specs.Following.{followed_rows}
 use Rattle.mls_compare.specs.declared.compare_fault.CompareFault.{CompareFault}
 use Rattle.mls_compare.specs.declared.compare_fault.CompareFault.TheVariants.{First, Second, Journal}
 
--- An answer has this text, and is a positive one where that is empty. (own)
-pub record IsAnswer (wanted : List ℕ) (answer : Answer) : Type 0 where
-  pub text : string_bytes answer.text ≡ wanted
-  pub positive : answer.is_positive ≡ (length wanted == 0)
-
--- The bytes of a journal are those of entries that are legal from a start with these names, and the answer tells which
--- of them another start answers otherwise. (own)
-pub record FollowsJournal (names : Names) (start : State) (b : Loaded) (journal : List ℕ) (answer : Answer)
-    : Type 0 where
+-- The bytes of a journal are those of entries that are legal from a start with these names, and the answer has, in a
+-- form, just those that another start answers otherwise. (own)
+pub record FollowsJournal (form : Form) (names : Names) (start : State) (b : Loaded) (journal : List ℕ)
+    (listing : Listing) : Type 0 where
   pub entries : List Entry
   pub text : journal ≡ journal_text entries
   pub legal : IsLegal start entries
-  pub answered : IsAnswer (followed_text names b entries) answer
+  pub answered : IsListing (entries_bytes form names (followed_rows names b entries)) listing
 
--- An answer tells how a start differs from another, which files of these words say: without a journal by their names
--- and openings, with one by the replies to its requests. (own)
-abbrev pub Tells : List ℕ → List ℕ → Loaded → Loaded → Option (List ℕ) → Answer → Type 0
-Tells file other a b None answer = IsAnswer (starts_text file other a b) answer
-Tells file other a b (Some journal) answer = FollowsJournal a.names a.start b journal answer
+-- An answer tells, in a form, how a start differs from another, which files of these words say: without a journal by
+-- their names and openings, with one by the replies to its requests. (own)
+abbrev pub Tells : Form → List ℕ → List ℕ → Loaded → Loaded → Option (List ℕ) → Listing → Type 0
+Tells form file other a b None listing = IsListing (starts_bytes form file other a b) listing
+Tells form file other a b (Some journal) listing = FollowsJournal form a.names a.start b journal listing
 
 -- A second file says a start, and the answer tells how that differs from a first start. (own)
-abbrev pub ComparesWith : List ℕ → List ℕ → Loaded → List ℕ → Option (List ℕ) → Answer → Type 0
-ComparesWith file other a second journal answer =
-    (b : Loaded) × SaysStart second b × Tells file other a b journal answer
+abbrev pub ComparesWith : Form → List ℕ → List ℕ → Loaded → List ℕ → Option (List ℕ) → Listing → Type 0
+ComparesWith form file other a second journal listing =
+    (b : Loaded) × SaysStart second b × Tells form file other a b journal listing
 
 -- Two start files say starts, and the answer tells how the second differs from the first. (own)
-abbrev pub Compares : List ℕ → List ℕ → List ℕ → List ℕ → Option (List ℕ) → Answer → Type 0
-Compares file other first second journal answer =
-    (a : Loaded) × SaysStart first a × ComparesWith file other a second journal answer
+abbrev pub Compares : Form → List ℕ → List ℕ → List ℕ → List ℕ → Option (List ℕ) → Listing → Type 0
+Compares form file other first second journal listing =
+    (a : Loaded) × SaysStart first a × ComparesWith form file other a second journal listing
 
 -- Why the replies to a journal's requests aren't compared: the journal is refused as one of the start; or memory ran
 -- out. (own)

@@ -1,6 +1,5 @@
 -- The requests of a journal, asked of another start one after the other.
-use Rattle.std.specs.Prelude.{ℕ, ◌==◌, List, [], ◌∷◌, ◌++◌, map, set, codes, Option, Some, None, if◌then◌else◌}
-use Rattle.std.specs.Fmt.{decimal}
+use Rattle.std.specs.Prelude.{ℕ, ◌==◌, List, [], ◌∷◌, ◌++◌, map, set, Option, Some, None, if◌then◌else◌}
 use Rattle.mls_tables.specs.declared.limits.TheConstants.{MAX_OBJECTS}
 use Rattle.mls_requests.specs.declared.entry.Entry.{Entry}
 use Rattle.mls_requests.specs.declared.reply.Reply.{Reply}
@@ -10,10 +9,11 @@ use Rattle.mls_state.specs.State.{State}
 use Rattle.mls_rules.specs.Rules.{reply, after}
 use Rattle.mls_lines.specs.Names.{Names}
 use Rattle.mls_start_file.specs.Ties.{Loaded}
-use Rattle.mls_wording.specs.RequestText.{request_text}
-use Rattle.mls_compare.specs.Counterparts.{counterparts}
+use Rattle.mls_differences.specs.Counterparts.{counterparts}
+use Rattle.mls_differences.specs.Replying.{agree}
+use Rattle.mls_differences.specs.Sides.{row_unless}
 use Rattle.mls_compare.specs.Carrying.{carried_request}
-use Rattle.mls_compare.specs.Replying.{unless_agree}
+use Rattle.mls_compare.specs.declared.entry_row.EntryRow.{EntryRow}
 
 -- Where the second start has come to: its state, and the counterparts in it of the first start's objects, by number.
 -- (own)
@@ -74,25 +74,25 @@ follow a b there e = record {
   objects = objects_after e.reply (reply_there a b there e.request) there.objects;
 }
 
--- What is written of an entry before the replies: its number and its request. (own)
-abbrev pub entry_text : Names → Entry → List ℕ
-entry_text a e = codes "entry " ++ decimal e.number ++ 32 ∷ request_text a e.request
+-- The row of an entry with this reply of the second start, where the two replies don't agree. (own)
+abbrev pub replied_rows : Entry → Reply → List EntryRow
+replied_rows e there = row_unless (agree e.reply there) (record { entry = e; second = there })
 
--- The line of an entry that the second start answers otherwise; nothing where the replies agree. (own)
-abbrev pub entry_line : Names → Names → Reached → Entry → List ℕ
-entry_line a b there e = unless_agree e.reply (reply_there a b there e.request) (entry_text a e)
+-- The row of an entry that the second start answers otherwise; nothing where the replies agree. (own)
+abbrev pub entry_rows : Names → Names → Reached → Entry → List EntryRow
+entry_rows a b there e = replied_rows e (reply_there a b there e.request)
 
--- The lines of the entries that the second start answers otherwise, from where it has come to. (own)
-unfoldable pub entries_text : Names → Names → Reached → List Entry → List ℕ
-entries_text a b there [] = []
-entries_text a b there (e ∷ entries) = entry_line a b there e ++ entries_text a b (follow a b there e) entries
+-- The rows of the entries that the second start answers otherwise, from where it has come to. (own)
+unfoldable pub entries_rows : Names → Names → Reached → List Entry → List EntryRow
+entries_rows a b there [] = []
+entries_rows a b there (e ∷ entries) = entry_rows a b there e ++ entries_rows a b (follow a b there e) entries
 
 -- Where the second start is before the first entry: in its opening, where the counterparts of objects are those of the
 -- same names. (own)
 abbrev pub begun : Names → Loaded → Reached
 begun a b = record { state = b.start; objects = counterparts a.objects b.names.objects MAX_OBJECTS }
 
--- What is printed of a journal of a start with these names and another start: the entries that the other answers
--- otherwise. (own)
-abbrev pub followed_text : Names → Loaded → List Entry → List ℕ
-followed_text a b entries = entries_text a b.names (begun a b) entries
+-- The rows of a journal of a start with these names and another start: the entries that the other answers otherwise.
+-- (own)
+abbrev pub followed_rows : Names → Loaded → List Entry → List EntryRow
+followed_rows a b entries = entries_rows a b.names (begun a b) entries

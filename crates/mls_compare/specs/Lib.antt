@@ -1,11 +1,7 @@
 pub mod Carriers
 pub mod Carrying
-pub mod Changes
 pub mod Comparing
-pub mod Counterparts
-pub mod Differences
+pub mod Entries
 pub mod Following
-pub mod Holding
 pub mod Maps
-pub mod Replying
 pub mod Snapshots

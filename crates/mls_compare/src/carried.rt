@@ -2,9 +2,10 @@
 ghost use Rattle.std.specs.Prelude.{◌≡◌, IfOk, IfSome};
 ghost use Rattle.mls_labels.specs.Scheme.{Scheme as SchemeView};
 ghost use Rattle.mls_compare.specs.Carriers.{AreKept};
-ghost use Rattle.mls_compare.specs.Carrying.{carried_label, label_read};
+ghost use Rattle.mls_differences.specs.Alike.{carried_label};
 
-use mls_labels::{CatSet, Label, LabelFault, Scheme};
+use mls_differences::carried_label;
+use mls_labels::{CatSet, Label, Scheme};
 use std::alloc::{AllocError, Global};
 
 /// A label, and its counterpart in another scheme, where it has one.
@@ -26,33 +27,6 @@ fn place(label: &Label) -> usize {
         ^ words[2].rotate_left(32)
         ^ words[3].rotate_left(48);
     (mixed.wrapping_mul(0x9e37_79b9_7f4a_7c15) >> 54) as usize
-}
-
-/// The label that was read, where one was.
-fn label_read(read: Result<Label, LabelFault>) -> Option<Label>
-    ensures { result ≡ label_read read }
-{
-    match read {
-        Ok(label) => Some(label),
-        Err(_) => None,
-    }
-}
-
-/// The counterpart of a label, looked up by the names that it has.
-pub(crate) fn carry_anew(
-    alloc: Global,
-    scheme: &Scheme,
-    other: &Scheme,
-    label: Label,
-) -> Result<Option<Label>, AllocError>
-    ensures { IfOk result (λ to. to ≡ carried_label scheme.now other.now label) }
-{
-    if !scheme.has(label) {
-        return Ok(None);
-    }
-    let mut text = String::new(alloc);
-    scheme.write(label, &mut text)?;
-    Ok(label_read(other.read(&text)))
 }
 
 /// The counterpart that was kept of a label, where one was.
@@ -94,7 +68,7 @@ pub(crate) fn lowest_kept(
     ensures { IfOk result (λ slots. AreKept scheme.now other.now slots.items) }
 {
     let label = Label::new(0, CatSet::empty());
-    let to = carry_anew(alloc, scheme, other, label)?;
+    let to = carried_label(alloc, scheme, other, label)?;
     let carried = Carried { label, to };
     let mut slots = Vec::new(alloc);
     for _ in 0..SLOTS {
@@ -119,7 +93,7 @@ pub(crate) fn carry(
     if let Some(to) = kept(slots, &label) {
         return Ok(to);
     }
-    let to = carry_anew(alloc, scheme, other, label)?;
+    let to = carried_label(alloc, scheme, other, label)?;
     let carried = Carried { label, to };
     keep(slots, &carried);
     Ok(carried.to)

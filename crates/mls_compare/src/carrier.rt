@@ -2,13 +2,14 @@
 ghost use Rattle.std.specs.Prelude.{◌≡◌, ◌≤◌, None, get_or, length, IfOk};
 ghost use Rattle.mls_tables.specs.declared.limits.TheConstants.{MAX_SUBJECTS};
 ghost use Rattle.mls_compare.specs.Carriers.{Carries, objects_in};
-ghost use Rattle.mls_compare.specs.Carrying.{carried_label, carried_action, carried_request, request_of};
-ghost use Rattle.mls_compare.specs.Counterparts.{counterparts};
+ghost use Rattle.mls_compare.specs.Carrying.{carried_action, carried_request, request_of};
+ghost use Rattle.mls_differences.specs.Alike.{carried_label};
+ghost use Rattle.mls_differences.specs.Counterparts.{counterparts};
 
 use crate::actions::{create, delete, get, give, level, relabel, release, rescind};
 use crate::carried::{Carried, carry, lowest_kept};
 use crate::object_table::ObjectTable;
-use crate::shared::counterpart_subject;
+use mls_differences::counterpart_subject;
 use mls_labels::{IntLabel, Label, SecLabel};
 use mls_lines::Names;
 use mls_requests::{Action, Request};

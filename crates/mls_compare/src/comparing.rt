@@ -8,12 +8,12 @@ ghost use Rattle.mls_start_file.specs.Ties.{HasFewNames};
 
 use crate::compare_fault::CompareFault;
 use crate::following::compare_replies;
-use crate::starts::compare_starts;
+use mls_differences::compare_starts;
 use mls_lines::Names;
 use mls_monitor::{Monitor, Start};
 use mls_replay::{load_start, replay_over};
+use mls_rows::{Form, Listing};
 use mls_start_file::Loaded;
-use mls_wording::Answer;
 use std::alloc::Global;
 
 /// The start of the second file.
@@ -33,16 +33,17 @@ fn load_second(alloc: Global, bytes: &[u8]) -> Result<Loaded, CompareFault>
 /// How a start differs from the one of a second file, by names and openings.
 fn compare_openings(
     alloc: Global,
+    form: Form,
     words: (&str, &str),
     first: &Loaded,
     second: &[u8],
-) -> Result<Answer, CompareFault>
-    ensures ok { IfOk result (λ answer.
-        ComparesWith words.entry.0.now words.entry.1.now first.now second.now None answer) }
+) -> Result<Listing, CompareFault>
+    ensures ok { IfOk result (λ found.
+        ComparesWith form words.entry.0.now words.entry.1.now first.now second.now None found) }
     ensures fault { IfErr result (λ fault. RefusesSecond first.now.start second.now None fault) }
 {
     let second = load_second(alloc, second)?;
-    let answer = compare_starts(alloc, words, first, &second);
+    let answer = compare_starts(alloc, form, words, first, &second);
     drop(second);
     Ok(answer?)
 }
@@ -66,17 +67,18 @@ fn replayed(alloc: Global, start: Start, journal: &[u8]) -> Result<Monitor, Comp
 /// How a start with these names and another differ over a journal of the first.
 fn compare_over(
     alloc: Global,
+    form: Form,
     names: &Names,
     start: Start,
     second: &Loaded,
     journal: &[u8],
-) -> Result<Answer, CompareFault>
+) -> Result<Listing, CompareFault>
     requires { HasFewNames names.now }
-    ensures ok { IfOk result (λ answer. FollowsJournal names.now start second.now journal.now answer) }
+    ensures ok { IfOk result (λ found. FollowsJournal form names.now start second.now journal.now found) }
     ensures fault { IfErr result (λ fault. RefusesReplies start journal.now fault) }
 {
     let monitor = replayed(alloc, start, journal)?;
-    let answer = compare_replies(alloc, names, second, monitor.entries());
+    let answer = compare_replies(alloc, form, names, second, monitor.entries());
     drop(monitor);
     Ok(answer?)
 }
@@ -84,17 +86,18 @@ fn compare_over(
 /// How a start and another differ over a journal of the first.
 fn compare_parts(
     alloc: Global,
+    form: Form,
     first: Loaded,
     second: &Loaded,
     journal: &[u8],
-) -> Result<Answer, CompareFault>
-    ensures ok { IfOk result (λ answer. FollowsJournal first.names first.start second.now journal.now answer) }
+) -> Result<Listing, CompareFault>
+    ensures ok { IfOk result (λ found. FollowsJournal form first.names first.start second.now journal.now found) }
     ensures fault { IfErr result (λ fault. RefusesReplies first.start journal.now fault) }
 {
     // that there are few names
     let _ = first.names();
     let (names, start): (Names, Start) = first.into_parts();
-    let answer = compare_over(alloc, &names, start, second, journal);
+    let answer = compare_over(alloc, form, &names, start, second, journal);
     drop(names);
     answer
 }
@@ -102,17 +105,18 @@ fn compare_parts(
 /// How a start and the one of a second file differ over a journal of the first.
 fn compare_journal(
     alloc: Global,
+    form: Form,
     first: Loaded,
     second: &[u8],
     journal: &[u8],
-) -> Result<Answer, CompareFault>
+) -> Result<Listing, CompareFault>
     ensures ok { (file other : List ℕ) → IfOk result
-        (λ answer. ComparesWith file other first second.now (Some journal.now) answer) }
+        (λ found. ComparesWith form file other first second.now (Some journal.now) found) }
     ensures fault { IfErr result (λ fault. RefusesSecond first.start second.now (Some journal.now) fault) }
 {
     match load_second(alloc, second) {
         Ok(second) => {
-            let answer = compare_parts(alloc, first, &second, journal);
+            let answer = compare_parts(alloc, form, first, &second, journal);
             drop(second);
             answer
         }
@@ -126,31 +130,32 @@ fn compare_journal(
 /// How a start and the one of a second file differ.
 fn compare_with(
     alloc: Global,
+    form: Form,
     words: (&str, &str),
     first: Loaded,
     second: &[u8],
     journal: Option<&[u8]>,
-) -> Result<Answer, CompareFault>
-    ensures ok { IfOk result (λ answer.
-        ComparesWith words.entry.0.now words.entry.1.now first second.now
-        (option_map (λ bytes. bytes.now) journal.entry) answer) }
+) -> Result<Listing, CompareFault>
+    ensures ok { IfOk result (λ found.
+        ComparesWith form words.entry.0.now words.entry.1.now first second.now
+        (option_map (λ bytes. bytes.now) journal.entry) found) }
     ensures fault { IfErr result (λ fault.
         RefusesSecond first.start second.now (option_map (λ bytes. bytes.now) journal.entry) fault) }
 {
     match journal {
-        Some(journal) => compare_journal(alloc, first, second, journal),
+        Some(journal) => compare_journal(alloc, form, first, second, journal),
         None => {
-            let answer = compare_openings(alloc, words, &first, second);
+            let answer = compare_openings(alloc, form, words, &first, second);
             drop(first);
             answer
         }
     }
 }
 
-/// How the start of a second file differs from that of a first, a line each. The files have these words. Without a
+/// How the start of a second file differs from that of a first, in a form. The files have these words. Without a
 /// journal: the names that only one start has, and the gets, of subjects and objects that both have, that the two
 /// openings answer otherwise. With a journal of the first start: the entries that the second start answers otherwise,
-/// where all that they name is carried over by name. The answer is positive where there is no line.
+/// where all that they name is carried over by name. The answer is positive where there is none of these.
 ///
 /// # Errors
 /// - `First` where the first file is refused, else `Second` where the second is.
@@ -158,19 +163,20 @@ fn compare_with(
 /// - One of these with `Memory` where an allocation failed.
 pub fn compare(
     alloc: Global,
+    form: Form,
     words: (&str, &str),
     first: &[u8],
     second: &[u8],
     journal: Option<&[u8]>,
-) -> Result<Answer, CompareFault>
-    ensures ok { IfOk result (λ answer.
-        Compares words.entry.0.now words.entry.1.now first.now second.now
-        (option_map (λ bytes. bytes.now) journal.entry) answer) }
+) -> Result<Listing, CompareFault>
+    ensures ok { IfOk result (λ found.
+        Compares form words.entry.0.now words.entry.1.now first.now second.now
+        (option_map (λ bytes. bytes.now) journal.entry) found) }
     ensures fault { IfErr result (λ fault.
         RefusesComparison first.now second.now (option_map (λ bytes. bytes.now) journal.entry) fault) }
 {
     match load_start(alloc, first) {
-        Ok(first) => compare_with(alloc, words, first, second, journal),
+        Ok(first) => compare_with(alloc, form, words, first, second, journal),
         Err(fault) => Err(CompareFault::First(fault)),
     }
 }

@@ -3,10 +3,10 @@ ghost use Rattle.std.specs.Prelude.{◌≡◌, ◌+◌, ◌<◌, ℕ, List, Opti
 ghost use Rattle.mls_tables.specs.declared.limits.TheConstants.{MAX_OBJECTS};
 ghost use Rattle.mls_compare.specs.Carriers.{Holds, objects_in, if_still, from_the_beginning};
 ghost use Rattle.mls_compare.specs.Carrying.{carried_object};
-ghost use Rattle.mls_compare.specs.Counterparts.{counterparts};
+ghost use Rattle.mls_differences.specs.Counterparts.{counterparts};
 ghost use Rattle.mls_compare.specs.Following.{after_create, after_other, objects_after};
 
-use crate::shared::counterpart_object;
+use mls_differences::counterpart_object;
 use mls_lines::Names;
 use mls_requests::Reply;
 use mls_tables::{MAX_OBJECTS, ObjectId};

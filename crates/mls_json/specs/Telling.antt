@@ -1,9 +1,8 @@
 -- Which lines have a form, and what is told of a line by a form.
-use Rattle.std.specs.Prelude.{ℕ, Bool, true, false, not, ◌&&◌, ◌||◌, ◌==◌, List, [], ◌∷◌, ◌++◌, map, drop, codes}
+use Rattle.std.specs.Prelude.{ℕ, Bool, true, false, not, ◌&&◌, ◌||◌, List, [], ◌∷◌, ◌++◌, map, drop, codes}
 use Rattle.std.specs.Prelude.{if◌then◌else◌}
-use Rattle.std.specs.List.{slice_split}
 use Rattle.std.specs.Str.{bytes_eq}
-use Rattle.json.specs.Token.{Token, begin_object, end_object, begin_array, end_array, key, string, number, boolean, null}
+use Rattle.json.specs.Token.{Token, begin_array, end_array, key, string, number, boolean, null}
 use Rattle.mls_json.specs.Words.{joined, is_marked, unmarked, is_number}
 use Rattle.mls_json.specs.Words.{begins_with, ends_with, without_end, without_front}
 use Rattle.mls_json.specs.declared.part.Fixed.{Fixed}
@@ -39,7 +38,6 @@ abbrev pub word_fits : Kind → List ℕ → Bool
 word_fits kind.Text word = true
 word_fits kind.Number word = is_number word
 word_fits kind.YesOrNo word = bytes_eq word (codes "yes") || bytes_eq word (codes "no")
-word_fits kind.Commas word = true
 word_fits kind.Time word = is_time word
 word_fits (kind.Named name) word = is_named word
 
@@ -56,7 +54,6 @@ abbrev pub value_tokens : Kind → List ℕ → List Token
 value_tokens kind.Text word = string word ∷ []
 value_tokens kind.Number word = number_token word ∷ []
 value_tokens kind.YesOrNo word = boolean (bytes_eq word (codes "yes")) ∷ []
-value_tokens kind.Commas word = list_tokens (slice_split (λ b. b == 44) word)
 value_tokens kind.Time word = time_token word ∷ []
 value_tokens (kind.Named name) word = string word ∷ []
 
@@ -70,7 +67,6 @@ abbrev pub word_tokens : List ℕ → Kind → List ℕ → List Token
 word_tokens at kind.Text word = key at ∷ value_tokens kind.Text word
 word_tokens at kind.Number word = key at ∷ value_tokens kind.Number word
 word_tokens at kind.YesOrNo word = key at ∷ value_tokens kind.YesOrNo word
-word_tokens at kind.Commas word = key at ∷ value_tokens kind.Commas word
 word_tokens at kind.Time word = key at ∷ value_tokens kind.Time word
 word_tokens at (kind.Named name) word = named_tokens at name.now word
 
@@ -135,7 +131,6 @@ part_fits (part.Told at how mark) words = first_fits how mark words
 part_fits (part.Rest at) words = has_word words
 part_fits (part.List at) words = has_word words
 part_fits part.Reply words = reply_fits words
-part_fits (part.Replied at) words = reply_fits words
 
 -- The words behind those that a part of a form stands for. (own)
 abbrev pub part_rest : Part → List (List ℕ) → List (List ℕ)
@@ -146,7 +141,6 @@ part_rest (part.Told at how mark) words = drop 1 words
 part_rest (part.Rest at) words = []
 part_rest (part.List at) words = []
 part_rest part.Reply words = reply_rest words
-part_rest (part.Replied at) words = reply_rest words
 
 -- What a part of a form tells of words that it fits. (own)
 abbrev pub part_tokens : Part → List (List ℕ) → List Token
@@ -157,7 +151,6 @@ part_tokens (part.Told at how mark) words = first_tokens at.now how mark words
 part_tokens (part.Rest at) words = key at.now ∷ string (joined words) ∷ []
 part_tokens (part.List at) words = key at.now ∷ list_tokens words
 part_tokens part.Reply words = reply_tokens words
-part_tokens (part.Replied at) words = key at.now ∷ begin_object ∷ reply_tokens words ++ end_object ∷ []
 
 -- Whether words have a form: each part fits what the parts before it leave, and they leave nothing. (own)
 abbrev pub fits : List Part → List (List ℕ) → Bool

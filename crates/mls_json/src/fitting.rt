@@ -52,7 +52,7 @@ impl Part {
             Part::Told(_, kind, mark) => first_fits(words, *kind, *mark),
             Part::Any | Part::Rest(_) | Part::List(_) => has_word(words),
             Part::Says(..) => true,
-            Part::Reply | Part::Replied(_) => is_reply(words),
+            Part::Reply => is_reply(words),
         }
     }
 
@@ -64,7 +64,7 @@ impl Part {
             Part::Word(_) | Part::Any | Part::Told(..) => behind_first(words),
             Part::Says(..) => words,
             Part::Rest(_) | Part::List(_) => &[],
-            Part::Reply | Part::Replied(_) => behind_reply(words),
+            Part::Reply => behind_reply(words),
         }
     }
 }

@@ -4,10 +4,10 @@ ghost use Rattle.mls_json.specs.Adding.{Adds};
 ghost use Rattle.mls_json.specs.Telling.{is_named, named_tokens, value_tokens, word_fits, word_tokens};
 
 use crate::part::Kind;
-use crate::value::{write_commas, write_number, write_time};
+use crate::value::{write_number, write_time};
 use crate::word::{begins_with, behind, ends_with, is_number};
 use json::Writer;
-use std::alloc::{AllocError, Global};
+use std::alloc::AllocError;
 
 /// Whether a word is a name, or `#` and a number.
 fn is_named(word: &str) -> bool
@@ -41,7 +41,7 @@ impl Kind {
         ensures { result ≡ word_fits self word.now }
     {
         match self {
-            Kind::Text | Kind::Commas => true,
+            Kind::Text => true,
             Kind::Number => is_number(word),
             Kind::YesOrNo => word == "yes" || word == "no",
             Kind::Time => begins_with(word, '[') && ends_with(word, ']'),
@@ -50,32 +50,25 @@ impl Kind {
     }
 
     /// Writes the value of a word that is neither a subject nor an object.
-    fn write_value(self, alloc: Global, writer: &mut Writer, word: &str) -> Result<(), AllocError>
+    fn write_value(self, writer: &mut Writer, word: &str) -> Result<(), AllocError>
         ensures { Adds result writer.old writer.new (value_tokens self word.now) }
     {
         match self {
             Kind::Text | Kind::Named(_) => writer.string(word),
             Kind::Number => write_number(writer, word),
             Kind::YesOrNo => writer.boolean(word == "yes"),
-            Kind::Commas => write_commas(alloc, writer, word),
             Kind::Time => write_time(writer, word),
         }
     }
 
     /// Writes the member that tells a word, under a key.
-    pub(crate) fn write(
-        self,
-        alloc: Global,
-        writer: &mut Writer,
-        key: &str,
-        word: &str,
-    ) -> Result<(), AllocError>
+    pub(crate) fn write(self, writer: &mut Writer, key: &str, word: &str) -> Result<(), AllocError>
         ensures { Adds result writer.old writer.new (word_tokens key.now self word.now) }
     {
         if let Kind::Named(name) = self {
             return write_named(writer, key, name, word);
         }
         writer.key(key)?;
-        self.write_value(alloc, writer, word)
+        self.write_value(writer, word)
     }
 }

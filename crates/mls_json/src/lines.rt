@@ -1,5 +1,5 @@
 //! Which lines a text has.
-use crate::forms::{ABOUT_OBJECT, ABOUT_SUBJECT, ABOUT_WORD, CHECK, COMPARE, STATE, VERIFY};
+use crate::forms::{ABOUT_OBJECT, ABOUT_SUBJECT, ABOUT_WORD, CHECK, STATE, VERIFY};
 use crate::table::Table;
 
 /// Which lines a text has: those of this command.
@@ -9,7 +9,6 @@ pub enum Lines {
     Verify,
     About,
     State,
-    Compare,
 }
 
 /// Whether a text tells of a subject whose name is also the first word of a line that tells of one. A line of its powers
@@ -39,7 +38,6 @@ impl Lines {
             Lines::Verify => Table::Whole(&VERIFY),
             Lines::About => told(text),
             Lines::State => Table::Each(&STATE),
-            Lines::Compare => Table::Each(&COMPARE),
         }
     }
 

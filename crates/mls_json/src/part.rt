@@ -28,8 +28,6 @@ pub enum Kind {
     Number,
     /// `yes` or `no`: true or false.
     YesOrNo,
-    /// What stands between commas: a list of strings.
-    Commas,
     /// A time in brackets: a string without them, and `[-]` null.
     Time,
     /// A subject or an object: of `#N` the number, else the name, a string under this key.
@@ -53,6 +51,4 @@ pub enum Part {
     List(&'static str),
     /// The words of a reply, told by its own members.
     Reply,
-    /// The words of a reply, an object under this key.
-    Replied(&'static str),
 }

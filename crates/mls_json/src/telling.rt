@@ -1,8 +1,8 @@
 //! What a form tells of words.
-ghost use Rattle.std.specs.Prelude.{◌≡◌, ◌∷◌, ◌++◌, [], map};
-ghost use Rattle.json.specs.Token.{begin_object, end_object, string};
+ghost use Rattle.std.specs.Prelude.{◌≡◌, ◌∷◌, [], map};
+ghost use Rattle.json.specs.Token.{string};
 ghost use Rattle.mls_json.specs.Adding.{Adds};
-ghost use Rattle.mls_json.specs.Telling.{first_tokens, part_tokens, reply_tokens, told};
+ghost use Rattle.mls_json.specs.Telling.{first_tokens, part_tokens, told};
 ghost use Rattle.mls_json.specs.Words.{joined};
 
 use crate::part::{Kind, Mark, Part};
@@ -26,19 +26,8 @@ pub(crate) fn write_joined(
     done
 }
 
-/// Writes the object of a reply.
-fn write_replied(writer: &mut Writer, words: &[&str]) -> Result<(), AllocError>
-    ensures { Adds result writer.old writer.new
-        (begin_object ∷ reply_tokens (map (λ word. word.now) words.now) ++ end_object ∷ []) }
-{
-    writer.begin_object()?;
-    write_reply(writer, words)?;
-    writer.end_object()
-}
-
 /// Writes the member that tells the first word, without the mark.
 fn write_first(
-    alloc: Global,
     writer: &mut Writer,
     key: &str,
     kind: Kind,
@@ -49,7 +38,7 @@ fn write_first(
         (first_tokens key.now kind mark (map (λ word. word.now) words.now)) }
 {
     match words {
-        [word, ..] => kind.write(alloc, writer, key, mark.cut_from(word)),
+        [word, ..] => kind.write(writer, key, mark.cut_from(word)),
         [] => Ok(()),
     }
 }
@@ -61,7 +50,7 @@ impl Part {
     {
         match self {
             Part::Word(_) | Part::Any => Ok(()),
-            Part::Told(key, kind, mark) => write_first(alloc, writer, key, *kind, *mark, words),
+            Part::Told(key, kind, mark) => write_first(writer, key, *kind, *mark, words),
             Part::Says(key, value) => {
                 writer.key(key)?;
                 value.write(writer)
@@ -75,10 +64,6 @@ impl Part {
                 write_list(writer, words)
             }
             Part::Reply => write_reply(writer, words),
-            Part::Replied(key) => {
-                writer.key(key)?;
-                write_replied(writer, words)
-            }
         }
     }
 }

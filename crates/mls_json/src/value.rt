@@ -1,16 +1,14 @@
 //! Values of members.
-ghost use Rattle.std.specs.Prelude.{◌≡◌, ◌∷◌, ◌==◌, [], map};
-ghost use Rattle.std.specs.List.{slice_split};
+ghost use Rattle.std.specs.Prelude.{◌≡◌, ◌∷◌, [], map};
 ghost use Rattle.json.specs.Token.{string};
 ghost use Rattle.mls_json.specs.Adding.{Adds};
 ghost use Rattle.mls_json.specs.Telling.{fixed_tokens, list_tokens, number_token, time_token};
 
 use crate::part::Fixed;
 use crate::word::{without_end, without_front};
-use crate::words::cut;
 use json::Writer;
 use mls_requests::read_decimal;
-use std::alloc::{AllocError, Global};
+use std::alloc::AllocError;
 
 /// Writes a number; null of what is none.
 #[tactic(auto, using(crate::proofs::Digits::digits_read, crate::proofs::Digits::digits_missing))]
@@ -43,16 +41,6 @@ pub(crate) fn write_list(writer: &mut Writer, texts: &[&str]) -> Result<(), Allo
     writer.begin_array()?;
     write_strings(writer, texts)?;
     writer.end_array()
-}
-
-/// Writes what stands between the commas of a word, as a list.
-pub(crate) fn write_commas(alloc: Global, writer: &mut Writer, word: &str) -> Result<(), AllocError>
-    ensures { Adds result writer.old writer.new (list_tokens (slice_split (λ b. b == 44) word.now)) }
-{
-    let parts = cut(alloc, word, ',')?;
-    let done = write_list(writer, &parts);
-    drop(parts);
-    done
 }
 
 /// Writes a time that stands between brackets.

@@ -1,11 +1,11 @@
 //! The command that compares two starts.
-use crate::answering::answered;
+use crate::row_answers::{form_of, listed};
 use crate::sources::{Bytes, read_source};
 use mls_command_line::Source;
 use mls_compare::{CompareFault, compare as compared};
 use mls_files::command_refused;
+use mls_rows::Listing;
 use mls_terminal::Progress;
-use mls_wording::Answer;
 use std::process::ExitCode;
 
 /// Tells why starts aren't compared.
@@ -27,21 +27,12 @@ fn ended(
     progress: &mut Progress<'_>,
     first: &str,
     others: &Source<'_>,
-    done: Result<Answer, CompareFault>,
+    done: Result<Listing, CompareFault>,
 ) -> ExitCode {
     progress.end();
     match done {
-        Ok(answer) => answered(progress, answer),
+        Ok(listing) => listed(progress, listing),
         Err(fault) => compare_refused(progress.rt(), first, others, fault),
-    }
-}
-
-/// The words that lines call the two files by: in JSON objects, whose texts are read of lines, words without a space.
-fn words_of<'x>(progress: &Progress<'_>, first: &'x str, second: &'x str) -> (&'x str, &'x str) {
-    if progress.is_json() {
-        ("first", "second")
-    } else {
-        (first, second)
     }
 }
 
@@ -63,10 +54,11 @@ pub(crate) fn compare<'x>(
     match read_source(progress, &others) {
         Ok(read) => {
             progress.begin("comparing");
-            let words = words_of(progress, first, second);
+            let words = (first, second);
+            let form = form_of(progress);
             let journal = read.journal.as_deref();
             let alloc = progress.rt().alloc();
-            let done = compared(alloc, words, &bytes.start, &read.start, journal);
+            let done = compared(alloc, form, words, &bytes.start, &read.start, journal);
             drop(read);
             ended(progress, first, &others, done)
         }

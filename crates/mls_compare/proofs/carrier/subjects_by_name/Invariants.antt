@@ -1,5 +1,5 @@
 use Rattle.std.proofs.Common.{◌≡◌}
-use Rattle.mls_compare.specs.Counterparts.{counterparts}
+use Rattle.mls_differences.specs.Counterparts.{counterparts}
 use Rattle.mls_compare.proofs.carrier.subjects_by_name.Given as goal
 
 -- the counterparts of the subjects below are found

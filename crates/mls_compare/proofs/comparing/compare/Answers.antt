@@ -3,7 +3,7 @@ use Rattle.mls_compare.proofs.comparing.compare.Goals as goal
 
 pub returns-in-Ok-clause-ok : goal.returns-in-Ok-clause-ok
 returns-in-Ok-clause-ok c =
-    comparison_tells c.args.words.0.now c.args.words.1.now c.args.first.now c.args.second.now _ c.in-Ok.first c.compare_with.result
+    comparison_tells c.args.form c.args.words.0.now c.args.words.1.now c.args.first.now c.args.second.now _ c.in-Ok.first c.compare_with.result
     c.in-Ok.ensures.ok c.compare_with.ensures.ok
 
 pub returns-in-Ok-clause-fault : goal.returns-in-Ok-clause-fault

@@ -3,7 +3,7 @@ use Rattle.mls_compare.proofs.comparing.compare_journal.Goals as goal
 
 pub returns-in-Ok-clause-ok : goal.returns-in-Ok-clause-ok
 returns-in-Ok-clause-ok c = λ file other.
-    journal_tells file other c.args.first c.in-Ok.second c.args.second.now c.args.journal.now c.compare_parts-answer.result c.in-Ok.ensures.ok
+    journal_tells c.args.form file other c.args.first c.in-Ok.second c.args.second.now c.args.journal.now c.compare_parts-answer.result c.in-Ok.ensures.ok
     c.compare_parts-answer.ensures.ok
 
 pub returns-in-Ok-clause-fault : goal.returns-in-Ok-clause-fault

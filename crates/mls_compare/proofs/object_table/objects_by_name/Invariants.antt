@@ -1,6 +1,6 @@
 use Rattle.std.proofs.Common.{◌≡◌, map}
 use Rattle.mls_compare.specs.Carriers.{from_the_beginning}
-use Rattle.mls_compare.specs.Counterparts.{counterparts}
+use Rattle.mls_differences.specs.Counterparts.{counterparts}
 use Rattle.mls_compare.proofs.object_table.objects_by_name.Given as goal
 
 -- the counterparts of the objects below are found

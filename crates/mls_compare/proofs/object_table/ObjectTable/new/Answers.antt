@@ -1,6 +1,6 @@
 use Rattle.std.proofs.Common.{refl}
 use Rattle.mls_tables.specs.declared.limits.TheConstants.{MAX_OBJECTS}
-use Rattle.mls_compare.specs.Counterparts.{counterparts}
+use Rattle.mls_differences.specs.Counterparts.{counterparts}
 use Rattle.mls_compare.proofs.Tables.{begins}
 use Rattle.mls_compare.proofs.object_table.ObjectTable.new.Goals as goal
 

@@ -1,0 +1,36 @@
+-- Rows that grow, number by number.
+use Rattle.std.proofs.Common.{◌≡◌, ℕ, ◌+◌, List, [], ◌++◌, refl, sym, append-nil}
+use Rattle.std.specs.List.{slice_get}
+use Rattle.mls_facts.proofs.Gathered.{grows, range_flat_more}
+use Rattle.mls_differences.specs.Counterparts.{counterpart, shared_as, shared}
+use Rattle.mls_differences.specs.Singles.{name_rows, names_rows}
+use Rattle.mls_differences.specs.declared.side.Side.{Side}
+use Rattle.mls_differences.specs.declared.single.Kind.{Kind}
+use Rattle.mls_differences.specs.declared.single.Single.{Single}
+
+-- what numbers have a counterpart, below none and below the next
+pub shared_none : (names others : List (List ℕ)) → shared names others 0 ≡ []
+unfolding shared
+shared_none names others = refl
+
+pub shared_more : (names others : List (List ℕ)) (n : ℕ)
+    → shared names others (n + 1) ≡ shared names others n ++ shared_as n (counterpart names others n)
+unfolding shared
+shared_more names others n = range_flat_more (λ k. shared_as k (counterpart names others k)) n
+
+-- the rows of the names that a start alone has, of the numbers below none and below the next
+pub names_none : (side : Side) (kind : Kind) (names others : List (List ℕ)) (old : List Single) → old ≡ old ++ names_rows side kind names others 0
+unfolding names_rows
+names_none side kind names others old = sym (append-nil old)
+
+names_next : (side : Side) (kind : Kind) (names others : List (List ℕ)) (n : ℕ)
+    → names_rows side kind names others (n + 1) ≡ names_rows side kind names others n ++ name_rows side kind others n (slice_get names n)
+unfolding names_rows
+names_next side kind names others n = range_flat_more (λ k. name_rows side kind others k (slice_get names k)) n
+
+pub names_more : (side : Side) (kind : Kind) (names others : List (List ℕ)) (n : ℕ) (old now new : List Single)
+    → now ≡ old ++ names_rows side kind names others n → new ≡ now ++ name_rows side kind others n (slice_get names n)
+    → new ≡ old ++ names_rows side kind names others (n + 1)
+names_more side kind names others n old now new so_far added =
+    grows old now new (names_rows side kind names others n) (names_rows side kind names others (n + 1))
+    (name_rows side kind others n (slice_get names n)) so_far added (names_next side kind names others n)

@@ -1,0 +1,11 @@
+pub mod Alike
+pub mod ChangeForms
+pub mod Changes
+pub mod Counterparts
+pub mod Differences
+pub mod Gets
+pub mod Replying
+pub mod Sides
+pub mod SingleForms
+pub mod Singles
+pub mod Things
