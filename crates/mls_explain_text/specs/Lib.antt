@@ -13,3 +13,9 @@ pub mod Sorts
 pub mod Terms
 pub mod Under
 pub mod Who
+pub mod AnswerMembers
+pub mod AnswerRows
+pub mod WhoMembers
+pub mod WhoRows
+pub mod ExplainMembers
+pub mod ExplainRows

@@ -2,21 +2,27 @@
 //! questions the lines that tell which word names nothing.
 #![tactic(auto)]
 
+mod answer_row;
 mod asked;
 mod asking;
 mod basis;
 mod condition_line;
+mod condition_members;
 mod controls;
 mod culprit;
 mod cutting;
 mod entries;
+mod explain_members;
 mod explained;
 mod explaining;
 mod fault_lines;
 mod level_changes;
 mod listed;
 mod nearest;
+mod obstacle_members;
 mod obstacles;
+mod outlook;
+mod outlooks;
 mod parts;
 mod permitted;
 mod prospect_line;
@@ -30,18 +36,23 @@ mod theorems;
 mod told;
 mod undefined;
 mod under;
+mod unknown_members;
 mod worded;
 mod write_fault;
 mod written;
 mod wrong;
 
+pub use answer_row::write_reply;
 pub use asked::ask;
-pub use asking::answer_in;
+pub use asking::{answer_in, list_answer};
+pub use explain_members::list_explanation;
 pub use explained::explain;
 pub use explaining::explain_in;
 pub use fault_lines::{fault_line, thing_line, word_line};
 pub use listed::explain_chosen;
 pub use mls_wording::Answer;
+pub use outlook::{Outlook, write_outcome};
+pub use outlooks::list_who;
 pub use permitted::who_in;
 pub use prospect_line::push_outcome;
 pub use question::read_question;

@@ -56,7 +56,11 @@ pub fn push_outcome(text: &mut String, names: &Names, prospect: &Prospect) -> Re
 }
 
 /// Appends the line of what a subject may get in a mode.
-fn push_line(text: &mut String, names: &Names, prospect: &Prospect) -> Result<(), AllocError>
+pub(crate) fn push_prospect(
+    text: &mut String,
+    names: &Names,
+    prospect: &Prospect,
+) -> Result<(), AllocError>
     ensures { OnOk result (string_bytes text.new ≡ string_bytes text.old ++ prospect_line names.now prospect.now) }
 {
     push_subject(text, names, prospect.subject)?;
@@ -76,7 +80,7 @@ pub(crate) fn push_prospects(
         (string_bytes text.new ≡ string_bytes text.old ++ prospect_lines names.now prospects.now) }
 {
     for prospect in prospects {
-        push_line(text, names, prospect)?;
+        push_prospect(text, names, prospect)?;
     }
     Ok(())
 }
