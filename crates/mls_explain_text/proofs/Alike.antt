@@ -1,5 +1,5 @@
 -- What stands under the line of an entry, and what is told of the entry of its number.
-use Rattle.std.proofs.Common.{◌≡◌, ℕ, ◌<◌, ◌≤◌, List, length, Some, None, refl, arith}
+use Rattle.std.proofs.Common.{ℕ, ◌<◌, ◌≤◌, List, length, Some, None, refl, arith}
 use Rattle.std.proofs.lemmas.Option.{slice_get_within}
 use Rattle.mls_replay.specs.Replays.{Replayed, ReplaysAt}
 use Rattle.mls_requests.specs.declared.entry.Entry.{Entry}

@@ -1,5 +1,5 @@
 -- The lines of a text, one after the other, each behind two spaces.
-use Rattle.std.proofs.Common.{◌≡◌, ℕ, ◌<◌, List, [], ◌∷◌, ◌++◌, length, filter, cond, ltb, eqb, false, sym, ap, ◌∙◌, subst, append-nil}
+use Rattle.std.proofs.Common.{◌≡◌, ℕ, ◌<◌, List, [], ◌∷◌, ◌++◌, length, filter, cond, ltb, eqb, sym, ap, ◌∙◌, subst, append-nil}
 use Rattle.std.specs.List.{flat_map, slice_split, position_or_len, before_first, after_first}
 use Rattle.std.proofs.lemmas.Bool.{lt-ltb}
 use Rattle.std.proofs.lemmas.Grind.{flat_map-append}

@@ -6,3 +6,4 @@ mod PartsLaw
 pub mod Laws
 mod Telling
 mod Words
+mod Whether

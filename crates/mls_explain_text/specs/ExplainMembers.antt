@@ -1,5 +1,5 @@
 -- The members of an explanation.
-use Rattle.std.specs.Prelude.{ℕ, Bool, true, false, List, [], ◌∷◌, ◌++◌, codes, Option, if◌then◌else◌}
+use Rattle.std.specs.Prelude.{ℕ, Bool, true, false, List, [], ◌∷◌, ◌++◌, codes, Option}
 use Rattle.std.specs.List.{flat_map}
 use Rattle.json.specs.Token.{Token, boolean, key}
 use Rattle.mls_labels.specs.Label.{Label}

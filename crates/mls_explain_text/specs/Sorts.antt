@@ -1,5 +1,5 @@
 -- What the words of a line are to name.
-use Rattle.std.specs.Prelude.{ℕ, Bool, ◌&&◌, ◌==◌, not, false, List, [], ◌∷◌, Option, Some, None, is_err}
+use Rattle.std.specs.Prelude.{ℕ, Bool, ◌&&◌, not, false, List, [], ◌∷◌, Option, Some, None, is_err}
 use Rattle.std.specs.List.{list_any}
 use Rattle.std.specs.Str.{bytes_eq}
 use Rattle.mls_labels.specs.Reading.{label_at}

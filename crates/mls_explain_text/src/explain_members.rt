@@ -1,7 +1,8 @@
 //! Why a line is answered as it is, as one JSON object.
-ghost use Rattle.std.specs.Prelude.{◌≡◌, IsTrue, IfOk, OnOk};
+ghost use Rattle.std.specs.Prelude.{◌≡◌, ◌↔◌, [], IsTrue, IfOk, OnOk};
 ghost use Rattle.mls_rows.specs.Members.{Adds};
 ghost use Rattle.mls_rules.specs.Rules.{is_defined};
+ghost use Rattle.mls_explain.specs.Unknowns.{unknowns};
 ghost use Rattle.mls_explain_text.specs.ExplainMembers.{remedy_members, remedy_of_action};
 ghost use Rattle.mls_explain_text.specs.AnswerMembers.{response_members};
 ghost use Rattle.mls_explain_text.specs.Explained.{Explains};
@@ -17,7 +18,7 @@ use crate::remedy_line::remedy_told;
 use crate::response::{Response, answer_to};
 use crate::unknown_members::write_undefined;
 use json::Writer;
-use mls_explain::{conditions, unknowns};
+use mls_explain::{Unknown, conditions, unknowns};
 use mls_labels::SecLabel;
 use mls_lines::Names;
 use mls_requests::{Action, Ask, Reply, Request};
@@ -94,6 +95,27 @@ fn write_defined(
     write_remedy(alloc, writer, names, request, &reply, remedy)
 }
 
+/// Writes the explanation of a request that names these things which aren't there.
+#[tactic(auto, using(crate::proofs::Whether::whether_defined, crate::proofs::Whether::whether_undefined))]
+fn write_whether(
+    alloc: Global,
+    writer: &mut Writer,
+    names: &Names,
+    state: &State,
+    request: &Request,
+    unknown: &[Unknown],
+) -> Result<(), AllocError>
+    requires found { unknown.now ≡ unknowns state.now request.now }
+    requires none { (unknown.now ≡ []) ↔ IsTrue (is_defined state.now request.now) }
+    ensures { AddsMembers result writer.old writer.new
+        (MembersWhether (is_defined state.now request.now) names.now state.now request.now) }
+{
+    match unknown {
+        [] => write_defined(alloc, writer, names, state, request),
+        [_, ..] => write_undefined(alloc, writer, names, unknown),
+    }
+}
+
 /// Writes the explanation of a request.
 fn write_request(
     alloc: Global,
@@ -106,11 +128,7 @@ fn write_request(
         (MembersWhether (is_defined state.now request.now) names.now state.now request.now) }
 {
     let unknown = unknowns(alloc, state, request)?;
-    let done = if unknown.is_empty() {
-        write_defined(alloc, writer, names, state, request)
-    } else {
-        write_undefined(alloc, writer, names, &unknown)
-    };
+    let done = write_whether(alloc, writer, names, state, request, &unknown);
     drop(unknown);
     done
 }

@@ -40,6 +40,23 @@ fn write_security(
     done
 }
 
+/// Writes an integrity label under a key.
+fn write_integrity_at(
+    alloc: Global,
+    writer: &mut Writer,
+    names: &Names,
+    at: &str,
+    i: IntLabel,
+) -> Result<(), AllocError>
+    ensures { Adds result writer.old writer.new (text_member at.now (integrity_text names.now i)) }
+{
+    let mut text = String::new(alloc);
+    push_integrity(&mut text, names, i)?;
+    let done = write_text(writer, at, &text);
+    drop(text);
+    done
+}
+
 /// Writes an integrity label.
 fn write_integrity(
     alloc: Global,
@@ -49,11 +66,14 @@ fn write_integrity(
 ) -> Result<(), AllocError>
     ensures { Adds result writer.old writer.new (text_member (codes "integrity") (integrity_text names.now i)) }
 {
-    let mut text = String::new(alloc);
-    push_integrity(&mut text, names, i)?;
-    let done = write_text(writer, "integrity", &text);
-    drop(text);
-    done
+    write_integrity_at(alloc, writer, names, "integrity", i)
+}
+
+/// Writes that an integrity label isn't there.
+fn write_no_integrity(writer: &mut Writer) -> Result<(), AllocError>
+    ensures { Adds result writer.old writer.new (text_member (codes "what") (codes "integrity")) }
+{
+    write_what(writer, "integrity")
 }
 
 /// Writes the members of what isn't there.
@@ -79,7 +99,7 @@ fn write_members(
             write_security(alloc, writer, names, l)
         }
         Unknown::Integrity(i) => {
-            write_what(writer, "integrity")?;
+            write_no_integrity(writer)?;
             write_integrity(alloc, writer, names, i)
         }
     }
