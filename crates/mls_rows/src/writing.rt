@@ -1,7 +1,6 @@
 //! Rows, written one after the other.
-ghost use Rattle.std.specs.Prelude.{◌≡◌, ◌∷◌, ◌++◌, [], IfOk};
+ghost use Rattle.std.specs.Prelude.{◌≡◌, IfOk};
 ghost use Rattle.std.specs.List.{flat_map};
-ghost use Rattle.json.specs.Token.{begin_array, end_array, key};
 ghost use Rattle.mls_rows.specs.Members.{Adds, list_member, object_of};
 ghost use Rattle.mls_rows.specs.Rows.{bytes_of, form_of, row_bytes};
 ghost use Rattle.mls_rows.specs.Times.{rows_lent};

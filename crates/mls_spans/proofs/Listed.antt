@@ -10,7 +10,7 @@ use Rattle.mls_replay.specs.declared.question_fault.QuestionFault.{QuestionFault
 use Rattle.mls_replay.specs.declared.question_fault.QuestionFault.TheVariants.{Files, AtMost, NoEntry, Line, Subject, Object}
 use Rattle.mls_rows.specs.declared.form.Form.{Form}
 use Rattle.mls_rows.specs.declared.listing.Listing.{Listing}
-use Rattle.mls_spans.specs.Asked.{Choice, Words, IsBehind, IsChosen}
+use Rattle.mls_spans.specs.Asked.{Choice, Words, IsChosen}
 use Rattle.mls_spans.specs.Listings.{IsListing, ListsFrom, ListsHeld, ListsOver, RefusesFrom, RefusesHeld, RefusesNames}
 
 -- the spans of a replay are listed

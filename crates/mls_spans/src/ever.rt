@@ -194,10 +194,11 @@ fn tell_word(
     Ok(listing)
 }
 
-/// Who could ever get an object, and when: a row in this form for each subject and mode of which one of some states has the
-/// permission on it, with the spans of states in which the get would be granted, as long as they are, that have one of
-/// the states. With the journal's marks the times of their entries are told. The object is named by a name of the start,
-/// or by `#` and its number; without a mode all are asked for. The answer is a positive one where there is such a span.
+/// Who could ever get an object, and when: a row in this form for each subject and mode of which one of some states has
+/// the permission on it, with the spans of states in which the get would be granted, as long as they are, that have one
+/// of the states. With the journal's marks the times of their entries are told. The object is named by a name of the
+/// start, or by `#` and its number; without a mode all are asked for. The answer is a positive one where there is such a
+/// span.
 ///
 /// # Errors
 /// - `Files` as `mls replay` of these files is refused, and with `Memory` where an allocation failed.

@@ -102,15 +102,23 @@ impl<'a> Progress<'a> {
     /// Ends the work, and prints the answer that it came to, or the JSON objects that tell its lines.
     pub fn print(&mut self, text: &[u8]) -> ExitCode {
         self.end();
-        match (self.objects, str::from_utf8(text)) {
-            (Some(Objects::Lines(lines)), Ok(text)) => print_objects(self.rt, lines, text),
-            _ => print(self.rt, text),
+        match self.objects {
+            Some(objects) => print_objects(self.rt, objects, text),
+            None => print(self.rt, text),
         }
     }
 }
 
-/// Prints the JSON objects of a text.
-fn print_objects(rt: &HostRuntime, lines: Lines, text: &str) -> ExitCode {
+/// Prints an answer as JSON objects.
+fn print_objects(rt: &HostRuntime, objects: Objects, answer: &[u8]) -> ExitCode {
+    match (objects, str::from_utf8(answer)) {
+        (Objects::Lines(lines), Ok(text)) => print_told(rt, lines, text),
+        _ => print(rt, answer),
+    }
+}
+
+/// Prints the JSON objects that tell the lines of a text.
+fn print_told(rt: &HostRuntime, lines: Lines, text: &str) -> ExitCode {
     match objects(rt.alloc(), lines.table(text), text) {
         Ok(found) => {
             let status = print(rt, &found);

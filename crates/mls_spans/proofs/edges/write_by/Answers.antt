@@ -1,5 +1,4 @@
 use Rattle.std.proofs.Common.{subst}
-use Rattle.json.specs.Written.{Written}
 use Rattle.std.specs.Prelude.{codes}
 use Rattle.mls_rows.specs.Members.{Adds, text_member}
 use Rattle.mls_spans.proofs.edges.write_by.Goals as goal
