@@ -54,6 +54,26 @@ END $$;
 CREATE FUNCTION mls.is_kept_key(oid) RETURNS bool AS 'MODULE_PATHNAME', 'mls_is_kept_key'
   LANGUAGE C STRICT STABLE PARALLEL RESTRICTED;
 
+-- What a table's indexes, statistics and types call: functions also that stand behind operators, casts to domains, and
+-- ranges, which ANALYZE measures.
+CREATE FUNCTION mls.functions_over(t regclass) RETURNS TABLE (f regprocedure)
+LANGUAGE sql STABLE SET search_path = pg_catalog AS $$
+  WITH RECURSIVE used AS (
+    SELECT d.refclassid AS class, d.refobjid AS id FROM pg_depend d
+      WHERE d.classid = 'pg_class'::regclass AND d.objid IN (SELECT indexrelid FROM pg_index WHERE indrelid = t)
+        OR d.classid = 'pg_statistic_ext'::regclass AND d.objid IN (SELECT s.oid FROM pg_statistic_ext s
+          WHERE s.stxrelid = t)
+    UNION SELECT 'pg_type'::regclass, a.atttypid FROM pg_attribute a WHERE a.attrelid = t AND a.attnum > 0
+    UNION SELECT more.* FROM used u CROSS JOIN LATERAL (
+      SELECT d.refclassid, d.refobjid FROM pg_depend d WHERE d.classid = u.class AND d.objid = u.id
+        AND u.class IN ('pg_proc'::regclass, 'pg_operator'::regclass, 'pg_type'::regclass, 'pg_constraint'::regclass)
+      UNION ALL SELECT 'pg_constraint'::regclass, k.oid FROM pg_constraint k
+        WHERE u.class = 'pg_type'::regclass AND k.contypid = u.id
+      UNION ALL SELECT 'pg_type'::regclass, a.atttypid FROM pg_type y JOIN pg_attribute a ON a.attrelid = y.typrelid
+        WHERE u.class = 'pg_type'::regclass AND y.oid = u.id AND a.attnum > 0) more)
+  SELECT id::regprocedure FROM used WHERE class = 'pg_proc'::regclass
+$$;
+
 -- What of a protected table reads or locks rows beside its policies.
 CREATE FUNCTION mls.faults(t regclass) RETURNS TABLE (finding text, name text, remedy text)
 LANGUAGE sql STABLE SET search_path = pg_catalog AS $$
@@ -68,12 +88,9 @@ LANGUAGE sql STABLE SET search_path = pg_catalog AS $$
     WHERE p.polrelid = t AND NOT p.polpermissive AND p.polname COLLATE "C" < 'mls_write'
       AND p.polname NOT IN ('mls_read', 'mls_append', 'mls_delete')
   UNION ALL SELECT DISTINCT 'function over hidden rows', f.oid::regprocedure || ' on ' || t,
-      'ALTER FUNCTION .. OWNER TO a superuser, or drop the index or statistics'
-    FROM pg_depend d JOIN pg_proc f ON f.oid = d.refobjid JOIN pg_roles o ON o.oid = f.proowner
-    WHERE d.refclassid = 'pg_proc'::regclass AND NOT o.rolsuper
-      AND (d.classid = 'pg_class'::regclass AND d.objid IN (SELECT indexrelid FROM pg_index WHERE indrelid = t)
-        OR d.classid = 'pg_statistic_ext'::regclass AND d.objid IN (SELECT s.oid FROM pg_statistic_ext s
-          WHERE s.stxrelid = t))
+      'ALTER FUNCTION .. OWNER TO a superuser, or drop the index, the statistics or the column'
+    FROM mls.functions_over(t) over JOIN pg_proc f ON f.oid = over.f JOIN pg_roles o ON o.oid = f.proowner
+    WHERE NOT o.rolsuper
 $$;
 
 -- Protects tables that have a column `label`, and all that stand below them: their partitions and heirs. Tables that
@@ -170,18 +187,27 @@ LANGUAGE sql STABLE SET search_path = pg_catalog AS $$
           'pg_current_wal_insert_lsn', 'pg_current_wal_flush_lsn', 'pg_control_checkpoint', 'pg_control_system',
           'pg_control_recovery', 'pg_relation_size', 'pg_table_size', 'pg_indexes_size', 'pg_total_relation_size',
           'pg_database_size', 'pg_tablespace_size', 'pg_last_committed_xact', 'pg_xact_commit_timestamp',
-          'pg_xact_commit_timestamp_origin', 'currtid2', 'gin_clean_pending_list', 'brin_summarize_new_values')))
+          'pg_xact_commit_timestamp_origin', 'currtid2', 'gin_clean_pending_list', 'brin_summarize_new_values',
+          'brin_summarize_range', 'pg_logical_emit_message', 'pg_last_wal_replay_lsn', 'pg_last_wal_receive_lsn',
+          'pg_last_xact_replay_timestamp')))
   UNION ALL SELECT 'other database', d.datname, format('REVOKE CONNECT ON DATABASE %I FROM public', d.datname)
     FROM pg_database d
     WHERE d.datallowconn AND d.datname <> current_database() AND has_database_privilege('public', d.oid, 'CONNECT')
   UNION ALL SELECT 'setting that opens', s.name, 'ALTER SYSTEM RESET ' || s.name
-    FROM pg_settings s WHERE s.name IN ('mls.append_up', 'mls.nextval_up', 'mls.explain') AND s.reset_val = 'on'
+    FROM pg_settings s
+    WHERE s.name IN ('mls.append_up', 'mls.nextval_up', 'mls.explain', 'mls.statistics', 'mls.parallel')
+      AND s.reset_val = 'on' OR s.name = 'default_transaction_isolation' AND s.reset_val = 'serializable'
   UNION ALL SELECT 'setting that opens',
       o.text || coalesce(' of ' || r.rolname, '') || coalesce(' in ' || d.datname, ''),
       'ALTER ROLE or DATABASE .. RESET ' || split_part(o.text, '=', 1)
     FROM pg_db_role_setting s CROSS JOIN unnest(s.setconfig) o(text) LEFT JOIN pg_roles r ON r.oid = s.setrole
       LEFT JOIN pg_database d ON d.oid = s.setdatabase
-    WHERE o.text ~ '^mls[.](append_up|nextval_up|explain)='
+    WHERE o.text ~ '^mls[.](append_up|nextval_up|explain|statistics|parallel)='
+      OR o.text = 'default_transaction_isolation=serializable'
+  UNION ALL SELECT 'parameter that a role may set', p.parname || ': ' || coalesce(r.rolname, 'public'),
+      format('REVOKE %s ON PARAMETER %s FROM %s', a.privilege_type, p.parname, coalesce(quote_ident(r.rolname), 'public'))
+    FROM pg_parameter_acl p CROSS JOIN aclexplode(p.paracl) a LEFT JOIN pg_roles r ON r.oid = a.grantee
+    WHERE r.rolsuper IS NOT TRUE
   UNION ALL SELECT 'setting that tells', s.name, format('ALTER SYSTEM SET %s = off', s.name)
     FROM pg_settings s WHERE s.name = 'synchronize_seqscans' AND s.reset_val = 'on'
   UNION ALL SELECT 'rule that runs as a superuser', w.rulename || ' on ' || r.name, 'DROP RULE, or another owner'

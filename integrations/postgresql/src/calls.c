@@ -30,6 +30,7 @@ static const Oid leaving[] = {
 	F_PG_ADVISORY_UNLOCK_SHARED_INT8, F_PG_ADVISORY_UNLOCK_INT4_INT4, F_PG_ADVISORY_UNLOCK_SHARED_INT4_INT4,
 	F_PG_ADVISORY_UNLOCK_ALL,
 	F_PG_TRY_ADVISORY_XACT_LOCK_INT4_INT4, F_PG_TRY_ADVISORY_XACT_LOCK_SHARED_INT4_INT4,
+	F_BRIN_SUMMARIZE_NEW_VALUES, F_BRIN_SUMMARIZE_RANGE, F_BRIN_DESUMMARIZE_RANGE, F_GIN_CLEAN_PENDING_LIST,
 };
 
 static bool
@@ -89,7 +90,7 @@ on_scans(bool *value, void **extra, GucSource source)
 	return next_scans == NULL || next_scans(value, extra, source);
 }
 
-static struct config_generic *
+struct config_generic *
 find_setting(const char *name)
 {
 #if PG_VERSION_NUM >= 160000

@@ -9,6 +9,7 @@
 #include "catalog/objectaccess.h"
 #include "datatype/timestamp.h"
 #include "nodes/nodes.h"
+#include "nodes/pg_list.h"
 #include "utils/relcache.h"
 
 #define ANSWER_MAX 64			/* bytes of an answer of mlsd, and the byte that ends it */
@@ -57,6 +58,8 @@ extern bool mls_preview;
 extern bool mls_append_up;
 extern bool mls_nextval_up;
 extern bool mls_explain;
+extern bool mls_statistics;
+extern bool mls_parallel;
 
 /* inbox.c: what has come from mlsd */
 extern bool inbox_has_line(void);
@@ -132,8 +135,17 @@ extern void appends_start(void);
 extern bool statement_is_copying(void);
 extern bool statement_copies(bool is_so);
 extern bool statement_is_explaining(void);
+extern bool option_is_on(List *options, const char *name, bool otherwise);
 extern void statements_start(void);
 extern void tables_start(void);
 extern void calls_start(void);
+extern struct config_generic *find_setting(const char *name);
+
+/* estimates.c: what plans are made of */
+extern void estimates_start(void);
+
+/* isolation.c: SERIALIZABLE transactions */
+extern void isolation_start(void);
+extern bool isolation_is_set(void);
 
 #endif

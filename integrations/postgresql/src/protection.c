@@ -74,7 +74,7 @@ must_name_tables(bool does)
 						errmsg("mls: only a superuser vacuums, clusters or reindexes all tables")));
 }
 
-/* VACUUM and ANALYZE say how many rows there are. */
+/* VACUUM and ANALYZE say how many rows there are; and with VERBOSE, which pages were in the cache. */
 static void
 look_at_vacuumed(VacuumStmt *vacuum)
 {
@@ -83,6 +83,9 @@ look_at_vacuumed(VacuumStmt *vacuum)
 	must_name_tables(vacuum->rels != NIL);
 	foreach(cell, vacuum->rels)
 		must_stay(((VacuumRelation *) lfirst(cell))->relation);
+	if (option_is_on(vacuum->options, "verbose", false))
+		ereport(ERROR, (errcode(ERRCODE_INSUFFICIENT_PRIVILEGE),
+						errmsg("mls: VERBOSE would tell what other sessions read")));
 }
 
 /* A constraint of a domain looks at all rows of all tables. */

@@ -65,6 +65,10 @@ session_level(const char *label)
 	char		answer[ANSWER_MAX];
 	const char *subject = subject_name();
 
+	if (isolation_is_set() && guard_is_on())
+		ereport(ERROR, (errcode(ERRCODE_INVALID_TRANSACTION_STATE),
+						errmsg("mls: the level stays while transactions are SERIALIZABLE by default"),
+						errhint("SET default_transaction_isolation first.")));
 	session_reach();
 	containers_each_kept(let_go_kept);
 	for (Container *c = containers_touched(); c != NULL; c = c->next_touched)

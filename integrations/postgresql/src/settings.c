@@ -19,6 +19,8 @@ bool		mls_preview;
 bool		mls_append_up;
 bool		mls_nextval_up;
 bool		mls_explain;
+bool		mls_statistics;
+bool		mls_parallel;
 
 static void
 define_text(const char *name, const char *what, char **value, const char *start)
@@ -70,10 +72,16 @@ _PG_init(void)
 	define_opening("mls.nextval_up", "Sequences may be advanced above the level of the catalog.", &mls_nextval_up);
 	define_opening("mls.explain", "Plans over protected tables are shown, with what they tell of hidden rows.",
 				   &mls_explain);
+	define_opening("mls.statistics", "Plans over protected tables are made of the statistics of hidden rows too.",
+				   &mls_statistics);
+	define_opening("mls.parallel", "Queries use the parallel workers, of which there are only so many for all sessions.",
+				   &mls_parallel);
 	MarkGUCPrefixReserved("mls");
 	session_start();
 	statements_start();
 	tables_start();
 	calls_start();
 	appends_start();
+	estimates_start();
+	isolation_start();
 }

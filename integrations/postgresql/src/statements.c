@@ -3,6 +3,7 @@
  * the catalog's container.
  */
 #include "mls.h"
+#include "commands/defrem.h"
 #include "nodes/parsenodes.h"
 #include "storage/lockdefs.h"
 #include "tcop/cmdtag.h"
@@ -113,9 +114,35 @@ discards_all(Node *statement)
 	return IsA(statement, DiscardStmt) && ((DiscardStmt *) statement)->target == DISCARD_ALL;
 }
 
+/* Whether an option of a statement is on; where it isn't named, what it is then. */
+bool
+option_is_on(List *options, const char *name, bool otherwise)
+{
+	ListCell   *cell;
+
+	foreach(cell, options)
+		if (strcmp(((DefElem *) lfirst(cell))->defname, name) == 0)
+			otherwise = defGetBoolean(lfirst(cell));
+	return otherwise;
+}
+
+/* How many pages of any table a plan found in the cache tells which ones others have read. */
+static void
+look_at_explained(ExplainStmt *explain)
+{
+	bool		counts = PG_VERSION_NUM >= 180000 && option_is_on(explain->options, "analyze", false);
+
+	if (option_is_on(explain->options, "buffers", counts) && !mls_explain && guard_is_on())
+		ereport(ERROR, (errcode(ERRCODE_INSUFFICIENT_PRIVILEGE),
+						errmsg("mls: EXPLAIN (BUFFERS) would tell what other sessions read"),
+						errhint("A superuser may set mls.explain.")));
+}
+
 static void
 look_at(Node *statement)
 {
+	if (IsA(statement, ExplainStmt))
+		look_at_explained((ExplainStmt *) statement);
 	if (leaves_nothing(statement) || !guard_is_on())
 		return;
 	guard_must_append(GetCommandTagName(CreateCommandTag(statement)));

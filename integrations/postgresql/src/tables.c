@@ -182,13 +182,17 @@ on_start(QueryDesc *query, int flags)
 		standard_ExecutorStart(query, flags);
 }
 
-/* A user may have plans printed, with their estimates. */
+/* No worker is used, and no plan is printed with its estimates, as a user may ask. */
 static PlannedStmt *
 on_plan(Query *query, const char *text, int options, ParamListInfo params)
 {
 	planner_hook_type next = next_planner != NULL ? next_planner : standard_planner;
-	PlannedStmt *plan = next(query, text, options, params);
+	PlannedStmt *plan;
 
+	/* (how many workers are free tells what others do) */
+	if (!mls_parallel && (options & CURSOR_OPT_PARALLEL_OK) != 0 && guard_is_on())
+		options &= ~CURSOR_OPT_PARALLEL_OK;
+	plan = next(query, text, options, params);
 	if (Debug_print_plan && !mls_explain && guard_is_on())
 		look_at_explained(plan);
 	return plan;

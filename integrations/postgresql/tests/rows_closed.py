@@ -153,7 +153,7 @@ def test_functions_see_visible_rows_alone(world):
 
 
 def test_no_plan_is_parallel(world):
-    with world.opened("explain"):
+    with world.opened("explain"), world.opened("parallel"):
         world.same([
             ("bob", "SET max_parallel_workers_per_gather = 4; SET parallel_setup_cost = 0; "
                     "SET parallel_tuple_cost = 0; SET min_parallel_table_scan_size = 0; "

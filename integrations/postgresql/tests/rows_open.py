@@ -85,7 +85,7 @@ def test_keys_tell(world):
 
 
 def test_sizes_and_estimates_tell(world):
-    with world.opened("explain"):
+    with world.opened("explain"), world.opened("statistics"):
         told(world)
 
 

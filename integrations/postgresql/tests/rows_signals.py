@@ -290,7 +290,8 @@ def test_the_worker_of_a_parallel_query_asks_nothing(world):
                             "ERROR:  mls: ann may not call pg_cancel_backend: no star\n"),
                            ("bob", force + "CREATE TABLE d.copy AS SELECT d.reads();",
                             "ERROR:  mls: rows of docs would be copied without their labels\n")):
-        found = world.ask(role, sql).removeprefix("S:A\n")
+        with world.opened("parallel"):
+            found = world.ask(role, sql).removeprefix("S:A\n")
         assert found in (alone, own), f"{sql}\n found {found}"
     world.same([("bob", "DROP FUNCTION d.reads; DROP FUNCTION d.cancels;", "")])
 
