@@ -205,7 +205,8 @@ LANGUAGE sql STABLE SET search_path = pg_catalog AS $$
     WHERE o.text ~ '^mls[.](append_up|nextval_up|explain|statistics|parallel)='
       OR o.text = 'default_transaction_isolation=serializable'
   UNION ALL SELECT 'parameter that a role may set', p.parname || ': ' || coalesce(r.rolname, 'public'),
-      format('REVOKE %s ON PARAMETER %s FROM %s', a.privilege_type, p.parname, coalesce(quote_ident(r.rolname), 'public'))
+      format('REVOKE %s ON PARAMETER %s FROM %s', a.privilege_type, p.parname,
+        coalesce(quote_ident(r.rolname), 'public'))
     FROM pg_parameter_acl p CROSS JOIN aclexplode(p.paracl) a LEFT JOIN pg_roles r ON r.oid = a.grantee
     WHERE r.rolsuper IS NOT TRUE
   UNION ALL SELECT 'setting that tells', s.name, format('ALTER SYSTEM SET %s = off', s.name)

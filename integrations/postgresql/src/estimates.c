@@ -1,6 +1,6 @@
 /*
- * What plans are made of. The statistics of a protected table are those of its hidden rows too; and which plan is made
- * shows, by the order of rows and by counters, without EXPLAIN. So a user's plans have none, unless mls.statistics is on.
+ * What plans are made of. The statistics of a protected table are those of its hidden rows too, and the order of rows
+ * and counters show which plan was made, without EXPLAIN. So a user's plans have none, unless mls.statistics is on.
  */
 #include "mls.h"
 #include "catalog/index.h"

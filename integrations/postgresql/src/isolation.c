@@ -1,5 +1,5 @@
 /*
- * SERIALIZABLE transactions. Another one waits for such a transaction, or fails by what it reads; and a snapshot of it is
+ * SERIALIZABLE transactions. Another one waits for such a transaction, or fails by what it reads, and its snapshot is
  * taken before any query runs. So the level of isolation itself needs append on the catalog's container.
  */
 #include "mls.h"
