@@ -3,11 +3,12 @@ import os
 import re
 import signal
 import socket
+import subprocess
 import time
 
 import fronts
 import mls
-from fronts import ANN, BOB, IS_ROOT, JOURNAL, OF_AUD, OTHER, SOCKET, Front, comes, connected, core, entries, fresh
+from fronts import ALL, ANN, BOB, IS_ROOT, JOURNAL, OF_AUD, OTHER, SOCKET, Front, comes, connected, core, entries, fresh
 from fronts import received, refused, rest_of, sessions_of_entries, told
 from mls import Ended
 from outside import SECONDS, put, same, shown
@@ -166,6 +167,8 @@ def words_that_are_refused():
     same(refused(words=plain), (2, ["mlsd: the core's words lack --sessions"]))
     same(refused(words=[word for word in core() if word != "--names"]), (2, ["mlsd: the core's words lack --names"]))
     same(refused(socket_words=()), (2, ["mlsd: neither --socket nor a socket that was passed"]))
+    status, line = refused(b"--\xff")
+    assert status == 2 and usage in line[0], (status, line)
 
 
 def lines_and_their_ends():
@@ -321,6 +324,42 @@ def a_failed_append_is_5():
         assert len(entries()) >= answered == (failed - 3) // 2, (failed, answered)
 
 
+def standard_error_that_takes_nothing():
+    """A full disk behind it, or a reader that is gone, changes no status and ends nothing."""
+    fresh()
+    with open("/dev/full", "wb") as full:
+        done = subprocess.run([fronts.mlsd(), "--frob"], stderr=full, stdin=subprocess.DEVNULL, timeout=SECONDS)
+    same(done.returncode, 2)
+    with Front() as front:
+        front.run.stderr.close()
+        put(fronts.USERS, b"0 = zoe\n")
+        front.run.send_signal(signal.SIGHUP)
+        comes(lambda: any(what == "refused" for _, what, _ in told()), True)
+        same(front.client().ask("ann get-read plans"), "yes")
+        front.run.terminate()
+        same(front.run.wait(SECONDS), 0)
+
+
+def an_end_before_it_is_ready():
+    """SIGTERM ends mlsd at once where its core isn't ready yet: nobody has asked anything."""
+    fresh()
+    put(fronts.USERS, ALL)
+    words = ["sh", "-c", "echo $$ >core.pid; exec sleep 600", *core()[1:]]
+    asked = [fronts.mlsd(), "--socket", SOCKET, "--users", fronts.USERS, "--", *words]
+    run = subprocess.Popen(asked, stdin=subprocess.DEVNULL)
+    try:
+        comes(lambda: os.path.exists("core.pid") and content("core.pid").endswith(b"\n"), True)
+        run.send_signal(signal.SIGHUP)
+        time.sleep(0.1)
+        same(run.poll(), None)
+        run.terminate()
+        same(run.wait(SECONDS), -signal.SIGTERM)
+    finally:
+        run.kill()
+        os.kill(int(content("core.pid")), signal.SIGKILL)
+        os.remove("core.pid")
+
+
 def a_drain():
     """SIGTERM: what was asked is answered, and the front ends with 0 once its core has."""
     fresh()
@@ -413,6 +452,8 @@ CHECKS = [
     what_the_sessions_file_says,
     one_front_a_journal_and_a_socket,
     cores_that_end,
+    standard_error_that_takes_nothing,
+    an_end_before_it_is_ready,
     a_drain,
     a_socket_that_is_passed,
     entry_numbers,

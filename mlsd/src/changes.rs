@@ -1,6 +1,7 @@
 //! What is done where the journal's file has grown: it is told how full it is, and sessions files go with its files.
 use crate::desk::Desk;
 use crate::ending::End;
+use crate::say::say;
 
 impl Desk {
     /// At a start, before anything is asked. A kill may have come before the sessions file was closed with the
@@ -30,7 +31,7 @@ impl Desk {
 
     fn warn(&mut self) {
         if let Some(told) = self.journal.warning() {
-            eprintln!("mlsd: {told}");
+            say(told);
         }
     }
 

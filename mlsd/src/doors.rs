@@ -5,6 +5,7 @@ use crate::desk::Desk;
 use crate::files::Files;
 use crate::hall::Hall;
 use crate::listen::notify;
+use crate::say::say;
 use crate::sys::{self, Peer};
 use crate::who::Who;
 use std::io::{Read, Write};
@@ -59,7 +60,7 @@ impl Hall<'_> {
             match self.reload() {
                 Ok(()) => self.desk.sessions.tell_front("reloaded", self.desk.entries, "users"),
                 Err(told) => {
-                    eprintln!("mlsd: {told}: the users are as they were");
+                    say(format!("{told}: the users are as they were"));
                     self.desk.sessions.tell_front("refused", self.desk.entries, "users");
                 }
             }

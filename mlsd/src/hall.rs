@@ -6,6 +6,7 @@ use crate::ending::End;
 use crate::inbox::Line;
 use crate::line::{judge, Judged, Verdict};
 use crate::returns::Clients;
+use crate::say::say;
 use crate::sys::{self, PollFd};
 use std::os::unix::io::AsRawFd;
 use std::os::unix::net::{UnixListener, UnixStream};
@@ -153,7 +154,7 @@ impl Hall<'_> {
         let is_over = self.drains.map_or(false, |drains| now > drains + GRACE) && self.desk.is_still();
         let is_stuck = self.ends.map_or(false, |ends| now > ends + STUCK);
         if (is_over || is_stuck) && !self.is_killed {
-            eprintln!("mlsd: the core stands still: it is killed");
+            say("the core stands still: it is killed");
             self.is_killed = true;
             self.desk.core.kill();
         }

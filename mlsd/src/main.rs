@@ -27,6 +27,7 @@ mod pools;
 mod probe;
 mod pulse;
 mod returns;
+mod say;
 mod sessions;
 mod start;
 mod stats;
@@ -57,7 +58,7 @@ fn wake() -> Result<(UnixStream, UnixStream), End> {
     let told = |error| End::own("socketpair", error);
     let (wake, waker) = UnixStream::pair().map_err(told)?;
     wake.set_nonblocking(true).and(waker.set_nonblocking(true)).map_err(told)?;
-    sys::catch_signals(waker.as_raw_fd());
+    sys::catch_signals(waker.as_raw_fd(), &[sys::HANGUP]);
     Ok((wake, waker))
 }
 
@@ -69,7 +70,7 @@ fn most_clients() -> usize {
 fn serve(
     desk: &mut Desk,
     held: &[(names::Triple, bool)],
-    wake: UnixStream,
+    (wake, waker): (UnixStream, &UnixStream),
     passed: Option<UnixListener>,
 ) -> Result<(), End> {
     let more = format!("pid {} core {}", std::process::id(), desk.core.pid());
@@ -77,6 +78,8 @@ fn serve(
     desk.flush()?;
     desk.begin_files()?;
     desk.settle(held)?;
+    // (until here they end it at once, as a kill does: nobody has asked anything)
+    sys::catch_signals(waker.as_raw_fd(), &sys::ENDINGS);
     let (listener, own) = listen::listener(passed, desk.words.socket.as_deref())?;
     listen::notify(&format!("READY=1\nSTATUS={}\n", desk.status()));
     let clients = returns::Clients::new();
@@ -103,7 +106,8 @@ fn serve(
 }
 
 fn run() -> Result<(), End> {
-    let args: Vec<String> = std::env::args().skip(1).collect();
+    let args = std::env::args_os().skip(1).map(|word| word.into_string());
+    let args: Vec<String> = args.collect::<Result<_, _>>().map_err(|_| End::words(words::USAGE))?;
     if let [word, path] = &args[..] {
         if word == "--probe" {
             return probe::probe(path.clone());
@@ -111,7 +115,7 @@ fn run() -> Result<(), End> {
     }
     let words = Words::parse(args.into_iter())?;
     let passed = listen::passed();
-    let (wake, _waker) = wake()?;
+    let (wake, waker) = wake()?;
     let (core, mut opening) = Core::start(&words.core)?;
     let files = match Files::open(&words, &opening.names) {
         Ok(files) => files,
@@ -125,7 +129,7 @@ fn run() -> Result<(), End> {
     }
     let held = opening.held.clone();
     let mut desk = Desk::new(words, core, opening, files, most_clients());
-    let ended = serve(&mut desk, &held, wake, passed);
+    let ended = serve(&mut desk, &held, (wake, &waker), passed);
     desk.put_metrics(false);
     let Desk { core, mut sessions, mut journal, entries, .. } = desk;
     let status = core.end().map_err(|error| End::own("wait", error))?;
@@ -146,7 +150,7 @@ fn run() -> Result<(), End> {
 
 fn main() {
     if let Err(end) = run() {
-        eprintln!("mlsd: {}", end.told);
+        say::say(end.told);
         std::process::exit(end.status);
     }
 }

@@ -1,5 +1,6 @@
 //! What the front counts, for Prometheus: a file in its text format, which node_exporter's textfile collector reads.
 use crate::desk::Desk;
+use crate::say::say;
 use crate::stats::{memory, Counts, BOUNDS};
 use std::fmt::Write as _;
 use std::fs::{self, OpenOptions, Permissions};
@@ -43,7 +44,7 @@ impl Metrics {
     fn put(&mut self, text: &str) {
         let done = write(&self.path, text);
         if let (Err(error), false) = (&done, self.is_failing) {
-            eprintln!("mlsd: {}: {error}: it is tried again, and not told again", self.path);
+            say(format!("{}: {error}: it is tried again, and not told again", self.path));
         }
         self.is_failing = done.is_err();
     }

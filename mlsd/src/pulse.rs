@@ -3,6 +3,7 @@
 use crate::desk::Desk;
 use crate::due::Asked;
 use crate::listen::notify;
+use crate::say::say;
 use std::time::{Duration, Instant};
 
 /// How long it may be quiet before it is asked, and how long it may answer nothing.
@@ -61,7 +62,7 @@ impl Desk {
     /// The core has answered.
     pub fn is_heard(&mut self) {
         if let Some(since) = self.pulse.still.take() {
-            eprintln!("mlsd: the core answers again, after {} s", self.now.duration_since(since).as_secs());
+            say(format!("the core answers again, after {} s", self.now.duration_since(since).as_secs()));
         }
         self.pulse.heard = self.now;
         if self.pulse.has_watchdog {
@@ -74,7 +75,7 @@ impl Desk {
         match self.waits_since() {
             Some(since) if self.is_still() && self.pulse.still.is_none() => {
                 let (pid, seconds) = (self.core.pid(), self.now.duration_since(since).as_secs());
-                eprintln!("mlsd: the core, process {pid}, has answered nothing for {seconds} s");
+                say(format!("the core, process {pid}, has answered nothing for {seconds} s"));
                 self.pulse.still = Some(since);
             }
             None if may_ask && self.now.duration_since(self.pulse.heard) >= self.pulse.quiet => {

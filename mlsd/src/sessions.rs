@@ -6,6 +6,7 @@
 use crate::clock;
 use crate::ending::End;
 use crate::journal::{folder, node, numbered, numbers};
+use crate::say::say;
 use std::fs::{self, File, OpenOptions, Permissions};
 use std::io::{self, BufRead, BufReader, Read, Seek, SeekFrom, Write};
 use std::os::unix::fs::{OpenOptionsExt, PermissionsExt};
@@ -139,7 +140,7 @@ impl Sessions {
         let kept = numbered(&self.path, closed);
         match fs::hard_link(&self.path, &kept) {
             Err(error) if error.kind() == io::ErrorKind::AlreadyExists && node(&kept) != node(&self.path) => {
-                eprintln!("mlsd: {}: is there already: the sessions file goes on", kept.display());
+                say(format!("{}: is there already: the sessions file goes on", kept.display()));
                 return Ok(());
             }
             Err(error) if error.kind() != io::ErrorKind::AlreadyExists => return Err(own(error)),

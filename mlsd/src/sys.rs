@@ -21,7 +21,8 @@ pub const OUT: i16 = 4;
 pub const GONE: i16 = 8 | 16 | 32;
 
 pub const HANGUP: u8 = 1;
-const SIGNALS: [c_int; 3] = [1, 2, 15];
+/// SIGINT and SIGTERM.
+pub const ENDINGS: [u8; 2] = [2, 15];
 
 const SOL_SOCKET: c_int = 1;
 const SO_PEERCRED: c_int = 17;
@@ -127,12 +128,12 @@ extern "C" fn on_signal(number: c_int) {
     }
 }
 
-/// From now on SIGHUP, SIGINT and SIGTERM write their number as a byte to `wake`, which must not block.
-pub fn catch_signals(wake: RawFd) {
+/// From now on these signals write their number as a byte to `wake`, which must not block.
+pub fn catch_signals(wake: RawFd, numbers: &[u8]) {
     WAKE.store(wake, Ordering::Relaxed);
-    for number in SIGNALS {
+    for number in numbers {
         // SAFETY: the handler does only what a handler may.
-        unsafe { signal(number, on_signal as extern "C" fn(c_int) as usize) };
+        unsafe { signal(c_int::from(*number), on_signal as extern "C" fn(c_int) as usize) };
     }
 }
 
