@@ -81,6 +81,11 @@ def units_and_their_statuses():
     assert len(rows) >= 4 and "6" in rows, rows
     same(re.search(r"^RestartPreventExitStatus=(.*)$", unit, re.M)[1].split(), rows)
     same(re.search(r'"\$EXIT_STATUS" in ([\d|]+)\)', unit)[1].split("|"), rows)
+    # (what is started again is so each second, and without an end)
+    for name in ("share/systemd/mlsd", "integrations/guard/mls-guard", "integrations/etcd/mls-replica"):
+        text = content(f"{TOP}/{name}.service").decode().splitlines()
+        section = text[text.index("[Unit]") : text.index("[Service]")]
+        same((name, "StartLimitIntervalSec=0" in section, "RestartSec=1" in text), (name, True, True))
 
 
 @needs_proof

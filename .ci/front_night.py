@@ -91,16 +91,20 @@ def metrics_are_what_was_asked():
 
 
 def metrics_are_written_anew():
-    """Each 15 seconds, also where nobody asks, and where they can't be written mlsd serves, and tells it once."""
+    """Each 15 seconds, also where nobody asks, and where they can't be written mlsd serves, and tells it once. As often
+    the service manager is told how many entries there are."""
     fresh()
     os.mkdir("folder")
     with Front("--metrics", f"folder/{METRICS}") as front:
         comes(lambda: os.path.exists(f"folder/{METRICS}"), True)
         before = os.stat(f"folder/{METRICS}").st_mtime_ns
+        same(front.client().ask("ann get-read plans"), "yes")
         comes(lambda: os.stat(f"folder/{METRICS}").st_mtime_ns != before, True, 2 * SECONDS)
+        status = f"STATUS=1 entries, {os.path.getsize(JOURNAL)} of 268435456 bytes in the journal's file"
+        assert front.notices.has(status, lambda: front.run.poll() is None)
         os.rename("folder", "elsewhere")
         is_told(front, b"folder/m.prom")
-        same(front.client().ask("ann check read plans"), "not held")
+        same(front.client().ask("ann check read plans"), "held")
         same(front.end(), (0, b""))
 
 

@@ -137,6 +137,7 @@ impl Hall<'_> {
         }
         self.desk.flush()?;
         self.desk.beat(!self.is_ending);
+        self.desk.tell_status();
         self.desk.measure();
         self.desk.core.send(self.linger());
         self.end_still();

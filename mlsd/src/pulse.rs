@@ -9,6 +9,8 @@ use std::time::{Duration, Instant};
 /// How long it may be quiet before it is asked, and how long it may answer nothing.
 const QUIET: Duration = Duration::from_secs(2);
 const STILL: Duration = Duration::from_secs(5);
+/// How often the service manager is told how many entries there are, where there are more than before.
+const TOLD: Duration = Duration::from_secs(15);
 /// What has one answer of any core, without an entry.
 pub const QUESTION: &str = "#0 check execute #0";
 
@@ -20,6 +22,8 @@ pub struct Pulse {
     still: Option<Instant>,
     quiet: Duration,
     has_watchdog: bool,
+    /// When the service manager was told how many entries there are, and how many.
+    told: (Instant, u64),
 }
 
 /// How long the service manager waits to be told that all is well.
@@ -33,7 +37,7 @@ impl Pulse {
     pub fn new(now: Instant) -> Pulse {
         let watchdog = watchdog();
         let quiet = watchdog.map_or(QUIET, |most| QUIET.min(most / 4));
-        Pulse { heard: now, still: None, quiet, has_watchdog: watchdog.is_some() }
+        Pulse { heard: now, still: None, quiet, has_watchdog: watchdog.is_some(), told: (now, 0) }
     }
 }
 
@@ -83,6 +87,15 @@ impl Desk {
                 self.core.ask(0, QUESTION, false, self.now, asked, true);
             }
             _ => (),
+        }
+    }
+
+    /// Tells the service manager how many entries there are.
+    pub fn tell_status(&mut self) {
+        let (told, entries) = self.pulse.told;
+        if entries != self.entries && self.now.duration_since(told) >= TOLD {
+            notify(&format!("STATUS={}", self.status()));
+            self.pulse.told = (self.now, self.entries);
         }
     }
 
