@@ -356,7 +356,7 @@ def an_archive():
 
 
 def what_share_has():
-    """The dashboard and the four alert rules name metrics that mlsd writes, and each rule says what to do."""
+    """The dashboard and the five alert rules name metrics that mlsd writes, and each rule says what to do."""
     fresh()
     front_pools.start()
     with Front("--metrics", "m", users=front_pools.RULES, words=core(start=front_pools.START)) as front:
@@ -374,7 +374,7 @@ def what_share_has():
     named = set(re.findall(r"\bmlsd_\w+", " ".join(asked)))
     assert len(named) > 15 and named <= families, named - families
     alerts = re.findall(r"- alert: (\w+)", rules)
-    same((len(alerts), rules.count("expr:"), rules.count("action: >-")), (4, 4, 4))
+    same((len(alerts), rules.count("expr:"), rules.count("action: >-")), (5, 5, 5))
     same([it for it in alerts if f"`{it}`" not in page], [])
     same([it for it in families if not it.endswith("_bucket") and f"`{it}" not in page], [])
 

@@ -1,5 +1,6 @@
 """A night on call: what mlsd tells by its metrics, its probe and its watchdog, where its core answers and where it
 stands still; and a night itself, by a factor."""
+import json
 import os
 import random
 import re
@@ -11,7 +12,7 @@ import time
 import fronts
 from front_pools import RULES, START, start
 from fronts import ANN, BOB, JOURNAL, SOCKET, Front, comes, core, entries, fresh, mlsd, told
-from outside import IS_PROVED, SECONDS, same
+from outside import IS_PROVED, SECONDS, TOP, put, same
 
 SHORT = FULL = False
 METRICS = "m.prom"
@@ -117,6 +118,43 @@ def promtool_reads_the_metrics():
     with open(METRICS, "rb") as file:
         done = subprocess.run(["promtool", "check", "metrics"], stdin=file, capture_output=True, timeout=SECONDS)
     same((done.returncode, done.stdout, done.stderr), (0, b"", b""))
+
+
+# What metrics say each 15 seconds, and which alerts fire then, by the seconds.
+WRITTEN = "mlsd_written_time_seconds"
+ALERTS = [
+    ("mlsd has ended", {"mlsd_up": "1 1 1 0x20", WRITTEN: "0+15x23"}, {45: [], 75: [], 120: ["MlsdDown"]}),
+    ("it was killed", {"mlsd_up": "1x20", WRITTEN: "0 15 30 30x17"}, {90: [], 150: [], 165: ["MlsdDown"]}),
+    ("the watchdog ended it", {"mlsd_oldest_unanswered_seconds": "0 0 0 7.5 22.5 0x20"},
+     {30: [], 45: ["MlsdCoreStandsStill"], 60: ["MlsdCoreStandsStill"], 75: []}),
+    ("two starts behind the first", {"mlsd_start_time_seconds": "1x9 150x9 290x50"},
+     {135: [], 150: [], 300: ["MlsdRestarts"], 1_200: []}),
+    ("a journal fills", {"mlsd_journal_bytes": "80 81", "mlsd_journal_limit_bytes": "100 100"},
+     {0: [], 15: ["MlsdJournalFills"]}),
+    ("a journal in segments", {"mlsd_journal_bytes": "1e12x9"}, {120: []}),
+    ("somebody is refused", {'mlsd_refused_total{reason="busy"}': "0 1 2+1x30"}, {120: [], 450: ["MlsdClientsAreRefused"]}),
+    ("nobody is known", {'mlsd_refused_total{reason="not known"}': "0+1x40"}, {450: []}),
+    ("a pool has none", {'mlsd_answers_total{from="mlsd",kind="busy"}': "0+1x40"}, {450: ["MlsdClientsAreRefused"]}),
+    ("the core denies", {'mlsd_answers_total{from="core",kind="no star"}': "0+1x40"}, {450: []}),
+]  # fmt: skip
+
+
+def promtool_tries_the_alerts():
+    """Each alert fires where it should, by a table of metrics, and no other."""
+    rules = f"{TOP}/share/prometheus/mlsd.rules.yml"
+    same(subprocess.run(["promtool", "check", "rules", rules], capture_output=True, timeout=SECONDS).returncode, 0)
+    expr = 'count by (alertname) (ALERTS{alertstate="firing"})'
+    sample = lambda alert: {"labels": f'{{alertname="{alert}"}}', "value": 1}
+    tests = []
+    for _, series, firing in ALERTS:
+        asked = [{"expr": expr, "eval_time": f"{at}s", "exp_samples": [sample(it) for it in alerts]}
+                 for at, alerts in firing.items()]  # fmt: skip
+        values = [{"series": name, "values": values} for name, values in series.items()]
+        tests.append({"interval": "15s", "input_series": values, "promql_expr_test": asked})
+    # (JSON is YAML too)
+    put("alerts.yml", json.dumps({"rule_files": [rules], "evaluation_interval": "15s", "tests": tests}).encode())
+    done = subprocess.run(["promtool", "test", "rules", "alerts.yml"], capture_output=True, text=True, timeout=SECONDS)
+    same((done.returncode, done.stderr), (0, ""))
 
 
 def line_of(front, seconds=SECONDS):
@@ -293,4 +331,4 @@ CHECKS = [
     a_night,
 ]
 AS_ROOT = [who_may_probe, stats_for_a_group]
-WITH_PROMTOOL = [promtool_reads_the_metrics]
+WITH_PROMTOOL = [promtool_reads_the_metrics, promtool_tries_the_alerts]
