@@ -280,6 +280,12 @@ def one_front_a_journal_and_a_socket():
     put(SOCKET, b"no socket")
     status, line = refused()
     same((status, content(SOCKET)), (1, b"no socket"))
+    os.remove(SOCKET)
+    with socket.socket(socket.AF_UNIX, socket.SOCK_DGRAM) as other:
+        other.bind(SOCKET)
+        same(refused(), (1, [f"mlsd: {SOCKET}: Protocol wrong type for socket (os error 91)"]))
+        assert os.path.exists(SOCKET), "another program's socket was taken away"
+    os.remove(SOCKET)
 
 
 def cores_that_end():

@@ -1,6 +1,7 @@
 //! The socket that clients connect to, and what the service manager is told.
 use crate::ending::End;
 use crate::sys;
+use std::io::ErrorKind;
 use std::os::unix::fs::{FileTypeExt, PermissionsExt};
 use std::os::unix::net::{UnixDatagram, UnixListener, UnixStream};
 
@@ -31,11 +32,12 @@ pub fn listener(passed: Option<UnixListener>, path: Option<&str>) -> Result<(Uni
 fn bound(path: &str) -> Result<UnixListener, End> {
     let told = |error| End::own(path, error);
     if std::fs::symlink_metadata(path).map_or(false, |meta| meta.file_type().is_socket()) {
-        if UnixStream::connect(path).is_ok() {
-            return Err(End::own(path, "in use"));
+        match UnixStream::connect(path) {
+            Ok(_) => return Err(End::own(path, "in use")),
+            // (nobody listens there any more)
+            Err(error) if error.kind() == ErrorKind::ConnectionRefused => std::fs::remove_file(path).map_err(told)?,
+            Err(error) => return Err(told(error)),
         }
-        // (nobody listens there any more)
-        std::fs::remove_file(path).map_err(told)?;
     }
     let listener = UnixListener::bind(path).map_err(told)?;
     std::fs::set_permissions(path, std::fs::Permissions::from_mode(MODE)).map_err(told)?;
