@@ -19,8 +19,16 @@ async def head_of(reader):
     return int(lines[0].split()[1]), {name.strip().lower(): value.strip() for name, _, value in fields}
 
 
+async def size_of(reader):
+    """How many bytes the next piece of a body has."""
+    line = await reader.readline()
+    if not line:
+        raise ConnectionError("the connection was closed")
+    return int(line, 16)
+
+
 async def chunks(reader):
-    while size := int(await reader.readline(), 16):
+    while size := await size_of(reader):
         yield (await reader.readexactly(size + 2))[:-2]
     await reader.readline()
 
