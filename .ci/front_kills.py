@@ -138,8 +138,10 @@ def kills_in_segments():
             seen = set()
         what = [("front",), ("core",), ("core", "front"), ("front", "core")][turn % 4]
         with Front("--release-on-close", users=front_pools.RULES, words=words) as front:
-            same((turn, held(start=front_pools.START)), (turn, []))
-            same({fronts.levels(start=front_pools.START)[it] for it in front_pools.POOL}, {"U"})
+            found = outside.ran_program(["state", front_pools.START, JOURNAL])[1].decode().splitlines()
+            words = [line.split() for line in found]
+            same((turn, [it for it in words if it[0] == "access"]), (turn, []))
+            same({it[5] for it in words if it[:1] == ["subject"] and it[1] in front_pools.POOL}, {"U"})
             askers = killed_among(front, rnd, what, leased(front, rnd))
         fronts.wait_for_the_lock()
         counts = count_of(0)
