@@ -112,8 +112,8 @@ def kills_lose_nothing():
     assert many > turn // 2, f"only {many} of {turn + 1} were killed after an answer"
 
 
-# Kills with segments and pools, and the clients of each.
-CUT_KILLS, SHORT_CUT_KILLS, FULL_CUT_KILLS, CUT_CLIENTS = 12, 3, 100, 8
+# Kills with segments and pools, and the clients of each. They may also end by their seconds.
+CUT_KILLS, SHORT_CUT_KILLS, FULL_CUT_KILLS, CUT_CLIENTS, LATEST = 12, 3, 100, 8, None
 
 
 def leased(front, rnd):
@@ -128,20 +128,23 @@ def leased(front, rnd):
 def kills_in_segments():
     """The same with segments and clients of pools: over all files each client has what was answered, and what clients
     held who are gone is released at the next start, with the levels of their subjects."""
-    rnd, many = random.Random(54), 0
+    rnd, many, asked, answered, began = random.Random(54), 0, 0, 0, time.monotonic()
     front_pools.start()
     words = core("--segment", "4096", start=front_pools.START)
     turns = FULL_CUT_KILLS if FULL else SHORT_CUT_KILLS if SHORT else CUT_KILLS
     for turn in range(turns):
+        if LATEST and time.monotonic() > began + LATEST:
+            turns = turn
+            break
         if turn % KILLS_OF_A_JOURNAL == 0:
             fresh()
             seen = set()
         what = [("front",), ("core",), ("core", "front"), ("front", "core")][turn % 4]
         with Front("--release-on-close", users=front_pools.RULES, words=words) as front:
             found = outside.ran_program(["state", front_pools.START, JOURNAL])[1].decode().splitlines()
-            words = [line.split() for line in found]
-            same((turn, [it for it in words if it[0] == "access"]), (turn, []))
-            same({it[5] for it in words if it[:1] == ["subject"] and it[1] in front_pools.POOL}, {"U"})
+            rows = [line.split() for line in found]
+            same((turn, [it for it in rows if it[0] == "access"]), (turn, []))
+            same({it[5] for it in rows if it[:1] == ["subject"] and it[1] in front_pools.POOL}, {"U"})
             askers = killed_among(front, rnd, what, leased(front, rnd))
         fronts.wait_for_the_lock()
         counts = count_of(0)
@@ -151,7 +154,9 @@ def kills_in_segments():
             seen.add(session)
             found = counts.get(session, 0)
             assert asker.answered <= found <= asker.asked, (turn, what, asker.answered, found, asker.asked)
+            asked, answered = asked + asker.asked, answered + asker.answered
         many += any(asker.answered for asker in askers)
+    print(f"mlsd: {turns} kills with segments and pools; of {asked} lines {answered} were answered before", flush=True)
     assert many > turns // 2, f"only {many} of {turns} were killed after an answer"
     with Front("--release-on-close", users=front_pools.RULES, words=words) as front:
         same(held(start=front_pools.START), [])

@@ -338,6 +338,9 @@ def an_archive():
     fresh()
     os.makedirs("archive", exist_ok=True)
     with Front("--release-on-close", words=core(*CUT)) as front:
+        # (nothing is there to move)
+        done = fronts.subprocess_run(["bash", "-c", recipe()], b"")
+        same((done.returncode, done.stderr, os.listdir("archive")), (0, b"", []))
         fill(front.client(), 3)
         whole, files = joined(JOURNAL), len(numbers(JOURNAL))
         done = fronts.subprocess_run(["bash", "-c", recipe()], b"")
