@@ -11,7 +11,7 @@ import mls
 from fronts import ALL, ANN, BOB, IS_ROOT, JOURNAL, OF_AUD, OTHER, SOCKET, Front, comes, connected, core, entries, fresh
 from fronts import received, refused, rest_of, sessions_of_entries, told
 from mls import Ended
-from outside import SECONDS, put, same, shown
+from outside import SECONDS, TOP, put, same, shown
 from serving import STANDARD, content, has_compiler, shim
 
 LINE_MAX = 20_000
@@ -155,6 +155,15 @@ def users_files_that_are_refused():
     if IS_ROOT:
         same(refused(owner=OTHER), (1, ["mlsd: users: users: others can write it"]))
     assert not os.path.exists(SOCKET), "somebody could connect"
+
+
+def tests_beside_the_code():
+    """The tests in mlsd's own sources."""
+    words = ["rustc", "--edition", "2021", "--test", "-D", "warnings", f"{TOP}/mlsd/src/main.rs", "-o", "mlsd-tests"]
+    done = subprocess.run(words, capture_output=True, text=True, stdin=subprocess.DEVNULL)
+    same((done.returncode, done.stderr), (0, ""))
+    done = subprocess.run(["./mlsd-tests", "--quiet"], capture_output=True, text=True, stdin=subprocess.DEVNULL)
+    assert done.returncode == 0 and re.search(r"ok\. [1-9]\d+ passed; 0 failed", done.stdout), done.stdout[-2_000:]
 
 
 def words_that_are_refused():
@@ -452,6 +461,7 @@ def calls_of_a_client():
 CHECKS = [
     calls_of_a_client,
     users_files_that_are_refused,
+    tests_beside_the_code,
     words_that_are_refused,
     lines_and_their_ends,
     numbers_of_sessions,
