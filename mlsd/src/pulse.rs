@@ -71,7 +71,7 @@ impl Desk {
             say(format!("the core answers again, after {} s", self.now.duration_since(since).as_secs()));
         }
         self.pulse.heard = self.now;
-        // (half as often as the core is asked: each time wakes the manager)
+        // (and not with each answer, which would wake the manager hundreds of times a second)
         let is_due = |fed: Instant| self.now.duration_since(fed) >= self.pulse.quiet / 2;
         if self.pulse.has_watchdog && self.pulse.fed.map_or(true, is_due) {
             mention("WATCHDOG=1");
