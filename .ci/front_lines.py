@@ -171,7 +171,7 @@ def a_night_of_lines():
     fresh()
     start()
     lines = FULL_LINES if FULL else SHORT_LINES if SHORT else LINES
-    size = SEGMENT if FULL or LATEST else 65_536
+    size = SEGMENT if FULL else 65_536
     words = core("--segment", str(size), "--numbers", start=START)
     with Front("--release-on-close", "--metrics", METRICS, users=RULES, words=words) as front:
         driver = Driver(front, random.Random(55))
