@@ -106,9 +106,9 @@ class Driver:
 
     def used(self):
         """Seconds of processor time of mlsd, its core and this process."""
-        ticks = os.sysconf("SC_CLK_TCK")
-        of = lambda pid: sum(map(int, open(f"/proc/{pid}/stat", encoding="ascii").read().rpartition(")")[2].split()[11:13]))
-        return (of(self.front.run.pid) + of(self.front.core_pid())) / ticks + time.process_time()
+        with open(f"/proc/{self.front.core_pid()}/stat", encoding="ascii") as file:
+            ticks = sum(map(int, file.read().rpartition(")")[2].split()[11:13]))
+        return self.front.used() + ticks / os.sysconf("SC_CLK_TCK") + time.process_time()
 
     def look(self):
         """Each second: the memory of both, and a rest where more than one processor was used."""
@@ -171,7 +171,7 @@ def a_night_of_lines():
     fresh()
     start()
     lines = FULL_LINES if FULL else SHORT_LINES if SHORT else LINES
-    size = SEGMENT if FULL or LATEST else 65_536
+    size = SEGMENT if FULL else 65_536
     words = core("--segment", str(size), "--numbers", start=START)
     with Front("--release-on-close", "--metrics", METRICS, users=RULES, words=words) as front:
         driver = Driver(front, random.Random(55))
@@ -194,7 +194,7 @@ def a_night_of_lines():
     same((held(start=START), set(of_pool(levels(start=START)).values())), ([], {"U"}))
     done = subprocess.run([outside.PROGRAM, "replay", START, JOURNAL], capture_output=True, timeout=3_600)
     same((done.returncode, done.stderr), (0, b""))
-    print(f"mlsd: {driver.answers.numbered} answers have their entry among {entries}, which replay as one legal journal; "
+    print(f"mlsd: {driver.answers.numbered} answers have their entry among {entries}, which replay as one journal; "
           f"both took {time.monotonic() - began:.0f} s", flush=True)  # fmt: skip
 
 

@@ -6,6 +6,7 @@ import random
 import re
 import select
 import signal
+import socket
 import subprocess
 import time
 
@@ -132,7 +133,8 @@ ALERTS = [
     ("a journal fills", {"mlsd_journal_bytes": "80 81", "mlsd_journal_limit_bytes": "100 100"},
      {0: [], 15: ["MlsdJournalFills"]}),
     ("a journal in segments", {"mlsd_journal_bytes": "1e12x9"}, {120: []}),
-    ("somebody is refused", {'mlsd_refused_total{reason="busy"}': "0 1 2+1x30"}, {120: [], 450: ["MlsdClientsAreRefused"]}),
+    ("somebody is refused", {'mlsd_refused_total{reason="busy"}': "0 1 2+1x30"},
+     {120: [], 450: ["MlsdClientsAreRefused"]}),
     ("nobody is known", {'mlsd_refused_total{reason="not known"}': "0+1x40"}, {450: []}),
     ("a pool has none", {'mlsd_answers_total{from="mlsd",kind="busy"}': "0+1x40"}, {450: ["MlsdClientsAreRefused"]}),
     ("the core denies", {'mlsd_answers_total{from="core",kind="no star"}': "0+1x40"}, {450: []}),
@@ -257,6 +259,27 @@ def a_core_that_stands_still():
     assert took < SECONDS, took
 
 
+def a_service_manager_that_reads_nothing():
+    """What it is told more than once holds up nobody, though its socket takes nothing more."""
+    fresh()
+    with Front(env=fronts.environment(WATCHDOG_USEC="400000")) as front:
+        client, ends = front.client(), time.monotonic() + 3
+        asked = 0
+        while time.monotonic() < ends:
+            same(client.ask("ann get-read plans"), "yes")
+            asked += 1
+        sock = socket.socket(socket.AF_UNIX, socket.SOCK_DGRAM)
+        sock.setblocking(False)
+        try:
+            for _ in range(2_000):
+                sock.sendto(b"X=1", front.notices.name)
+        except BlockingIOError:
+            pass
+        sock.close()
+        same(client.ask("ann get-read plans"), "yes")
+        same((front.end(), len(entries())), ((0, b""), asked + 1))
+
+
 def a_core_that_does_not_end():
     """A core that doesn't end, though nothing more is asked, is killed too."""
     fresh()
@@ -327,6 +350,7 @@ CHECKS = [
     metrics_are_written_anew,
     probes,
     a_core_that_stands_still,
+    a_service_manager_that_reads_nothing,
     a_core_that_does_not_end,
     a_night,
 ]

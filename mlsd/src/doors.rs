@@ -4,7 +4,7 @@ use crate::core::is_soft;
 use crate::desk::Desk;
 use crate::files::Files;
 use crate::hall::Hall;
-use crate::listen::notify;
+use crate::listen::{mention, notify};
 use crate::say::say;
 use crate::sys::{self, Peer};
 use crate::who::Who;
@@ -53,7 +53,7 @@ impl Hall<'_> {
         if numbers[..count].iter().any(|number| *number != sys::HANGUP) && self.drains.is_none() {
             self.drains = Some(Instant::now() + DRAIN);
             self.listener = None;
-            notify("STOPPING=1");
+            mention("STOPPING=1");
         }
         if numbers[..count].contains(&sys::HANGUP) && self.drains.is_none() {
             notify("RELOADING=1");

@@ -4,9 +4,12 @@ use crate::sys;
 use std::io::ErrorKind;
 use std::os::unix::fs::{FileTypeExt, PermissionsExt};
 use std::os::unix::net::{UnixDatagram, UnixListener, UnixStream};
+use std::time::Duration;
 
 /// The users file says who may ask, so anybody may connect.
 const MODE: u32 = 0o666;
+/// How long the service manager may take to read what it waits for.
+const PATIENCE: Duration = Duration::from_secs(5);
 
 /// The socket that systemd passes, if it does. It is taken before the core starts, which would have it too.
 pub fn passed() -> Option<UnixListener> {
@@ -44,10 +47,22 @@ fn bound(path: &str) -> Result<UnixListener, End> {
     Ok(listener)
 }
 
-/// Tells the service manager, where there is one. An abstract name is not understood.
-pub fn notify(text: &str) {
+/// Sends to the service manager, where there is one, and waits at most so long until there is room for it. An abstract
+/// name is not understood.
+fn send(text: &str, most: Option<Duration>) {
     if let (Ok(path), Ok(socket)) = (std::env::var("NOTIFY_SOCKET"), UnixDatagram::unbound()) {
         // (that it isn't heard is of no consequence here)
+        let _ = socket.set_nonblocking(most.is_none()).and(socket.set_write_timeout(most));
         let _ = socket.send_to(text.as_bytes(), path);
     }
+}
+
+/// Tells the service manager what it waits for.
+pub fn notify(text: &str) {
+    send(text, Some(PATIENCE));
+}
+
+/// Tells the service manager what it hears again later: a manager that reads nothing holds up nobody.
+pub fn mention(text: &str) {
+    send(text, None);
 }

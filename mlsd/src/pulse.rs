@@ -2,7 +2,7 @@
 //! manager's watchdog is fed by its answers alone.
 use crate::desk::Desk;
 use crate::due::Asked;
-use crate::listen::notify;
+use crate::listen::mention;
 use crate::say::say;
 use std::time::{Duration, Instant};
 
@@ -22,6 +22,8 @@ pub struct Pulse {
     still: Option<Instant>,
     quiet: Duration,
     has_watchdog: bool,
+    /// When it was fed.
+    fed: Option<Instant>,
     /// When the service manager was told how many entries there are, and how many.
     told: (Instant, u64),
 }
@@ -37,7 +39,7 @@ impl Pulse {
     pub fn new(now: Instant) -> Pulse {
         let watchdog = watchdog();
         let quiet = watchdog.map_or(QUIET, |most| QUIET.min(most / 4));
-        Pulse { heard: now, still: None, quiet, has_watchdog: watchdog.is_some(), told: (now, 0) }
+        Pulse { heard: now, still: None, quiet, has_watchdog: watchdog.is_some(), fed: None, told: (now, 0) }
     }
 }
 
@@ -69,8 +71,11 @@ impl Desk {
             say(format!("the core answers again, after {} s", self.now.duration_since(since).as_secs()));
         }
         self.pulse.heard = self.now;
-        if self.pulse.has_watchdog {
-            notify("WATCHDOG=1");
+        // (and not with each answer, which would wake the manager hundreds of times a second)
+        let is_due = |fed: Instant| self.now.duration_since(fed) >= self.pulse.quiet / 2;
+        if self.pulse.has_watchdog && self.pulse.fed.map_or(true, is_due) {
+            mention("WATCHDOG=1");
+            self.pulse.fed = Some(self.now);
         }
     }
 
@@ -94,7 +99,7 @@ impl Desk {
     pub fn tell_status(&mut self) {
         let (told, entries) = self.pulse.told;
         if entries != self.entries && self.now.duration_since(told) >= TOLD {
-            notify(&format!("STATUS={}", self.status()));
+            mention(&format!("STATUS={}", self.status()));
             self.pulse.told = (self.now, self.entries);
         }
     }

@@ -10,7 +10,6 @@ import time
 HERE = os.path.dirname(os.path.realpath(__file__))
 SOURCE = os.path.dirname(HERE)
 TOP = os.path.dirname(os.path.dirname(SOURCE))
-SECONDS = 180
 
 
 def program():
@@ -21,6 +20,8 @@ def program():
 
 
 MLS = program()
+# How long anything may take; a trial takes long to catch up with a log.
+SECONDS = 180 if "/proved/" in MLS else 600
 
 
 def missing():
