@@ -1,0 +1,223 @@
+"""A login session of the checks: a process in an audit session and a namespace of mounts of its own, in which mlsfs has
+mounted, that makes the calls that it is asked for."""
+import array
+import ctypes
+import errno
+import fcntl
+import mmap
+import multiprocessing
+import os
+import pwd
+import signal
+import socket
+import subprocess
+import time
+
+CLONE_NEWNS = 0x20000
+MS_REC, MS_PRIVATE = 16384, 1 << 18
+SECONDS = 60
+LIBC = ctypes.CDLL(None, use_errno=True)
+
+
+def log_in(user):
+    """Begins an audit session of a user's, which a login does by pam_loginuid."""
+    for value in ("4294967295", str(pwd.getpwnam(user).pw_uid)):
+        with open("/proc/self/loginuid", "w", encoding="ascii") as file:
+            file.write(value)
+
+
+def leave_mounts():
+    """Takes a namespace of mounts of one's own, as pam_namespace does."""
+    assert LIBC.unshare(CLONE_NEWNS) == 0
+    assert LIBC.mount(None, b"/", None, MS_REC | MS_PRIVATE, None) == 0
+
+
+def is_mounted(folder):
+    with open("/proc/self/mounts", encoding="utf-8") as file:
+        return any(line.split()[1] == folder for line in file)
+
+
+def served(words, mount, log):
+    """Runs mlsfs, and waits until its mount is there."""
+    run = subprocess.Popen(words, stdin=subprocess.DEVNULL, stdout=log, stderr=log)
+    end = time.monotonic() + SECONDS
+    while not is_mounted(mount):
+        if run.poll() is not None or time.monotonic() > end:
+            return None
+        time.sleep(0.01)
+    return run.pid
+
+
+class Calls:
+    """The calls that a session makes beside those of os."""
+
+    def __init__(self):
+        self.maps = {}
+
+    def ping(self):
+        return "here"
+
+    def put(self, name, text):
+        """Writes a file as `echo text > name` does."""
+        fd = os.open(name, os.O_WRONLY | os.O_CREAT | os.O_TRUNC, 0o666)
+        try:
+            os.write(fd, text)
+        finally:
+            os.close(fd)
+        return "put"
+
+    def get(self, name):
+        fd = os.open(name, os.O_RDONLY)
+        try:
+            return os.read(fd, 65536)
+        finally:
+            os.close(fd)
+
+    def size(self, name):
+        return os.stat(name).st_size
+
+    def fields(self, name):
+        found = os.lstat(name)
+        return found.st_ino, found.st_size, found.st_mtime_ns, found.st_atime_ns, found.st_nlink
+
+    def room(self):
+        found = os.statvfs(".")
+        return found.f_bfree, found.f_ffree
+
+    def listed(self, name="."):
+        return sorted(os.listdir(name))
+
+    def map(self, fd, is_written=False):
+        how = mmap.PROT_READ | (mmap.PROT_WRITE if is_written else 0)
+        self.maps[fd] = mmap.mmap(fd, 4096, mmap.MAP_SHARED, how)
+        return fd
+
+    def touch(self, fd):
+        """The first byte of a map, as a child sees it: a page that is gone kills it."""
+        child = os.fork()
+        if child == 0:
+            os._exit(self.maps[fd][0])
+        status = os.waitpid(child, 0)[1]
+        return "killed" if os.WIFSIGNALED(status) else bytes([os.WEXITSTATUS(status)])
+
+    def unmap(self, fd):
+        self.maps.pop(fd).close()
+        return fd
+
+    def send(self, path, fd):
+        with socket.socket(socket.AF_UNIX) as sock:
+            sock.connect(path)
+            socket.send_fds(sock, [b"x"], [fd])
+        return "sent"
+
+    def fetched(self, listener):
+        fds = array.array("i")
+        sock, _ = self.listener.accept()
+        fds = socket.recv_fds(sock, 1, 1)[1]
+        sock.close()
+        return fds[0]
+
+    def listen(self, path):
+        self.listener = socket.socket(socket.AF_UNIX)
+        self.listener.bind(path)
+        os.chmod(path, 0o777)
+        self.listener.listen(5)
+        return "listens"
+
+    def lock(self, fd, kind="read"):
+        how = {"read": fcntl.LOCK_SH, "write": fcntl.LOCK_EX, "off": fcntl.LOCK_UN}[kind]
+        fcntl.lockf(fd, how | (0 if kind == "off" else fcntl.LOCK_NB))
+        return kind
+
+    def whole(self, fd):
+        fcntl.flock(fd, fcntl.LOCK_EX | fcntl.LOCK_NB)
+        return "locked"
+
+    def lease(self, fd):
+        return fcntl.fcntl(fd, fcntl.F_SETLEASE, fcntl.F_RDLCK)
+
+    def leased(self, fd):
+        return fcntl.fcntl(fd, fcntl.F_GETLEASE)
+
+    def watch(self, name):
+        self.events = LIBC.inotify_init1(os.O_NONBLOCK)
+        assert LIBC.inotify_add_watch(self.events, os.fsencode(name), 0xFFF) >= 0
+        os.stat(name)
+        return "watches"
+
+    def events_seen(self):
+        try:
+            return len(os.read(self.events, 65536))
+        except BlockingIOError:
+            return 0
+
+    def run(self, words, folder="."):
+        done = subprocess.run(words, cwd=folder, capture_output=True, stdin=subprocess.DEVNULL)
+        return done.returncode, (done.stdout + done.stderr).decode(errors="replace")
+
+    def call(self, name, arguments):
+        deed = getattr(self, name, None) or getattr(os, name)
+        return deed(*arguments)
+
+
+def serve(pipe, user, mount, words, log):
+    """The life of a session's process: it logs in, mounts, becomes the user, and makes the calls that come."""
+    os.setsid()
+    signal.signal(signal.SIGTERM, signal.SIG_DFL)
+    log_in(user)
+    leave_mounts()
+    pid = served(words, mount, log) if words else 0
+    who = pwd.getpwnam(user)
+    if pid is not None:
+        os.chdir(mount)
+        os.umask(0)
+        os.setgroups([])
+        os.setgid(who.pw_gid)
+        os.setuid(who.pw_uid)
+    pipe.send(pid)
+    calls = Calls()
+    while True:
+        try:
+            name, arguments = pipe.recv()
+        except EOFError:
+            os._exit(0)
+        try:
+            pipe.send(calls.call(name, arguments))
+        except OSError as fault:
+            pipe.send(errno.errorcode.get(fault.errno, str(fault)))
+        except BaseException as fault:
+            pipe.send(f"{type(fault).__name__}: {fault}")
+
+
+class Session:
+    """What a check has of a session. Each call of it is one of os, or of Calls, and returns its value or an errno's
+    name."""
+
+    def __init__(self, user, mount, words, log, level=None):
+        self.pipe, other = multiprocessing.Pipe()
+        self.process = multiprocessing.get_context("fork").Process(
+            target=self._serve, args=(other, user, mount, words, log), daemon=False)
+        self.process.start()
+        other.close()
+        self.server = self.pipe.recv()
+        assert self.server is not None, "mlsfs has ended: " + open(log.name, encoding="utf-8").read()
+        if level:
+            assert self.put(".mls", level.encode() + b"\n") == "put"
+
+    def _serve(self, pipe, *given):
+        self.pipe.close()
+        serve(pipe, *given)
+
+    def __getattr__(self, name):
+        def call(*arguments):
+            self.pipe.send((name, arguments))
+            assert self.pipe.poll(SECONDS), f"{name}{arguments} doesn't end"
+            return self.pipe.recv()
+        return call
+
+    def end(self):
+        self.pipe.close()
+        self.process.join(SECONDS)
+        if self.process.is_alive():
+            self.process.kill()
+            self.process.join()

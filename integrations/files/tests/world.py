@@ -1,0 +1,133 @@
+"""What the checks begin with: mlsd over a start with two levels, and a backing folder; sessions are begun as they are
+needed."""
+import glob
+import os
+import shutil
+import signal
+import socket
+import subprocess
+import tempfile
+import time
+
+from session import SECONDS, Session
+
+HERE = os.path.dirname(os.path.realpath(__file__))
+SOURCE = os.path.dirname(HERE)
+TOP = os.path.dirname(os.path.dirname(SOURCE))
+MLS = os.environ.get("MLS_PROGRAM") or subprocess.run(
+    [f"{TOP}/bin/built", "file", "proved", "trial"], stdout=subprocess.PIPE, text=True, check=False).stdout.strip()
+MLSD, MLSFS = f"{TOP}/mlsd/out/mlsd", f"{SOURCE}/out/mlsfs"
+POOLS = {"games": 4, "man": 2, "sys": 2}
+
+
+def why_not():
+    """What of all that is needed isn't there, or None."""
+    if os.geteuid() != 0:
+        return "only root can mount and log in"
+    if not os.path.exists("/dev/fuse"):
+        return "/dev/fuse is not there"
+    if not shutil.which("make") or not shutil.which("cc"):
+        return "a C compiler and make are not installed"
+    if subprocess.run(["pkg-config", "--exists", "fuse3 >= 3.14 nettle"], stderr=subprocess.DEVNULL).returncode:
+        return "libfuse3-dev, nettle-dev or pkg-config is not installed"
+    if not has_audit():
+        return "the kernel has no audit sessions"
+    if not os.access(MLS, os.X_OK):
+        return "mls is not built (bin/prove builds it)"
+    return None if shutil.which("rustc") else "rustc is not installed"
+
+
+def has_audit():
+    try:
+        with open("/proc/self/sessionid", encoding="ascii") as file:
+            return bool(file.read())
+    except OSError:
+        return False
+
+
+def build():
+    subprocess.run(["make", "-s", "-C", SOURCE, "out/mlsfs", "out/rules_test"], check=True, stdin=subprocess.DEVNULL)
+    newest = max(os.stat(it).st_mtime for it in glob.glob(f"{TOP}/mlsd/src/*.rs"))
+    if not os.path.exists(MLSD) or os.stat(MLSD).st_mtime < newest:
+        subprocess.run([f"{TOP}/bin/build-mlsd", MLSD], check=True, stdin=subprocess.DEVNULL)
+
+
+class World:
+    """mlsd, a backing folder, and sessions over them, in a folder that is gone with them."""
+
+    def __init__(self):
+        self.folder = tempfile.mkdtemp(prefix="mls-files-", dir="/tmp")
+        os.chmod(self.folder, 0o755)
+        self.socket, self.back, self.mount = (f"{self.folder}/{it}" for it in ("socket", "back", "mnt"))
+        self.log = open(f"{self.folder}/log", "a", encoding="utf-8")
+        self.sessions, self.mlsd, self.started = [], None, f"{self.folder}/start.json"
+        os.mkdir(self.mount)
+        with open(self.started, "wb") as file:
+            subprocess.run([f"{TOP}/integrations/postgresql/containers", f"{HERE}/people.json"], stdout=file, check=True)
+        self.write_users()
+        self.make(self.back)
+        self.start()
+
+    def write_users(self):
+        with open(f"{self.folder}/users", "w", encoding="utf-8") as file:
+            for user, count in POOLS.items():
+                print(f"pool {user} =", *(f"{user}-{k + 1}" for k in range(count)), file=file)
+            print("root = * rate=0 clients=400 reads=held", file=file)
+        os.chmod(f"{self.folder}/users", 0o644)
+
+    def make(self, folder):
+        subprocess.run([MLSFS, "--make", folder, "public_any"], check=True)
+        os.chmod(f"{folder}/files", 0o1777)
+
+    def start(self):
+        words = [MLSD, "--socket", self.socket, "--users", f"{self.folder}/users", "--release-on-close", "--", MLS,
+                 "serve", "--sessions", "--names", "--recover", "--journal", f"{self.folder}/journal", self.started]
+        self.mlsd = subprocess.Popen(words, stdin=subprocess.DEVNULL, stdout=self.log, stderr=self.log,
+                                     env={**os.environ, "MLS_PROGRAM": MLS})
+        end = time.monotonic() + SECONDS
+        while not self.is_there():
+            assert self.mlsd.poll() is None and time.monotonic() < end, open(self.log.name, encoding="utf-8").read()
+            time.sleep(0.02)
+
+    def is_there(self):
+        with socket.socket(socket.AF_UNIX) as probe:
+            try:
+                probe.connect(self.socket)
+            except OSError:
+                return False
+            return True
+
+    def session(self, user, level=None, back=None):
+        """A login, which has mounted the backing folder."""
+        words = [MLSFS, "--foreground", "--socket", self.socket, back or self.back, self.mount]
+        self.sessions.append(Session(user, self.mount, words, self.log, level))
+        return self.sessions[-1]
+
+    def ask(self, *lines):
+        """Asks as root at mlsd, and returns the answers."""
+        with socket.socket(socket.AF_UNIX) as client:
+            client.connect(self.socket)
+            client.sendall("".join(f"{line}\n" for line in lines).encode())
+            client.shutdown(socket.SHUT_WR)
+            return client.makefile().read().splitlines()[1:]
+
+    def kill_mlsd(self):
+        with open(f"/proc/{self.mlsd.pid}/task/{self.mlsd.pid}/children", encoding="ascii") as file:
+            core = int(file.read().split()[0])
+        self.mlsd.kill()
+        self.mlsd.wait(SECONDS)
+        while os.path.exists(f"/proc/{core}"):
+            time.sleep(0.01)
+
+    def end_sessions(self):
+        for session in self.sessions:
+            session.end()
+        self.sessions = []
+
+    def remove(self):
+        self.end_sessions()
+        if self.mlsd.poll() is None:
+            self.mlsd.send_signal(signal.SIGTERM)
+            self.mlsd.wait(SECONDS)
+        self.log.close()
+        shutil.rmtree(self.folder)
