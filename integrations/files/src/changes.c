@@ -26,7 +26,8 @@ static int take_away(fuse_ino_t parent, const char *name, int flag)
 	return error;
 }
 
-static int rename_entry(fuse_ino_t parent, const char *name, fuse_ino_t new_parent, const char *new_name, unsigned flags)
+static int rename_entry(fuse_ino_t parent, const char *name, fuse_ino_t new_parent, const char *new_name,
+	unsigned flags)
 {
 	struct node *folder = node_of(parent), *target = node_of(new_parent), *node, *replaced;
 	if (flags & ~(unsigned)(RENAME_NOREPLACE | RENAME_EXCHANGE))

@@ -1,4 +1,4 @@
-/* The file .mls below the mount: read, it tells who the session is and its level; a label written to it is its level. */
+/* The file .mls below the mount tells who the session is, and its level. A label that is written to it is its level. */
 #include "mlsfs.h"
 
 #define LEVEL_BYTES 200

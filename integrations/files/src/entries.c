@@ -79,7 +79,8 @@ static int make_file(fuse_req_t req, struct node *folder, const char *name, int 
 }
 
 /* Folders and symbolic links are made in the staging folder, where nobody sees them, and renamed from there. */
-static int make_staged(fuse_req_t req, struct node *folder, const char *name, int container, mode_t mode, const char *to)
+static int make_staged(fuse_req_t req, struct node *folder, const char *name, int container, mode_t mode,
+	const char *to)
 {
 	static atomic_ulong count;
 	char staged[64];

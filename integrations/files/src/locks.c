@@ -1,6 +1,6 @@
 /*
- * Locks on files, between all sessions. Only who may write a file may lock it: a reader's lock would tell a writer below.
- * Each owner that the kernel names has a descriptor of its own.
+ * Locks on files, between all sessions. Only who may write a file may lock it: a reader's lock would tell a writer
+ * below. Each owner that the kernel names has a descriptor of its own.
  */
 #include "mlsfs.h"
 #include <fcntl.h>

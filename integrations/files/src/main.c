@@ -1,6 +1,6 @@
 /*
- * mlsfs: an operating system's folders that the monitor decides about. Mounts a folder for the login session that this is
- * run in, and serves it until the session ends.
+ * mlsfs: an operating system's folders that the monitor decides about. Mounts a folder for the login session that this
+ * is run in, and serves it until the session ends.
  */
 #include "mlsfs.h"
 #include <stdlib.h>

@@ -162,7 +162,7 @@ int monitor_level(const char *label)
 	release(now());
 	snprintf(line, sizeof line, "%s level %s\n", subject, label);
 	if (wire_ask(line, answer))
-		error = strcmp(answer, "bad form") == 0 ? EINVAL : error_of(answer);
+		error = strncmp(answer, "bad", 3) == 0 ? EINVAL : error_of(answer);
 	if (error == 0)
 		snprintf(level, sizeof level, "%s", label);
 	for (int k = 0; k < MODES * CONTAINERS; k++)

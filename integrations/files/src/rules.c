@@ -31,8 +31,8 @@ struct rule {
 #define BLINDLY(place, shown) {place, false, true, shown}
 
 /*
- * A file that may not be read is not there (ENOENT) for whoever names it. Where its descriptor, or its folder, is at hand
- * the lack is told (EACCES). A name that is taken by such a file can not be made: its folder's level knows of it.
+ * A file that may not be read is not there (ENOENT) for whoever names it. Where its descriptor, or its folder, is at
+ * hand the lack is told (EACCES). A name that is taken by such a file can not be made: its folder's level knows of it.
  */
 static const struct rule rules[OPERATIONS] = {
 	[LOOK_UP] = {"look up", 0, STAY, 2, 0, {SEES(FOLDER, EACCES), SEES(FILE_OF, ENOENT)}, {}},

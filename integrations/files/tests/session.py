@@ -1,6 +1,6 @@
 """A login session of the checks: a process in an audit session and a namespace of mounts of its own, in which mlsfs has
 mounted, that makes the calls that it is asked for."""
-import array
+import contextlib
 import ctypes
 import errno
 import fcntl
@@ -15,8 +15,9 @@ import time
 
 CLONE_NEWNS = 0x20000
 MS_REC, MS_PRIVATE = 16384, 1 << 18
-SECONDS = 60
+SECONDS = 20
 LIBC = ctypes.CDLL(None, use_errno=True)
+LIBC.mmap.restype = ctypes.c_void_p
 
 
 def log_in(user):
@@ -89,20 +90,30 @@ class Calls:
 
     def map(self, fd, is_written=False):
         how = mmap.PROT_READ | (mmap.PROT_WRITE if is_written else 0)
-        self.maps[fd] = mmap.mmap(fd, 4096, mmap.MAP_SHARED, how)
+        found = LIBC.mmap(None, ctypes.c_size_t(mmap.PAGESIZE), how, mmap.MAP_SHARED, fd, ctypes.c_long(0))
+        if found == ctypes.c_void_p(-1).value:
+            raise OSError(ctypes.get_errno(), "mmap")
+        self.maps[fd] = found
         return fd
 
     def touch(self, fd):
         """The first byte of a map, as a child sees it: a page that is gone kills it."""
         child = os.fork()
         if child == 0:
-            os._exit(self.maps[fd][0])
+            os._exit(ctypes.string_at(self.maps[fd], 1)[0])
         status = os.waitpid(child, 0)[1]
         return "killed" if os.WIFSIGNALED(status) else bytes([os.WEXITSTATUS(status)])
 
     def unmap(self, fd):
-        self.maps.pop(fd).close()
+        LIBC.munmap(ctypes.c_void_p(self.maps.pop(fd)), ctypes.c_size_t(mmap.PAGESIZE))
         return fd
+
+    def store(self, fd, byte):
+        """Writes to a map, and waits until it is in the file."""
+        ctypes.memmove(self.maps[fd], byte, 1)
+        if LIBC.msync(ctypes.c_void_p(self.maps[fd]), ctypes.c_size_t(mmap.PAGESIZE), 4) != 0:
+            raise OSError(ctypes.get_errno(), "msync")
+        return "stored"
 
     def send(self, path, fd):
         with socket.socket(socket.AF_UNIX) as sock:
@@ -110,8 +121,8 @@ class Calls:
             socket.send_fds(sock, [b"x"], [fd])
         return "sent"
 
-    def fetched(self, listener):
-        fds = array.array("i")
+    def fetched(self):
+        """The descriptor that came last."""
         sock, _ = self.listener.accept()
         fds = socket.recv_fds(sock, 1, 1)[1]
         sock.close()
@@ -155,6 +166,26 @@ class Calls:
         done = subprocess.run(words, cwd=folder, capture_output=True, stdin=subprocess.DEVNULL)
         return done.returncode, (done.stdout + done.stderr).decode(errors="replace")
 
+    def view(self, names):
+        """All that can be seen of the files of these names, and by listings."""
+        found = [self.tried(self.room)]
+        for name in [".", *names]:
+            for deed in (self.listed, self.get, os.readlink, os.listxattr, self.every_field):
+                found.append((name, deed.__name__, self.tried(deed, name)))
+        return found
+
+    def every_field(self, name):
+        found = os.lstat(name)
+        times = found.st_mtime_ns, found.st_atime_ns, found.st_ctime_ns
+        size = found.st_size, found.st_blocks
+        return (found.st_ino, found.st_mode, found.st_nlink, found.st_uid, found.st_gid, *size, *times)
+
+    def tried(self, deed, *arguments):
+        try:
+            return deed(*arguments)
+        except OSError as fault:
+            return errno.errorcode[fault.errno]
+
     def call(self, name, arguments):
         deed = getattr(self, name, None) or getattr(os, name)
         return deed(*arguments)
@@ -177,9 +208,8 @@ def serve(pipe, user, mount, words, log):
     pipe.send(pid)
     calls = Calls()
     while True:
-        try:
-            name, arguments = pipe.recv()
-        except EOFError:
+        name, arguments = pipe.recv()
+        if name == "end":
             os._exit(0)
         try:
             pipe.send(calls.call(name, arguments))
@@ -216,8 +246,12 @@ class Session:
         return call
 
     def end(self):
-        self.pipe.close()
-        self.process.join(SECONDS)
-        if self.process.is_alive():
-            self.process.kill()
-            self.process.join()
+        """Ends the session's process, and all that it began."""
+        try:
+            self.pipe.send(("end", ()))
+        except BrokenPipeError:
+            pass
+        self.process.join(1)
+        with contextlib.suppress(ProcessLookupError):
+            os.killpg(self.process.pid, signal.SIGKILL)
+        self.process.join()

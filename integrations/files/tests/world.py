@@ -1,6 +1,7 @@
 """What the checks begin with: mlsd over a start with two levels, and a backing folder; sessions are begun as they are
 needed."""
 import glob
+import json
 import os
 import shutil
 import signal
@@ -9,15 +10,18 @@ import subprocess
 import tempfile
 import time
 
-from session import SECONDS, Session
+from session import Session
 
+SECONDS = 90
 HERE = os.path.dirname(os.path.realpath(__file__))
 SOURCE = os.path.dirname(HERE)
 TOP = os.path.dirname(os.path.dirname(SOURCE))
 MLS = os.environ.get("MLS_PROGRAM") or subprocess.run(
     [f"{TOP}/bin/built", "file", "proved", "trial"], stdout=subprocess.PIPE, text=True, check=False).stdout.strip()
 MLSD, MLSFS = f"{TOP}/mlsd/out/mlsd", f"{SOURCE}/out/mlsfs"
-POOLS = {"games": 4, "man": 2, "sys": 2}
+# Who logs in: users that each system has. games may be secret, man may not, sys is trusted; of each pool's subjects.
+POOLS = {"games": 5, "man": 5, "sys": 2}
+MAXIMUM = {"games": "secret", "man": "public", "sys": "secret"}
 
 
 def why_not():
@@ -62,11 +66,32 @@ class World:
         self.log = open(f"{self.folder}/log", "a", encoding="utf-8")
         self.sessions, self.mlsd, self.started = [], None, f"{self.folder}/start.json"
         os.mkdir(self.mount)
-        with open(self.started, "wb") as file:
-            subprocess.run([f"{TOP}/integrations/postgresql/containers", f"{HERE}/people.json"], stdout=file, check=True)
+        self.write_start()
         self.write_users()
         self.make(self.back)
         self.start()
+
+    def renew(self):
+        """Ends all sessions, and empties the folder."""
+        self.end_sessions()
+        for it in os.scandir(f"{self.back}/files"):
+            shutil.rmtree(it.path) if it.is_dir(follow_symlinks=False) else os.remove(it.path)
+
+    def write_start(self):
+        """A start with two levels, the pools' subjects, and a container for each label."""
+        labels = {"current": "public", "integrity": "any"}
+        subjects = [{"name": f"{user}-{k + 1}", "maximum": MAXIMUM[user], **labels, "trusted": user == "sys"}
+                    for user, count in POOLS.items() for k in range(count)]
+        subjects.append({"name": "admin", "maximum": "secret", **labels, "trusted": True})
+        people = {"security": {"levels": ["public", "secret"], "categories": []},
+                  "integrity": {"levels": ["any"], "categories": []}, "subjects": subjects,
+                  "objects": [{"name": "root", "parent": None, "security": "public", "integrity": "any"}],
+                  "matrix": [{"subject": "admin", "object": "root", "modes": ["write"]}]}
+        with open(f"{self.folder}/people.json", "w", encoding="utf-8") as file:
+            json.dump(people, file)
+        with open(self.started, "wb") as file:
+            words = [f"{TOP}/integrations/postgresql/containers", f"{self.folder}/people.json"]
+            subprocess.run(words, stdout=file, check=True)
 
     def write_users(self):
         with open(f"{self.folder}/users", "w", encoding="utf-8") as file:
@@ -77,7 +102,7 @@ class World:
 
     def make(self, folder):
         subprocess.run([MLSFS, "--make", folder, "public_any"], check=True)
-        os.chmod(f"{folder}/files", 0o1777)
+        os.chmod(f"{folder}/files", 0o777)
 
     def start(self):
         words = [MLSD, "--socket", self.socket, "--users", f"{self.folder}/users", "--release-on-close", "--", MLS,
@@ -111,6 +136,14 @@ class World:
             client.shutdown(socket.SHUT_WR)
             return client.makefile().read().splitlines()[1:]
 
+    def pool(self, user):
+        return POOLS[user]
+
+    def leased(self, user):
+        """The subject that a user's pool leased last, by mlsd's sessions file."""
+        with open(f"{self.folder}/journal.sessions", encoding="ascii") as file:
+            return [line.split()[6] for line in file if " leased " in line and f" {user} " in line][-1]
+
     def kill_mlsd(self):
         with open(f"/proc/{self.mlsd.pid}/task/{self.mlsd.pid}/children", encoding="ascii") as file:
             core = int(file.read().split()[0])
@@ -118,6 +151,10 @@ class World:
         self.mlsd.wait(SECONDS)
         while os.path.exists(f"/proc/{core}"):
             time.sleep(0.01)
+
+    def three(self):
+        """A session at secret, one at public, and a trusted one at public, of three users."""
+        return self.session("games", "secret"), self.session("man"), self.session("sys")
 
     def end_sessions(self):
         for session in self.sessions:
@@ -131,3 +168,10 @@ class World:
             self.mlsd.wait(SECONDS)
         self.log.close()
         shutil.rmtree(self.folder)
+
+
+def same(rows):
+    """Each row is a session, a call of it with its arguments, and what it must come to."""
+    for session, name, *arguments, wanted in rows:
+        found = getattr(session, name)(*arguments)
+        assert found == wanted, f"{name}{tuple(arguments)}: found {found!r}, wanted {wanted!r}"
