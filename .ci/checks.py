@@ -38,6 +38,7 @@ CHECKS = [Check("library", (".ci/check-c", ), PROOF, 900), Check("refusals", (".
           Check("database", ("integrations/postgresql/check", ), PROGRAM, 60),
           Check("replicas", ("integrations/etcd/check", "--short"), PROOF, 60),
           Check("guard", ("integrations/guard/check", "--short"), PROGRAM, 40),
+          Check("files", ("integrations/files/check", "--short"), PROGRAM, 50),
           Check("tutorial", (".ci/check-tutorial", ), PROGRAM, 20),
           Check("mutants", ("bin/mutants", "--read"), FILES, 1), Check("links", (".ci/check-links", ), FILES, 1),
           Check("quotations", (".ci/check-quotes", ), FILES, 1)]

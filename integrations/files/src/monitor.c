@@ -6,6 +6,7 @@
 #include <unistd.h>
 
 #define IDLE 1                  /* seconds for which an append that nobody uses is kept, and a denial believed */
+#define PATIENCE 50             /* milliseconds for descriptors that are being closed */
 #define LINE_BYTES 512
 
 struct access {
@@ -154,10 +155,23 @@ void monitor_start(void (*forget)(int container))
 		exit(1);
 }
 
+static bool appends(void)
+{
+	bool is_any = false;
+	pthread_mutex_lock(&lock);
+	for (int container = 0; container < CONTAINERS; container++)
+		is_any |= accesses[APPEND][container].users > 0;
+	pthread_mutex_unlock(&lock);
+	return is_any;
+}
+
+/* Changes the level. The kernel tells of a closed descriptor after close has returned, so that is waited for. */
 int monitor_level(const char *label)
 {
 	char line[LINE_BYTES], answer[ANSWER_BYTES];
 	int error = EIO;
+	for (int waited = 0; waited < PATIENCE && appends(); waited++)
+		usleep(1000);
 	pthread_mutex_lock(&lock);
 	release(now());
 	snprintf(line, sizeof line, "%s level %s\n", subject, label);

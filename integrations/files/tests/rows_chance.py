@@ -5,7 +5,7 @@ import time
 
 from world import same
 
-SECONDS = 60
+SECONDS, SEED = 60, 1
 MARK = "HIGH"
 NAMES = ["a", "b", "c", "d", "d/a", "d/b", "d/s", "d/s/a", "s", "s/a", "s/b", "s/t", "s/t/a", "new"]
 HIGH_NAMES = [*NAMES, f"s/{MARK}", MARK, f"d/{MARK}", f"s/t/{MARK}"]
@@ -36,8 +36,7 @@ def do(chance, session, names, mark, counts):
 
 def test_operations_by_chance(world):
     """Rounds of a few operations above, which change nothing below, and then of a few below."""
-    seed = random.randrange(1 << 32)
-    chance, low, high = random.Random(seed), world.session("man"), world.session("games", "secret")
+    chance, low, high = random.Random(SEED), world.session("man"), world.session("games", "secret")
     for folder in ("s", "d", "d/s"):
         low.mkdir(folder, 0o777)
     same([(low, "setxattr", folder, "user.mls", b"secret_any", None) for folder in ("s", "d/s")])
@@ -49,8 +48,8 @@ def test_operations_by_chance(world):
         before = low.view(NAMES)
         done = [do(chance, high, HIGH_NAMES, MARK, counts["above"]) for _ in range(12)]
         after = low.view(NAMES)
-        assert before == after, f"seed {seed}: {done}: {[it for it in zip(before, after) if it[0] != it[1]]}"
-        assert MARK not in repr(after), f"seed {seed}: {done}"
+        assert before == after, f"seed {SEED}: {done}: {[it for it in zip(before, after) if it[0] != it[1]]}"
+        assert MARK not in repr(after), f"seed {SEED}: {done}"
         if chance.random() < 0.02:
             assert all(low.run(["rm", "-rf", name]) for name in ("a", "b", "c", "d/a", "d/b", "new"))
     assert min(counts["above"] + counts["below"]) > 0, counts

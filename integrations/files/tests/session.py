@@ -109,11 +109,13 @@ class Calls:
         return fd
 
     def store(self, fd, byte):
-        """Writes to a map, and waits until it is in the file."""
-        ctypes.memmove(self.maps[fd], byte, 1)
-        if LIBC.msync(ctypes.c_void_p(self.maps[fd]), ctypes.c_size_t(mmap.PAGESIZE), 4) != 0:
-            raise OSError(ctypes.get_errno(), "msync")
-        return "stored"
+        """Writes to a map, and waits until it is in the file; a page that can't be had kills the child that does it."""
+        child = os.fork()
+        if child == 0:
+            ctypes.memmove(self.maps[fd], byte, 1)
+            os._exit(LIBC.msync(ctypes.c_void_p(self.maps[fd]), ctypes.c_size_t(mmap.PAGESIZE), 4) != 0)
+        status = os.waitpid(child, 0)[1]
+        return "killed" if os.WIFSIGNALED(status) else ["stored", "lost"][os.WEXITSTATUS(status)]
 
     def send(self, path, fd):
         with socket.socket(socket.AF_UNIX) as sock:
