@@ -40,8 +40,8 @@ def test_what_is_written_to_memory(world):
     same([(low, "map", fd, True, fd), (low, "store", fd, b"P", "stored"), (high, "get", "f", b"Public"),
           (low, "write", fd, b"!", 1), (high, "get", "f", b"Public!"),
           (low, "store", fd, b"p", "stored"),
-          (low, "setxattr", "f", "user.mls", b"secret_any", None), (low, "store", fd, b"x", "lost"),
-          (high, "get", "f", b"public!"), (low, "store", fd, b"x", "killed")])
+          (low, "setxattr", "f", "user.mls", b"secret_any", None), (low, "store", fd, b"x", "killed"),
+          (high, "get", "f", b"public!")])
 
 
 def test_descriptors_that_only_name(world):

@@ -15,7 +15,7 @@ import time
 
 CLONE_NEWNS = 0x20000
 MS_REC, MS_PRIVATE = 16384, 1 << 18
-SECONDS = 20
+SECONDS, LONGEST = 20, 900
 LIBC = ctypes.CDLL(None, use_errno=True)
 LIBC.mmap.restype = ctypes.c_void_p
 
@@ -243,7 +243,7 @@ class Session:
     def __getattr__(self, name):
         def call(*arguments):
             self.pipe.send((name, arguments))
-            assert self.pipe.poll(SECONDS), f"{name}{arguments} doesn't end"
+            assert self.pipe.poll(LONGEST if name == "run" else SECONDS), f"{name}{arguments} doesn't end"
             return self.pipe.recv()
         return call
 

@@ -50,7 +50,8 @@ def has_audit():
 
 
 def build():
-    subprocess.run(["make", "-s", "-C", SOURCE, "out/mlsfs", "out/rules_test"], check=True, stdin=subprocess.DEVNULL)
+    words = ["make", "-s", "-C", SOURCE, "out/mlsfs", "out/undecided", "out/rules_test"]
+    subprocess.run(words, check=True, stdin=subprocess.DEVNULL)
     newest = max(os.stat(it).st_mtime for it in glob.glob(f"{TOP}/mlsd/src/*.rs"))
     if not os.path.exists(MLSD) or os.stat(MLSD).st_mtime < newest:
         subprocess.run([f"{TOP}/bin/build-mlsd", MLSD], check=True, stdin=subprocess.DEVNULL)
