@@ -14,7 +14,7 @@ static int open_file(fuse_req_t req, fuse_ino_t number, struct fuse_file_info *i
 		struct handle *handle = S_ISREG(node->type) ? handle_open(node, info->flags, operation, &error) : NULL;
 		if (!handle)
 			return error ? error : EACCES;
-		monitor_note(operation == OPEN_TO_READ ? "read" : "write", handle->fd);
+		handle_note(node, handle);
 		info->fh = (uintptr_t)handle;
 	}
 	if (fuse_reply_open(req, info) != 0 && number != CONTROL_NODE)

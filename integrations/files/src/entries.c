@@ -135,7 +135,7 @@ static int create(fuse_req_t req, fuse_ino_t parent, const char *name, mode_t mo
 		node_forget(node, 1);
 		return error;
 	}
-	monitor_note("create", handle->fd);
+	handle_note(node, handle);
 	info->fh = (uintptr_t)handle;
 	info->direct_io = 1;
 	return entry_reply(req, node, handle->container, info);

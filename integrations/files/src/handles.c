@@ -52,6 +52,15 @@ struct handle *handle_open(struct node *node, int flags, enum operation operatio
 	return NULL;
 }
 
+/* Leaves a note that a file was opened, once for each label as long as the kernel knows the file. */
+void handle_note(struct node *node, const struct handle *handle)
+{
+	enum mode mode = handle->opened == OPEN_TO_READ ? READ : APPEND;
+	if (node->noted[mode] != handle->container + 1)
+		monitor_note(mode == READ ? "read" : "write", handle->fd);
+	node->noted[mode] = handle->container + 1;
+}
+
 void handle_end(struct handle *handle)
 {
 	file_end(handle->opened, handle->container);

@@ -69,6 +69,7 @@ struct node {
 	uint64_t lookups;
 	int fd;                 /* O_PATH */
 	mode_t type;
+	int noted[MODES];       /* of reads and writes: the label with which the last note of one was left, and one */
 	struct owner *owners;
 };
 extern bool nodes_open(const char *folder);
@@ -89,6 +90,7 @@ extern struct handle *handle_of(const struct fuse_file_info *info);
 extern struct handle *handle_open(struct node *node, int flags, enum operation operation, int *error);
 extern struct handle *handle_new(int fd, int container, enum operation operation);
 extern void handle_end(struct handle *handle);
+extern void handle_note(struct node *node, const struct handle *handle);
 extern int file_begin(int fd, enum operation operation, int *container);
 extern void file_end(enum operation operation, int container);
 extern enum operation handle_needs(int flags);

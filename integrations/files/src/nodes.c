@@ -54,13 +54,14 @@ static struct node *enter(int fd, const struct stat *file)
 	fuse_ino_t number = number_shown(file->st_ino);
 	pthread_mutex_lock(&lock);
 	struct node **at = place_of(number), *node = *at;
-	if (node)
-		close(fd);
-	else if ((node = calloc(1, sizeof *node)))
+	bool is_known = node != NULL;
+	if (!is_known && (node = calloc(1, sizeof *node)))
 		*at = node, node->number = number, node->fd = fd, node->type = file->st_mode & S_IFMT;
 	if (node)
 		node->lookups++;
 	pthread_mutex_unlock(&lock);
+	if (is_known || !node)
+		close(fd);
 	return node;
 }
 

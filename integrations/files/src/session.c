@@ -10,7 +10,7 @@
 
 #define NONE 4294967295u
 
-static unsigned session, user;
+static unsigned session;
 
 /* A number below /proc/PID; NONE where there is none, or the process has ended. */
 static unsigned number_of(pid_t pid, const char *what)
@@ -32,7 +32,7 @@ static unsigned number_of(pid_t pid, const char *what)
 bool session_find(char *name, size_t size)
 {
 	session = number_of(getpid(), "sessionid");
-	user = number_of(getpid(), "loginuid");
+	unsigned user = number_of(getpid(), "loginuid");
 	struct passwd *found = session == NONE || user == NONE ? NULL : getpwuid(user);
 	if (!found || strlen(found->pw_name) >= size)
 		return false;
@@ -40,8 +40,5 @@ bool session_find(char *name, size_t size)
 	return true;
 }
 
-/* Whether a process, or a thread, is of the session. */
-bool session_has(pid_t pid)
-{
-	return pid > 0 && number_of(pid, "sessionid") == session && number_of(pid, "loginuid") == user;
-}
+/* Whether a process, or a thread, is of the session. Whoever logs in anew has another session. */
+bool session_has(pid_t pid) { return pid > 0 && number_of(pid, "sessionid") == session; }
