@@ -52,6 +52,8 @@ extern bool monitor_knows(const char *container);
 /* session.c: the login session, which a process can't leave */
 extern bool session_find(char *name, size_t size);
 extern bool session_has(pid_t pid);
+extern bool session_claim(void);
+extern void session_end(void);
 
 /* numbers.c: inode numbers, which would count what others make */
 extern bool numbers_open(int folder);

@@ -53,10 +53,11 @@ class Calls:
     """The calls that a session makes beside those of os."""
 
     def __init__(self):
-        self.maps = {}
+        self.maps, self.second = {}, None
 
-    def ping(self):
-        return "here"
+    def status_of_second(self):
+        """How a second mlsfs of the session ended."""
+        return self.second
 
     def put(self, name, text):
         """Writes a file as `echo text > name` does."""
@@ -193,14 +194,16 @@ class Calls:
         return deed(*arguments)
 
 
-def serve(pipe, user, mount, words, log):
+def serve(pipe, user, mount, words, log, is_twice):
     """The life of a session's process: it logs in, mounts, becomes the user, and makes the calls that come."""
     os.setsid()
     signal.signal(signal.SIGTERM, signal.SIG_DFL)
     log_in(user)
     leave_mounts()
     pid = served(words, mount, log) if words else 0
-    who = pwd.getpwnam(user)
+    who, calls = pwd.getpwnam(user), Calls()
+    if is_twice:
+        calls.second = subprocess.run(words, stdin=subprocess.DEVNULL, stdout=log, stderr=log).returncode
     if pid is not None:
         os.chdir(mount)
         os.umask(0)
@@ -208,7 +211,6 @@ def serve(pipe, user, mount, words, log):
         os.setgid(who.pw_gid)
         os.setuid(who.pw_uid)
     pipe.send(pid)
-    calls = Calls()
     while True:
         name, arguments = pipe.recv()
         if name == "end":
@@ -225,10 +227,10 @@ class Session:
     """What a check has of a session. Each call of it is one of os, or of Calls, and returns its value or an errno's
     name."""
 
-    def __init__(self, user, mount, words, log, level=None):
+    def __init__(self, user, mount, words, log, level=None, is_twice=False):
         self.pipe, other = multiprocessing.Pipe()
         self.process = multiprocessing.get_context("fork").Process(
-            target=self._serve, args=(other, user, mount, words, log), daemon=False)
+            target=self._serve, args=(other, user, mount, words, log, is_twice), daemon=False)
         self.process.start()
         other.close()
         self.server = self.pipe.recv()
