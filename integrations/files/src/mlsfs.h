@@ -46,6 +46,8 @@ extern void monitor_enter(void);        /* an operation is under way: what it wa
 extern void monitor_leave(void);
 extern int monitor_level(const char *label);
 extern void monitor_describe(char *text, size_t size);
+
+/* notes.c: what mlsd is told, and asked, that is no access */
 extern void monitor_note(const char *deed, int fd);
 extern bool monitor_knows(const char *container);
 

@@ -48,11 +48,10 @@ def test_a_killed_mlsfs(world):
                                  f"rm -r k{k}/*; done"],)))
         time.sleep(0.1 + 0.05 * k)
         os.kill(busy.server, signal.SIGKILL)
-        os.kill(busy.process.pid, signal.SIGKILL)
+        os.killpg(busy.process.pid, signal.SIGKILL)
         same([(low, "get", "f", b"public")])
     status, lines = checked(world)
     assert all(line.endswith("can be removed") for line in lines), lines
-    subprocess.run(["pkill", "-9", "-s", str(busy.process.pid)], check=False)
 
 
 def test_a_second_mlsfs(world):

@@ -1,6 +1,6 @@
 /*
- * In the place of labels.c, monitor.c, wire.c and session.c: all is granted to everybody, and no label is read. bench
- * times mlsfs beside a program that has this.
+ * In the place of labels.c, monitor.c, notes.c, wire.c and session.c: all is granted to everybody, and no label is read.
+ * bench times mlsfs beside a program that has this.
  */
 #include "../src/mlsfs.h"
 
