@@ -71,8 +71,17 @@ static int serve_session(const char *folder, const char *mount, bool is_foregrou
 		return fail("the folder is not one that mlsfs --make made");
 	if (!monitor_open(socket_path, name))
 		return fail("mlsd is not there");
+	if (!session_claim())
+		return fail("this session has, or had, an mlsfs");
 	int device = mount_at(mount);
-	return device < 0 ? fail(strerror(errno)) : serve(device, is_foreground);
+	if (device < 0) {
+		fail(strerror(errno));
+		session_end();
+		return 1;
+	}
+	int status = serve(device, is_foreground);
+	session_end();
+	return status;
 }
 
 static int check(const char *folder)

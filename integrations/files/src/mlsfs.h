@@ -46,12 +46,16 @@ extern void monitor_enter(void);        /* an operation is under way: what it wa
 extern void monitor_leave(void);
 extern int monitor_level(const char *label);
 extern void monitor_describe(char *text, size_t size);
+
+/* notes.c: what mlsd is told, and asked, that is no access */
 extern void monitor_note(const char *deed, int fd);
 extern bool monitor_knows(const char *container);
 
 /* session.c: the login session, which a process can't leave */
 extern bool session_find(char *name, size_t size);
 extern bool session_has(pid_t pid);
+extern bool session_claim(void);
+extern void session_end(void);
 
 /* numbers.c: inode numbers, which would count what others make */
 extern bool numbers_open(int folder);

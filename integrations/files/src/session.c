@@ -9,8 +9,10 @@
 #include <unistd.h>
 
 #define NONE 4294967295u
+#define CLAIMS "/run/mlsfs"     /* a folder with a file for each session that has or had its mlsfs */
 
 static unsigned session;
+static char claim[64];
 
 /* A number below /proc/PID; NONE where there is none, or the process has ended. */
 static unsigned number_of(pid_t pid, const char *what)
@@ -42,3 +44,17 @@ bool session_find(char *name, size_t size)
 
 /* Whether a process, or a thread, is of the session. Whoever logs in anew has another session. */
 bool session_has(pid_t pid) { return pid > 0 && number_of(pid, "sessionid") == session; }
+
+/* Takes the session, once: a second mlsfs would have another level, and know nothing of what was read by the first. */
+bool session_claim(void)
+{
+	snprintf(claim, sizeof claim, CLAIMS "/%u", session);
+	mkdir(CLAIMS, 0700);
+	int fd = open(claim, O_CREAT | O_EXCL | O_WRONLY | O_CLOEXEC, 0600);
+	if (fd >= 0)
+		close(fd);
+	return fd >= 0;
+}
+
+/* The session has ended, or never began. */
+void session_end(void) { unlink(claim); }

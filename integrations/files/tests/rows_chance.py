@@ -34,15 +34,23 @@ def do(chance, session, names, mark, counts):
     return name, [it[:20] if isinstance(it, bytes) else it for it in arguments], came
 
 
-def test_operations_by_chance(world):
-    """Rounds of a few operations above, which change nothing below, and then of a few below."""
-    chance, low, high = random.Random(SEED), world.session("man"), world.session("games", "secret")
+def lay(world, low):
+    """Folders at public and at secret, and nothing else."""
+    world.empty()
     for folder in ("s", "d", "d/s"):
         low.mkdir(folder, 0o777)
     same([(low, "setxattr", folder, "user.mls", b"secret_any", None) for folder in ("s", "d/s")])
+
+
+def test_operations_by_chance(world):
+    """Rounds of a few operations above, which change nothing below, and then of a few below."""
+    chance, low, high = random.Random(SEED), world.session("man"), world.session("games", "secret")
     counts = {"above": [0, 0], "below": [0, 0]}
-    end = time.monotonic() + SECONDS
+    end, rounds = time.monotonic() + SECONDS, 0
     while time.monotonic() < end:
+        if rounds % 10 == 0:
+            lay(world, low)
+        rounds += 1
         for _ in range(8):
             do(chance, low, NAMES, "low", counts["below"])
         before = low.view(NAMES)
@@ -50,8 +58,6 @@ def test_operations_by_chance(world):
         after = low.view(NAMES)
         assert before == after, f"seed {SEED}: {done}: {[it for it in zip(before, after) if it[0] != it[1]]}"
         assert MARK not in repr(after), f"seed {SEED}: {done}"
-        if chance.random() < 0.02:
-            assert all(low.run(["rm", "-rf", name]) for name in ("a", "b", "c", "d/a", "d/b", "new"))
     assert min(counts["above"] + counts["below"]) > 0, counts
     return f"ok: {sum(counts['above'])} operations above, {counts['above'][1]} of them done; " \
            f"{sum(counts['below'])} below, {counts['below'][1]} done"

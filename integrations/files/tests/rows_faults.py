@@ -48,11 +48,19 @@ def test_a_killed_mlsfs(world):
                                  f"rm -r k{k}/*; done"],)))
         time.sleep(0.1 + 0.05 * k)
         os.kill(busy.server, signal.SIGKILL)
-        os.kill(busy.process.pid, signal.SIGKILL)
+        os.killpg(busy.process.pid, signal.SIGKILL)
         same([(low, "get", "f", b"public")])
     status, lines = checked(world)
     assert all(line.endswith("can be removed") for line in lines), lines
-    subprocess.run(["pkill", "-9", "-s", str(busy.process.pid)], check=False)
+
+
+def test_a_second_mlsfs(world):
+    """A session has one, ever: another would have a level of its own."""
+    ann = world.session("games", "secret", is_twice=True)
+    same([(ann, "status_of_second", 1), (ann, "get", ".mls", b"games secret\n")])
+    os.kill(ann.server, signal.SIGKILL)
+    with open(f"/proc/{ann.process.pid}/sessionid", encoding="ascii") as file:
+        assert os.path.exists(f"/run/mlsfs/{file.read()}"), "another may follow"
 
 
 def test_a_session_that_ends(world):

@@ -3,7 +3,6 @@ import shutil
 
 from world import same
 
-IS_LONG = False
 GIT = "git -c user.name=a -c user.email=a@b -c init.defaultBranch=main -c safe.directory=*"
 # At one level: each line must end well.
 ALONE = {
@@ -42,8 +41,6 @@ def run(session, name, script, is_well):
 
 def test_programs(world):
     """git, sqlite3 with five writers, gcc, tar, rsync and flock at one level, and above what is public."""
-    if not IS_LONG:
-        return "skipped: only with --long"
     missing = [name for name in ALONE if not shutil.which(name)]
     ann = world.session("games")
     for name, script in ALONE.items():
@@ -59,8 +56,6 @@ def test_programs(world):
 
 def test_pythons_own(world):
     """The tests of Python's library that are of files, but for those of access times, pipes and sockets."""
-    if not IS_LONG:
-        return "skipped: only with --long"
     ann = world.session("games")
     modules = "test_posix test_pathlib test_tempfile test_mmap test_fileio test_fcntl test_tarfile test_zipfile " \
               "test_glob test_dbm_dumb test_stat test_shutil test_largefile test_mailbox"

@@ -1,6 +1,6 @@
 /*
- * In the place of labels.c, monitor.c, wire.c and session.c: all is granted to everybody, and no label is read. bench
- * times mlsfs beside a program that has this.
+ * In the place of labels.c, monitor.c, notes.c, wire.c and session.c: all is granted to everybody, and no label is read.
+ * bench times mlsfs beside a program that has this.
  */
 #include "../src/mlsfs.h"
 
@@ -33,6 +33,8 @@ const char *label_name(int container) { return container == 0 ? "public_any" : "
 int label_of(int fd) { return fd < 0 ? CONTAINER_NONE : 0; }
 int label_put(int fd, int container) { return fd < 0 || container < 0 ? EINVAL : 0; }
 bool session_has(pid_t pid) { return pid >= 0; }
+bool session_claim(void) { return true; }
+void session_end(void) { }
 
 const char *path_of(int fd, char path[PATH_BYTES])
 {

@@ -10,7 +10,7 @@ import subprocess
 import tempfile
 import time
 
-from session import Session
+from session import Session, leave_mounts
 
 SECONDS = 90
 HERE = os.path.dirname(os.path.realpath(__file__))
@@ -57,6 +57,13 @@ def build():
         subprocess.run([f"{TOP}/bin/build-mlsd", MLSD], check=True, stdin=subprocess.DEVNULL)
 
 
+def leave_all():
+    """Takes a namespace of mounts, and a folder of mlsfs's claims to sessions, that are the checks' alone."""
+    leave_mounts()
+    os.makedirs("/run/mlsfs", 0o700, exist_ok=True)
+    subprocess.run(["mount", "-t", "tmpfs", "-o", "mode=700", "none", "/run/mlsfs"], check=True)
+
+
 class World:
     """mlsd, a backing folder, and sessions over them, in a folder that is gone with them."""
 
@@ -75,6 +82,9 @@ class World:
     def renew(self):
         """Ends all sessions, and empties the folder."""
         self.end_sessions()
+        self.empty()
+
+    def empty(self):
         for it in os.scandir(f"{self.back}/files"):
             shutil.rmtree(it.path) if it.is_dir(follow_symlinks=False) else os.remove(it.path)
 
@@ -123,10 +133,10 @@ class World:
                 return False
             return True
 
-    def session(self, user, level=None, back=None):
-        """A login, which has mounted the backing folder."""
+    def session(self, user, level=None, back=None, is_twice=False):
+        """A login, which has mounted the backing folder; or has tried to twice."""
         words = [MLSFS, "--foreground", "--socket", self.socket, back or self.back, self.mount]
-        self.sessions.append(Session(user, self.mount, words, self.log, level))
+        self.sessions.append(Session(user, self.mount, words, self.log, level, is_twice))
         return self.sessions[-1]
 
     def ask(self, *lines):
