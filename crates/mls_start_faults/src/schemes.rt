@@ -4,7 +4,8 @@ ghost use Rattle.mls_start_text.specs.Views.{scheme_view, file_view};
 ghost use Rattle.mls_start_faults.specs.Each.{at_each};
 ghost use Rattle.mls_start_faults.specs.NameFaults.{name_faults};
 ghost use Rattle.mls_start_faults.specs.Naming.{bad_place, repeated_place, count_place, scheme_places, schemes_found};
-ghost use Rattle.mls_start_faults.specs.Places.{located_view};
+ghost use Rattle.mls_start_faults.specs.Naming.{name_words};
+ghost use Rattle.mls_start_faults.specs.Places.{located, located_view, on_name};
 
 use crate::name_fault::{NameFault, name_faults};
 use crate::place::Place;
@@ -32,6 +33,19 @@ fn push_bad(
     }
 }
 
+/// Adds the place of a name in a scheme, as one that stands before.
+fn push_second(
+    found: &mut Vec<PlaceRow>,
+    scheme: &str,
+    list: &str,
+    k: usize,
+) -> Result<(), AllocError>
+    ensures { OnOk result (map located_view found.new.items ≡ map located_view found.old.items
+        ++ located (on_name scheme.now list.now k (name_words NameFault.Repeated))) }
+{
+    push_place(found, Place::name(scheme, list, k, "repeated name"))
+}
+
 /// Adds the place of a NAME in a scheme that stands before in its list.
 fn push_repeated(
     found: &mut Vec<PlaceRow>,
@@ -45,10 +59,7 @@ fn push_repeated(
         ≡ map located_view found.old.items ++ repeated_place scheme.now list.now k fault) }
 {
     match fault {
-        Some(NameFault::Repeated) => push_place(
-            found,
-            Place::name(scheme, list, k, "repeated name"),
-        ),
+        Some(NameFault::Repeated) => push_second(found, scheme, list, k),
         Some(NameFault::Bad) | None => Ok(()),
     }
 }

@@ -1,5 +1,5 @@
 //! Where the start that a file says is refused.
-ghost use Rattle.std.specs.Prelude.{◌≡◌, ◌++◌, [], nat_lt, slice_get, Some, if◌then◌else◌, OnOk, IfOk, map};
+ghost use Rattle.std.specs.Prelude.{◌≡◌, ◌++◌, [], codes, nat_lt, slice_get, Some, if◌then◌else◌, OnOk, IfOk, map};
 ghost use Rattle.mls_facts.specs.Numbered.{holds_of};
 ghost use Rattle.mls_labels.specs.Label.{dominates};
 ghost use Rattle.mls_start_text.specs.Labelling.{labels_of};
@@ -10,7 +10,7 @@ ghost use Rattle.mls_start_faults.specs.Starts.{parent_of, is_in_cycle, before_w
 ghost use Rattle.mls_start_faults.specs.Starts.{current_place, current_places, object_labels};
 ghost use Rattle.mls_start_faults.specs.Starts.{parent_labels, security_place, security_places, integrity_place};
 ghost use Rattle.mls_start_faults.specs.Starts.{integrity_places, labelled_places, by_labels, start_found};
-ghost use Rattle.mls_start_faults.specs.Places.{located_view, located, on_list, place_view};
+ghost use Rattle.mls_start_faults.specs.Places.{located_view, located, on_list, on_member, place_view};
 
 use crate::accesses::accesses_found;
 use crate::labels::known_names;
@@ -90,6 +90,16 @@ fn before_words(is_in_cycle: bool) -> &'static str
     }
 }
 
+/// Adds the place of an object, as one that doesn't stand behind its parent.
+fn push_late(found: &mut Vec<PlaceRow>, labels: &FileLabels, n: usize) -> Result<(), AllocError>
+    ensures { OnOk result (map located_view found.new.items ≡ map located_view found.old.items
+        ++ located (on_member (codes "objects") n (codes "parent")
+        (before_words (is_in_cycle (labels_view labels.now).children n)))) }
+{
+    let words = before_words(is_in_cycle(labels, n));
+    push_place(found, Place::member("objects", n, "parent", words))
+}
+
 /// Adds the place of an object that doesn't stand behind its parent.
 fn push_parent(
     found: &mut Vec<PlaceRow>,
@@ -104,8 +114,7 @@ fn push_parent(
     if is_before(child.parent, n) {
         return Ok(());
     }
-    let words = before_words(is_in_cycle(labels, n));
-    push_place(found, Place::member("objects", n, "parent", words))
+    push_late(found, labels, n)
 }
 
 /// Adds the places of objects that don't stand behind their parents.
