@@ -4,7 +4,6 @@ import array
 import os
 import random
 import re
-import signal
 import subprocess
 import time
 
