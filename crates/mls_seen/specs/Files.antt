@@ -46,7 +46,8 @@ cut_code =
 -- Files as the tuple of their parts. (own)
 abbrev pub files_code : Coded Files
 files_code =
-    code_by (List ℕ × (Option Cut × List ℕ)) (coded× (coded_list coded_ℕ) (coded× (coded_option cut_code) (coded_list coded_ℕ)))
+    code_by (List ℕ × (Option Cut × List ℕ))
+    (coded× (coded_list coded_ℕ) (coded× (coded_option cut_code) (coded_list coded_ℕ)))
     (λ f. (f.start, (f.cut, f.journal))) (λ p. record { start = p.0; cut = p.1.0; journal = p.1.1 }) (λ _. refl)
 
 -- What is seen as the tuple of its parts. (own)
@@ -120,7 +121,8 @@ pub record SeesWhole (r : Seen) : Type 0 where
 -- before the cut. (own)
 abbrev pub SeesJournal : Option Cut → Seen → Type 0
 SeesJournal None r = SeesWhole r
-SeesJournal (Some cut) r = (earlier : List Entry) → StandsBefore r.names r.start cut earlier → SeesBehind r.start earlier r
+SeesJournal (Some cut) r =
+    (earlier : List Entry) → StandsBefore r.names r.start cut earlier → SeesBehind r.start earlier r
 
 -- What is seen is of its files: the start file says the names and the start, and the rest is of the journal. (own)
 pub record SeesFiles (r : Seen) : Type 0 where
