@@ -30,7 +30,10 @@ fn write_sides(
     match change {
         Change::Profile(here, there) => write_profiles(writer, *here, *there),
         Change::Levels(area) => write_levels(alloc, writer, names, *area),
-        Change::Maximum(s, l, m) | Change::Current(s, l, m) => {
+        Change::Maximum(s, l, m) => {
+            write_securities(alloc, writer, names, Thing::Subject(*s), *l, *m)
+        }
+        Change::Current(s, l, m) => {
             write_securities(alloc, writer, names, Thing::Subject(*s), *l, *m)
         }
         Change::Own(s, i, j) => write_integrities(alloc, writer, names, Thing::Subject(*s), *i, *j),
