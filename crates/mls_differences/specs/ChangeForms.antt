@@ -1,6 +1,7 @@
 -- The lines and the members of what two starts both have, but otherwise.
 use Rattle.std.specs.Prelude.{ℕ, Bool, Option, Some, None, List, [], ◌∷◌, ◌++◌, codes, map, if◌then◌else◌}
 use Rattle.json.specs.Token.{Token, string}
+use Rattle.mls_labels.specs.Label.{Label}
 use Rattle.mls_labels.specs.LabelText.{name_at}
 use Rattle.mls_lines.specs.Names.{Names}
 use Rattle.mls_rows.specs.Members.{list_member, null_member, text_member, two_members}
@@ -14,24 +15,22 @@ use Rattle.mls_differences.specs.Sides.{area_word, common, common_text, levels_o
 use Rattle.mls_differences.specs.Things.{both_text, both_texts, difference_member, part_text, thing_member, truth_members}
 use Rattle.mls_differences.specs.declared.change.Change.{Change}
 use Rattle.mls_differences.specs.declared.change.Change.TheVariants as change
-use Rattle.mls_differences.specs.declared.change.Part.{Part}
-use Rattle.mls_differences.specs.declared.change.Part.TheVariants as part
-use Rattle.mls_differences.specs.declared.change.Thing.TheVariants.{Subject, Object}
-
--- The word for which security label it is. (own)
-abbrev pub part_word : Part → List ℕ
-part_word part.Maximum = codes "maximum"
-part_word part.Current = codes "current"
-part_word part.Security = codes "security"
+use Rattle.mls_differences.specs.declared.thing.Thing.{Thing}
+use Rattle.mls_differences.specs.declared.thing.Thing.TheVariants.{Subject, Object}
 
 -- The word for what two starts have otherwise. (own)
 abbrev pub change_word : Change → List ℕ
 change_word (change.Profile p q) = codes "profile"
 change_word (change.Levels of) = codes "levels"
-change_word (change.Security thing of l m) = part_word of
-change_word (change.Integrity thing i j) = codes "integrity"
+change_word (change.Maximum s l m) = codes "maximum"
+change_word (change.Current s l m) = codes "current"
+change_word (change.Own s i j) = codes "integrity"
 change_word (change.Trusted s here there) = codes "trusted"
-change_word (change.Parent o here there) = codes "parent"
+change_word (change.Parent o p q) = codes "parent"
+change_word (change.Placed o q) = codes "parent"
+change_word (change.Freed o p) = codes "parent"
+change_word (change.Security o l m) = codes "security"
+change_word (change.Integrity o i j) = codes "integrity"
 
 -- What is written of a profile: its number. (own)
 abbrev pub profile_text : Profile → List ℕ
@@ -55,18 +54,34 @@ order_line kind levels others = orders_line kind (common_text levels others) (co
 abbrev pub yes_or_no : Bool → List ℕ
 yes_or_no so = if so then codes "yes" else codes "no"
 
+-- The line of two security labels of a subject or an object. (own)
+abbrev pub securities_line : Names → Names → Thing → List ℕ → Label → Label → List ℕ
+securities_line a b thing part l m = part_text a thing part ++ both_text (security_text a l) (security_text b m)
+
+-- The line of two integrity labels of a subject or an object. (own)
+abbrev pub integrities_line : Names → Names → Thing → Label → Label → List ℕ
+integrities_line a b thing i j =
+    part_text a thing (codes "integrity") ++ both_text (integrity_text a i) (integrity_text b j)
+
+-- The line of two parents of an object, one of which may lack. (own)
+abbrev pub parents_line : Names → Names → ℕ → Option ℕ → Option ℕ → List ℕ
+parents_line a b o here there =
+    part_text a (Object o) (codes "parent") ++ both_text (parent_text a here) (parent_text b there)
+
 -- The line of a row, by the names of both starts. (own)
 abbrev pub change_line : Names → Names → Change → List ℕ
 change_line a b (change.Profile p q) = codes "profile: " ++ both_text (profile_text p) (profile_text q)
 change_line a b (change.Levels of) = order_line (area_word of) (levels_of a of) (levels_of b of)
-change_line a b (change.Security thing of l m) =
-    part_text a thing (part_word of) ++ both_text (security_text a l) (security_text b m)
-change_line a b (change.Integrity thing i j) =
-    part_text a thing (codes "integrity") ++ both_text (integrity_text a i) (integrity_text b j)
+change_line a b (change.Maximum s l m) = securities_line a b (Subject s) (codes "maximum") l m
+change_line a b (change.Current s l m) = securities_line a b (Subject s) (codes "current") l m
+change_line a b (change.Own s i j) = integrities_line a b (Subject s) i j
 change_line a b (change.Trusted s here there) =
     part_text a (Subject s) (codes "trusted") ++ both_text (yes_or_no here) (yes_or_no there)
-change_line a b (change.Parent o here there) =
-    part_text a (Object o) (codes "parent") ++ both_text (parent_text a here) (parent_text b there)
+change_line a b (change.Parent o p q) = parents_line a b o (Some p) (Some q)
+change_line a b (change.Placed o q) = parents_line a b o None (Some q)
+change_line a b (change.Freed o p) = parents_line a b o (Some p) None
+change_line a b (change.Security o l m) = securities_line a b (Object o) (codes "security") l m
+change_line a b (change.Integrity o i j) = integrities_line a b (Object o) i j
 
 -- The list of the names that are among others. (own)
 abbrev pub common_member : List ℕ → List (List ℕ) → List (List ℕ) → List Token
@@ -90,19 +105,34 @@ parent_member at names (Some p) = text_member at (name_at names.objects p)
 abbrev pub parent_members : List ℕ → List ℕ → Names → Names → Option ℕ → Option ℕ → List Token
 parent_members at behind a b here there = parent_member at a here ++ parent_member behind b there
 
+-- Two security labels of a subject or an object. (own)
+abbrev pub securities_members : Names → Names → Thing → Label → Label → List Token
+securities_members a b thing l m = thing_member a thing ++ both_texts (security_text a l) (security_text b m)
+
+-- Two integrity labels of a subject or an object. (own)
+abbrev pub integrities_members : Names → Names → Thing → Label → Label → List Token
+integrities_members a b thing i j = thing_member a thing ++ both_texts (integrity_text a i) (integrity_text b j)
+
+-- Two parents of an object, one of which may lack. (own)
+abbrev pub parents_members : Names → Names → ℕ → Option ℕ → Option ℕ → List Token
+parents_members a b o here there =
+    thing_member a (Object o) ++ parent_members (codes "first") (codes "second") a b here there
+
 -- The members of a row behind the word of what differs. (own)
 abbrev pub sides_members : Names → Names → Change → List Token
 sides_members a b (change.Profile p q) =
     two_members (codes "first") (codes "second") (profile_number p) (profile_number q)
 sides_members a b (change.Levels of) = levels_members (area_word of) (levels_of a of) (levels_of b of)
-sides_members a b (change.Security thing of l m) =
-    thing_member a thing ++ both_texts (security_text a l) (security_text b m)
-sides_members a b (change.Integrity thing i j) =
-    thing_member a thing ++ both_texts (integrity_text a i) (integrity_text b j)
+sides_members a b (change.Maximum s l m) = securities_members a b (Subject s) l m
+sides_members a b (change.Current s l m) = securities_members a b (Subject s) l m
+sides_members a b (change.Own s i j) = integrities_members a b (Subject s) i j
 sides_members a b (change.Trusted s here there) =
     thing_member a (Subject s) ++ truth_members (codes "first") (codes "second") here there
-sides_members a b (change.Parent o here there) =
-    thing_member a (Object o) ++ parent_members (codes "first") (codes "second") a b here there
+sides_members a b (change.Parent o p q) = parents_members a b o (Some p) (Some q)
+sides_members a b (change.Placed o q) = parents_members a b o None (Some q)
+sides_members a b (change.Freed o p) = parents_members a b o (Some p) None
+sides_members a b (change.Security o l m) = securities_members a b (Object o) l m
+sides_members a b (change.Integrity o i j) = integrities_members a b (Object o) i j
 
 -- The members of a row, by the names of both starts. (own)
 abbrev pub change_members : Names → Names → Change → List Token

@@ -1,5 +1,5 @@
 -- What two starts both have, but otherwise: the profile, the order of levels, subjects and objects.
-use Rattle.std.specs.Prelude.{ℕ, Bool, true, false, ◌&&◌, Option, Some, None, List, [], ◌++◌, codes, if◌then◌else◌}
+use Rattle.std.specs.Prelude.{ℕ, Bool, true, false, ◌&&◌, Option, Some, None, List, [], ◌∷◌, ◌++◌, codes, if◌then◌else◌}
 use Rattle.std.specs.FinMap as map
 use Rattle.std.specs.FinSet as set
 use Rattle.std.specs.List.{flat_map}
@@ -14,13 +14,9 @@ use Rattle.mls_differences.specs.Alike.{is_like}
 use Rattle.mls_differences.specs.Sides.{common_text, levels_of, row_unless}
 use Rattle.mls_differences.specs.declared.change.Change.{Change}
 use Rattle.mls_differences.specs.declared.change.Change.TheVariants as change
-use Rattle.mls_differences.specs.declared.change.Part.{Part}
-use Rattle.mls_differences.specs.declared.change.Part.TheVariants as part
 use Rattle.mls_differences.specs.declared.shared.Shared.{Shared}
 use Rattle.mls_differences.specs.declared.side.Area.{Area}
 use Rattle.mls_differences.specs.declared.side.Area.TheVariants as area
-use Rattle.mls_differences.specs.declared.change.Thing.{Thing}
-use Rattle.mls_differences.specs.declared.change.Thing.TheVariants.{Subject, Object}
 
 -- Whether two profiles are the same. (own)
 abbrev pub same_profile : Profile → Profile → Bool
@@ -48,19 +44,17 @@ heads_rows a b v w =
 
 -- The row of a security label that two starts have of something, where the two aren't alike by name; nothing where a
 -- start has none. (own)
-abbrev pub security_rows : Names → Names → Thing → Part → Option Label → Option Label → List Change
-security_rows a b thing of (Some l) (Some m) =
-    row_unless (is_like a.security b.security l m) (change.Security thing of l m)
-security_rows a b thing of (Some l) None = []
-security_rows a b thing of None m = []
+abbrev pub security_rows : Names → Names → (Label → Label → Change) → Option Label → Option Label → List Change
+security_rows a b row (Some l) (Some m) = row_unless (is_like a.security b.security l m) (row l m)
+security_rows a b row (Some l) None = []
+security_rows a b row None m = []
 
 -- The row of an integrity label that two starts have of something, where the two aren't alike by name; nothing where a
 -- start has none. (own)
-abbrev pub integrity_rows : Names → Names → Thing → Option Label → Option Label → List Change
-integrity_rows a b thing (Some i) (Some j) =
-    row_unless (is_like a.integrity b.integrity i j) (change.Integrity thing i j)
-integrity_rows a b thing (Some i) None = []
-integrity_rows a b thing None j = []
+abbrev pub integrity_rows : Names → Names → (Label → Label → Change) → Option Label → Option Label → List Change
+integrity_rows a b row (Some i) (Some j) = row_unless (is_like a.integrity b.integrity i j) (row i j)
+integrity_rows a b row (Some i) None = []
+integrity_rows a b row None j = []
 
 -- Whether something is so in both, or in neither. (own)
 abbrev pub same_truth : Bool → Bool → Bool
@@ -75,9 +69,9 @@ trusted_rows s here there = row_unless (same_truth here there) (change.Trusted s
 -- The rows of a subject of one state and a subject of another: labels, and whether it is trusted. (own)
 abbrev pub subject_changes : Names → Names → State → State → ℕ → ℕ → List Change
 subject_changes a b v w s t =
-    security_rows a b (Subject s) part.Maximum (map.get v.maximum s) (map.get w.maximum t)
-    ++ security_rows a b (Subject s) part.Current (map.get v.current s) (map.get w.current t)
-    ++ integrity_rows a b (Subject s) (map.get v.subject_integrity s) (map.get w.subject_integrity t)
+    security_rows a b (change.Maximum s) (map.get v.maximum s) (map.get w.maximum t)
+    ++ security_rows a b (change.Current s) (map.get v.current s) (map.get w.current t)
+    ++ integrity_rows a b (change.Own s) (map.get v.subject_integrity s) (map.get w.subject_integrity t)
     ++ trusted_rows s (set.contains v.trusted s) (set.contains w.trusted t)
 
 -- The rows of a subject that two starts share, where it is known in both states. (own)
@@ -94,16 +88,23 @@ parent_text names (Some p) = name_at names.objects p
 abbrev pub same_parent : Names → Names → Option ℕ → Option ℕ → Bool
 same_parent a b here there = bytes_eq (parent_text a here) (parent_text b there)
 
+-- The row of two parents of an object; nothing where both are none. (own)
+abbrev pub moved_rows : ℕ → Option ℕ → Option ℕ → List Change
+moved_rows o None None = []
+moved_rows o None (Some q) = change.Placed o q ∷ []
+moved_rows o (Some p) None = change.Freed o p ∷ []
+moved_rows o (Some p) (Some q) = change.Parent o p q ∷ []
+
 -- The row of the parents of an object in two starts, where they don't have the same name. (own)
 abbrev pub parent_rows : Names → Names → ℕ → Option ℕ → Option ℕ → List Change
-parent_rows a b o here there = row_unless (same_parent a b here there) (change.Parent o here there)
+parent_rows a b o here there = if same_parent a b here there then [] else moved_rows o here there
 
 -- The rows of an object of one state and an object of another: its parent, by name, and its labels. (own)
 abbrev pub object_changes : Names → Names → State → State → ℕ → ℕ → List Change
 object_changes a b v w o p =
     parent_rows a b o (map.get v.parent o) (map.get w.parent p)
-    ++ security_rows a b (Object o) part.Security (map.get v.object_label o) (map.get w.object_label p)
-    ++ integrity_rows a b (Object o) (map.get v.object_integrity o) (map.get w.object_integrity p)
+    ++ security_rows a b (change.Security o) (map.get v.object_label o) (map.get w.object_label p)
+    ++ integrity_rows a b (change.Integrity o) (map.get v.object_integrity o) (map.get w.object_integrity p)
 
 -- The rows of an object that two starts share, where it is active in both states. (own)
 abbrev pub object_rows : Names → Names → State → State → Shared → List Change

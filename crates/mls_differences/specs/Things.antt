@@ -4,8 +4,8 @@ use Rattle.json.specs.Token.{Token, key, boolean}
 use Rattle.mls_lines.specs.Names.{Names}
 use Rattle.mls_rows.specs.Members.{object_member, subject_member, text_member}
 use Rattle.mls_wording.specs.Wording.{subject_text, object_text}
-use Rattle.mls_differences.specs.declared.change.Thing.{Thing}
-use Rattle.mls_differences.specs.declared.change.Thing.TheVariants.{Subject, Object}
+use Rattle.mls_differences.specs.declared.thing.Thing.{Thing}
+use Rattle.mls_differences.specs.declared.thing.Thing.TheVariants.{Subject, Object}
 
 -- What is written of a subject or an object: its kind and its name. (own)
 abbrev pub thing_text : Names → Thing → List ℕ

@@ -1,9 +1,9 @@
 //! Labels that two starts have otherwise.
-ghost use Rattle.std.specs.Prelude.{◌≡◌, ◌++◌, IfOk, OnOk, Some};
+ghost use Rattle.std.specs.Prelude.{◌≡◌, ◌++◌, IfOk, OnOk};
 ghost use Rattle.mls_differences.specs.Alike.{carried_label, is_like, label_read};
-ghost use Rattle.mls_differences.specs.Changes.{integrity_rows, security_rows};
+ghost use Rattle.mls_differences.specs.Sides.{row_unless};
 
-use crate::change::{Change, Part, Thing};
+use crate::change::{Change, push_change};
 use mls_labels::{IntLabel, Label, LabelFault, Scheme, SecLabel};
 use mls_lines::Names;
 use std::alloc::{AllocError, Global};
@@ -54,18 +54,17 @@ fn is_like(
     }
 }
 
-/// Adds the row of a security label of a subject or an object, where the two starts' aren't alike by name.
+/// Adds a row of two security labels, where they aren't alike by name.
 pub(crate) fn push_security(
     alloc: Global,
     rows: &mut Vec<Change>,
     names: (&Names, &Names),
-    thing: Thing,
-    part: Part,
-    here: SecLabel,
-    there: SecLabel,
+    here: &SecLabel,
+    there: &SecLabel,
+    change: Change,
 ) -> Result<(), AllocError>
-    ensures { OnOk result (rows.new.items ≡ rows.old.items
-        ++ security_rows names.entry.0.now names.entry.1.now thing part (Some here) (Some there)) }
+    ensures { OnOk result (rows.new.items ≡ rows.old.items ++ row_unless
+        (is_like names.entry.0.now.security names.entry.1.now.security here.now there.now) change) }
 {
     let like = is_like(
         alloc,
@@ -74,23 +73,23 @@ pub(crate) fn push_security(
         here.label(),
         &there.label(),
     )?;
-    if !like {
-        rows.push(Change::Security(thing, part, here, there))?;
+    if like {
+        return Ok(());
     }
-    Ok(())
+    push_change(rows, change)
 }
 
-/// Adds the row of the integrity label of a subject or an object, where the two starts' aren't alike by name.
+/// Adds a row of two integrity labels, where they aren't alike by name.
 pub(crate) fn push_integrity(
     alloc: Global,
     rows: &mut Vec<Change>,
     names: (&Names, &Names),
-    thing: Thing,
-    here: IntLabel,
-    there: IntLabel,
+    here: &IntLabel,
+    there: &IntLabel,
+    change: Change,
 ) -> Result<(), AllocError>
-    ensures { OnOk result (rows.new.items ≡ rows.old.items
-        ++ integrity_rows names.entry.0.now names.entry.1.now thing (Some here) (Some there)) }
+    ensures { OnOk result (rows.new.items ≡ rows.old.items ++ row_unless
+        (is_like names.entry.0.now.integrity names.entry.1.now.integrity here.now there.now) change) }
 {
     let like = is_like(
         alloc,
@@ -99,8 +98,8 @@ pub(crate) fn push_integrity(
         here.label(),
         &there.label(),
     )?;
-    if !like {
-        rows.push(Change::Integrity(thing, here, there))?;
+    if like {
+        return Ok(());
     }
-    Ok(())
+    push_change(rows, change)
 }

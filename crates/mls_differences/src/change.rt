@@ -1,54 +1,35 @@
 //! What two starts both have, but otherwise.
-ghost use Rattle.std.specs.Prelude.{◌≡◌};
-ghost use Rattle.mls_differences.specs.ChangeForms.{change_word, part_word};
+ghost use Rattle.std.specs.Prelude.{◌≡◌, ◌∷◌, ◌++◌, [], OnOk};
+ghost use Rattle.mls_differences.specs.ChangeForms.{change_word};
 
 use crate::side::Area;
 use mls_labels::{IntLabel, SecLabel};
 use mls_tables::{ObjectId, SubjectId};
 use mls_tree::Profile;
+use std::alloc::AllocError;
 
-/// A subject or an object, by its number in the first of two starts.
-#[derive(Clone, Copy)]
-pub(crate) enum Thing {
-    Subject(SubjectId),
-    Object(ObjectId),
-}
-
-/// Which security label of a subject or an object it is.
-#[derive(Clone, Copy)]
-pub(crate) enum Part {
-    Maximum,
-    Current,
-    /// The only one that an object has.
-    Security,
-}
-
-/// What two starts both have, but otherwise: the first start's first. Subjects and objects have the first's numbers,
-/// but for the parent in the second start.
+/// What two starts both have, but otherwise: the first start's first. Subjects and objects have the first's numbers, but
+/// for the parent in the second start.
 #[derive(Clone, Copy)]
 pub(crate) enum Change {
     Profile(Profile, Profile),
     /// The order of the levels that both have.
     Levels(Area),
-    Security(Thing, Part, SecLabel, SecLabel),
-    Integrity(Thing, IntLabel, IntLabel),
+    Maximum(SubjectId, SecLabel, SecLabel),
+    Current(SubjectId, SecLabel, SecLabel),
+    /// The integrity of a subject.
+    Own(SubjectId, IntLabel, IntLabel),
     /// Whether a subject is trusted.
     Trusted(SubjectId, bool, bool),
     /// The parent of an object.
-    Parent(ObjectId, Option<ObjectId>, Option<ObjectId>),
-}
-
-impl Part {
-    /// The word for it.
-    pub(crate) fn word(self) -> &'static str
-        ensures { result.now ≡ part_word self }
-    {
-        match self {
-            Part::Maximum => "maximum",
-            Part::Current => "current",
-            Part::Security => "security",
-        }
-    }
+    Parent(ObjectId, ObjectId, ObjectId),
+    /// The parent that the root of the first start has in the second.
+    Placed(ObjectId, ObjectId),
+    /// The parent that the root of the second start has in the first.
+    Freed(ObjectId, ObjectId),
+    Security(ObjectId, SecLabel, SecLabel),
+    /// The integrity of an object.
+    Integrity(ObjectId, IntLabel, IntLabel),
 }
 
 impl Change {
@@ -59,10 +40,20 @@ impl Change {
         match self {
             Change::Profile(_, _) => "profile",
             Change::Levels(_) => "levels",
-            Change::Security(_, part, _, _) => part.word(),
-            Change::Integrity(_, _, _) => "integrity",
+            Change::Maximum(_, _, _) => "maximum",
+            Change::Current(_, _, _) => "current",
+            Change::Own(_, _, _) | Change::Integrity(_, _, _) => "integrity",
             Change::Trusted(_, _, _) => "trusted",
-            Change::Parent(_, _, _) => "parent",
+            Change::Parent(_, _, _) | Change::Placed(_, _) | Change::Freed(_, _) => "parent",
+            Change::Security(_, _, _) => "security",
         }
     }
+}
+
+/// Adds a row.
+pub(crate) fn push_change(rows: &mut Vec<Change>, change: Change) -> Result<(), AllocError>
+    ensures { OnOk result (rows.new.items ≡ rows.old.items ++ change ∷ []) }
+{
+    rows.push(change)?;
+    Ok(())
 }

@@ -5,10 +5,9 @@ ghost use Rattle.mls_wording.specs.Wording.{integrity_text, security_text};
 ghost use Rattle.mls_differences.specs.ChangeForms.{profile_text, yes_or_no};
 ghost use Rattle.mls_differences.specs.Changes.{parent_text};
 ghost use Rattle.mls_differences.specs.Things.{both_text, part_text};
-ghost use Rattle.mls_differences.specs.declared.change.Thing.TheVariants.{Object, Subject};
+ghost use Rattle.mls_differences.specs.declared.thing.Thing.TheVariants.{Object, Subject};
 
-use crate::change::Thing;
-use crate::thing::{push_both, push_part};
+use crate::thing::{Thing, push_both, push_part};
 use mls_labels::{IntLabel, SecLabel};
 use mls_lines::Names;
 use mls_tables::{ObjectId, SubjectId};

@@ -4,11 +4,10 @@ ghost use Rattle.mls_rows.specs.Members.{Adds, two_members};
 ghost use Rattle.mls_wording.specs.Wording.{integrity_text, security_text};
 ghost use Rattle.mls_differences.specs.ChangeForms.{parent_member, parent_members, profile_number};
 ghost use Rattle.mls_differences.specs.Things.{both_texts, thing_member, truth_members};
-ghost use Rattle.mls_differences.specs.declared.change.Thing.TheVariants.{Object, Subject};
+ghost use Rattle.mls_differences.specs.declared.thing.Thing.TheVariants.{Object, Subject};
 
-use crate::change::Thing;
 use crate::change_lines::name_at;
-use crate::thing::{write_both, write_thing, write_truths};
+use crate::thing::{Thing, write_both, write_thing, write_truths};
 use json::Writer;
 use mls_labels::{IntLabel, SecLabel};
 use mls_lines::Names;

@@ -12,7 +12,7 @@ use crate::change_members::{
 use crate::compared::Compared;
 use crate::level_lists::write_levels;
 use crate::levels::push_levels_line;
-use crate::thing::write_difference;
+use crate::thing::{Thing, write_difference};
 use json::Writer;
 use mls_lines::Names;
 use std::alloc::{AllocError, Global};
@@ -30,14 +30,23 @@ fn write_sides(
     match change {
         Change::Profile(here, there) => write_profiles(writer, *here, *there),
         Change::Levels(area) => write_levels(alloc, writer, names, *area),
-        Change::Security(thing, _, here, there) => {
-            write_securities(alloc, writer, names, *thing, *here, *there)
+        Change::Maximum(s, l, m) => {
+            write_securities(alloc, writer, names, Thing::Subject(*s), *l, *m)
         }
-        Change::Integrity(thing, here, there) => {
-            write_integrities(alloc, writer, names, *thing, *here, *there)
+        Change::Current(s, l, m) => {
+            write_securities(alloc, writer, names, Thing::Subject(*s), *l, *m)
         }
+        Change::Own(s, i, j) => write_integrities(alloc, writer, names, Thing::Subject(*s), *i, *j),
         Change::Trusted(s, here, there) => write_trusted(writer, names.0, *s, *here, *there),
-        Change::Parent(o, here, there) => write_parents(writer, names, *o, *here, *there),
+        Change::Parent(o, p, q) => write_parents(writer, names, *o, Some(*p), Some(*q)),
+        Change::Placed(o, q) => write_parents(writer, names, *o, None, Some(*q)),
+        Change::Freed(o, p) => write_parents(writer, names, *o, Some(*p), None),
+        Change::Security(o, l, m) => {
+            write_securities(alloc, writer, names, Thing::Object(*o), *l, *m)
+        }
+        Change::Integrity(o, i, j) => {
+            write_integrities(alloc, writer, names, Thing::Object(*o), *i, *j)
+        }
     }
 }
 
@@ -56,14 +65,21 @@ impl Compared for Change {
         match self {
             Change::Profile(here, there) => push_profiles(text, *here, *there),
             Change::Levels(area) => push_levels_line(alloc, text, names, *area),
-            Change::Security(thing, part, here, there) => {
-                push_securities(text, names, *thing, part.word(), *here, *there)
+            Change::Maximum(s, l, m) => {
+                push_securities(text, names, Thing::Subject(*s), "maximum", *l, *m)
             }
-            Change::Integrity(thing, here, there) => {
-                push_integrities(text, names, *thing, *here, *there)
+            Change::Current(s, l, m) => {
+                push_securities(text, names, Thing::Subject(*s), "current", *l, *m)
             }
+            Change::Own(s, i, j) => push_integrities(text, names, Thing::Subject(*s), *i, *j),
             Change::Trusted(s, here, there) => push_trusted(text, names.0, *s, *here, *there),
-            Change::Parent(o, here, there) => push_parents(text, names, *o, *here, *there),
+            Change::Parent(o, p, q) => push_parents(text, names, *o, Some(*p), Some(*q)),
+            Change::Placed(o, q) => push_parents(text, names, *o, None, Some(*q)),
+            Change::Freed(o, p) => push_parents(text, names, *o, Some(*p), None),
+            Change::Security(o, l, m) => {
+                push_securities(text, names, Thing::Object(*o), "security", *l, *m)
+            }
+            Change::Integrity(o, i, j) => push_integrities(text, names, Thing::Object(*o), *i, *j),
         }
     }
 

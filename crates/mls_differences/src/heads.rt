@@ -3,7 +3,7 @@ ghost use Rattle.std.specs.Prelude.{◌≡◌, ◌++◌, map, string_bytes, IfOk
 ghost use Rattle.mls_differences.specs.Changes.{heads_rows, levels_rows, profile_rows, same_order, same_profile};
 ghost use Rattle.mls_differences.specs.Sides.{levels_of};
 
-use crate::change::Change;
+use crate::change::{Change, push_change};
 use crate::levels::common_text;
 use crate::name_lists::is_same;
 use crate::side::Area;
@@ -26,10 +26,10 @@ fn is_same_profile(here: Profile, there: Profile) -> bool
 fn push_profiles(rows: &mut Vec<Change>, here: Profile, there: Profile) -> Result<(), AllocError>
     ensures { OnOk result (rows.new.items ≡ rows.old.items ++ profile_rows here there) }
 {
-    if !is_same_profile(here, there) {
-        rows.push(Change::Profile(here, there))?;
+    if is_same_profile(here, there) {
+        return Ok(());
     }
-    Ok(())
+    push_change(rows, Change::Profile(here, there))
 }
 
 /// Whether the levels that two lists share stand in the same order in both.
@@ -69,10 +69,10 @@ fn push_levels(
         ++ levels_rows names.entry.0.now names.entry.1.now area) }
 {
     let same = is_same_order(alloc, names, area)?;
-    if !same {
-        rows.push(Change::Levels(area))?;
+    if same {
+        return Ok(());
     }
-    Ok(())
+    push_change(rows, Change::Levels(area))
 }
 
 /// Adds what two starts have otherwise of their profiles and of the order of their levels.

@@ -3,11 +3,11 @@ ghost use Rattle.std.specs.Prelude.{◌≡◌, ◌++◌, IsTrue, OnOk};
 ghost use Rattle.std.specs.FinMap as map;
 ghost use Rattle.std.specs.List.{flat_map};
 ghost use Rattle.mls_state.specs.State.{is_active};
-ghost use Rattle.mls_differences.specs.Changes.{integrity_rows, object_changes, object_rows, parent_rows, same_parent};
+ghost use Rattle.mls_differences.specs.Changes.{integrity_rows, object_changes, moved_rows, object_rows, parent_rows, same_parent};
 ghost use Rattle.mls_differences.specs.Changes.{security_rows};
 
 use crate::alike::{push_integrity, push_security};
-use crate::change::{Change, Part, Thing};
+use crate::change::{Change, push_change};
 use crate::change_lines::parent_text;
 use crate::name_lists::is_same;
 use crate::shared::Shared;
@@ -29,6 +29,23 @@ fn is_same_parent(
     is_same(first, second)
 }
 
+/// Adds the row of two parents of an object.
+fn push_moved(
+    rows: &mut Vec<Change>,
+    o: ObjectId,
+    here: Option<ObjectId>,
+    there: Option<ObjectId>,
+) -> Result<(), AllocError>
+    ensures { OnOk result (rows.new.items ≡ rows.old.items ++ moved_rows o here there) }
+{
+    match (here, there) {
+        (Some(p), Some(q)) => push_change(rows, Change::Parent(o, p, q)),
+        (None, Some(q)) => push_change(rows, Change::Placed(o, q)),
+        (Some(p), None) => push_change(rows, Change::Freed(o, p)),
+        (None, None) => Ok(()),
+    }
+}
+
 /// Adds the row of the parents of an object, where they don't have the same name.
 fn push_parents(
     rows: &mut Vec<Change>,
@@ -40,11 +57,10 @@ fn push_parents(
     ensures { OnOk result (rows.new.items
         ≡ rows.old.items ++ parent_rows names.entry.0.now names.entry.1.now o here there) }
 {
-    let same = is_same_parent(names, &here, &there);
-    if !same {
-        rows.push(Change::Parent(o, here, there))?;
+    if is_same_parent(names, &here, &there) {
+        return Ok(());
     }
-    Ok(())
+    push_moved(rows, o, here, there)
 }
 
 /// Adds the row of the parents of an object of one state and an object of another, where they don't have the same name.
@@ -77,7 +93,7 @@ fn push_label(
     requires first { IsTrue (is_active states.0.now o) }
     requires second { IsTrue (is_active states.1.now p) }
     ensures { OnOk result (rows.new.items ≡ rows.old.items
-        ++ security_rows names.entry.0.now names.entry.1.now (Thing.Object o) Part.Security
+        ++ security_rows names.entry.0.now names.entry.1.now (Change.Security o)
         (map.get states.entry.0.now.object_label o) (map.get states.entry.1.now.object_label p)) }
 {
     let here = states.0.object_label(o);
@@ -86,10 +102,9 @@ fn push_label(
         alloc,
         rows,
         names,
-        Thing::Object(o),
-        Part::Security,
-        here,
-        there,
+        &here,
+        &there,
+        Change::Security(o, here, there),
     )
 }
 
@@ -105,12 +120,19 @@ fn push_own(
     requires first { IsTrue (is_active states.0.now o) }
     requires second { IsTrue (is_active states.1.now p) }
     ensures { OnOk result (rows.new.items ≡ rows.old.items
-        ++ integrity_rows names.entry.0.now names.entry.1.now (Thing.Object o)
+        ++ integrity_rows names.entry.0.now names.entry.1.now (Change.Integrity o)
         (map.get states.entry.0.now.object_integrity o) (map.get states.entry.1.now.object_integrity p)) }
 {
     let here = states.0.object_integrity(o);
     let there = states.1.object_integrity(p);
-    push_integrity(alloc, rows, names, Thing::Object(o), here, there)
+    push_integrity(
+        alloc,
+        rows,
+        names,
+        &here,
+        &there,
+        Change::Integrity(o, here, there),
+    )
 }
 
 /// Adds the rows of an object of one state and an object of another.

@@ -8,7 +8,7 @@ ghost use Rattle.mls_differences.specs.Changes.{integrity_rows, same_truth, secu
 ghost use Rattle.mls_differences.specs.Changes.{subject_rows, trusted_rows};
 
 use crate::alike::{push_integrity, push_security};
-use crate::change::{Change, Part, Thing};
+use crate::change::{Change, push_change};
 use crate::shared::Shared;
 use mls_lines::Names;
 use mls_rules::State;
@@ -34,7 +34,7 @@ fn push_maximum(
     requires first { IsTrue (is_subject states.0.now s) }
     requires second { IsTrue (is_subject states.1.now t) }
     ensures { OnOk result (rows.new.items ≡ rows.old.items
-        ++ security_rows names.entry.0.now names.entry.1.now (Thing.Subject s) Part.Maximum
+        ++ security_rows names.entry.0.now names.entry.1.now (Change.Maximum s)
         (map.get states.entry.0.now.maximum s) (map.get states.entry.1.now.maximum t)) }
 {
     let here = states.0.maximum(s);
@@ -43,10 +43,9 @@ fn push_maximum(
         alloc,
         rows,
         names,
-        Thing::Subject(s),
-        Part::Maximum,
-        here,
-        there,
+        &here,
+        &there,
+        Change::Maximum(s, here, there),
     )
 }
 
@@ -62,7 +61,7 @@ fn push_current(
     requires first { IsTrue (is_subject states.0.now s) }
     requires second { IsTrue (is_subject states.1.now t) }
     ensures { OnOk result (rows.new.items ≡ rows.old.items
-        ++ security_rows names.entry.0.now names.entry.1.now (Thing.Subject s) Part.Current
+        ++ security_rows names.entry.0.now names.entry.1.now (Change.Current s)
         (map.get states.entry.0.now.current s) (map.get states.entry.1.now.current t)) }
 {
     let here = states.0.current(s);
@@ -71,10 +70,9 @@ fn push_current(
         alloc,
         rows,
         names,
-        Thing::Subject(s),
-        Part::Current,
-        here,
-        there,
+        &here,
+        &there,
+        Change::Current(s, here, there),
     )
 }
 
@@ -90,12 +88,19 @@ fn push_own(
     requires first { IsTrue (is_subject states.0.now s) }
     requires second { IsTrue (is_subject states.1.now t) }
     ensures { OnOk result (rows.new.items ≡ rows.old.items
-        ++ integrity_rows names.entry.0.now names.entry.1.now (Thing.Subject s)
+        ++ integrity_rows names.entry.0.now names.entry.1.now (Change.Own s)
         (map.get states.entry.0.now.subject_integrity s) (map.get states.entry.1.now.subject_integrity t)) }
 {
     let here = states.0.subject_integrity(s);
     let there = states.1.subject_integrity(t);
-    push_integrity(alloc, rows, names, Thing::Subject(s), here, there)
+    push_integrity(
+        alloc,
+        rows,
+        names,
+        &here,
+        &there,
+        Change::Own(s, here, there),
+    )
 }
 
 /// Adds the row of whether a subject is trusted, where it is in one start alone.
@@ -107,10 +112,10 @@ fn push_trust(
 ) -> Result<(), AllocError>
     ensures { OnOk result (rows.new.items ≡ rows.old.items ++ trusted_rows s here there) }
 {
-    if !is_same_truth(here, there) {
-        rows.push(Change::Trusted(s, here, there))?;
+    if is_same_truth(here, there) {
+        return Ok(());
     }
-    Ok(())
+    push_change(rows, Change::Trusted(s, here, there))
 }
 
 /// Adds the row of whether a subject of one state and a subject of another are trusted, where only one of them is.

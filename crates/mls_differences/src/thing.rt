@@ -4,12 +4,19 @@ ghost use Rattle.mls_rows.specs.Members.{Adds};
 ghost use Rattle.mls_differences.specs.Things.{both_text, both_texts, difference_member, part_text, text_members};
 ghost use Rattle.mls_differences.specs.Things.{thing_member, thing_text, truth_member, truth_members};
 
-use crate::change::Thing;
 use json::Writer;
 use mls_lines::Names;
 use mls_rows::{write_object, write_subject, write_text};
+use mls_tables::{ObjectId, SubjectId};
 use mls_wording::{push_object, push_subject};
 use std::alloc::AllocError;
+
+/// A subject or an object, by its number in the first of two starts.
+#[derive(Clone, Copy)]
+pub(crate) enum Thing {
+    Subject(SubjectId),
+    Object(ObjectId),
+}
 
 /// Appends the kind and the name of a subject or an object.
 fn push_thing(text: &mut String, names: &Names, thing: Thing) -> Result<(), AllocError>
