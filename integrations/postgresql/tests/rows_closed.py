@@ -165,6 +165,7 @@ def test_no_plan_is_parallel(world):
 def test_copy_obeys(world):
     world.same([
         ("bob", "COPY docs TO STDOUT;", "1\tU_hi\tlunch at noon\n"),
-        ("bob", "\\copy docs FROM PROGRAM 'echo 20,U_hi,x' csv", "ERROR:  COPY FROM not supported with row-level "
-                                                                 "security\n"),
+        # (the program may find that nobody reads from it)
+        ("bob", "\\copy docs FROM PROGRAM 'trap \"\" PIPE; echo 20,U_hi,x 2>/dev/null; true' csv",
+         "ERROR:  COPY FROM not supported with row-level security\n"),
     ])
