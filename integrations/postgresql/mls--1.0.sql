@@ -34,9 +34,11 @@ REVOKE EXECUTE ON FUNCTION mls.session() FROM public;
 CREATE FUNCTION mls.is_protected(regclass) RETURNS bool AS 'MODULE_PATHNAME', 'mls_is_protected'
   LANGUAGE C STRICT STABLE PARALLEL RESTRICTED;
 
+-- (each names pg_temp last: a session's own tables would else be found before the catalogs)
+
 -- Protects one table. The policies that decide are restrictive: no other policy opens what they close. As row security
 -- shows nothing without a permissive policy, there is one that permits all; a table with policies of its own drops it.
-CREATE PROCEDURE mls.protect_one(t regclass) LANGUAGE plpgsql SET search_path = pg_catalog AS $$
+CREATE PROCEDURE mls.protect_one(t regclass) LANGUAGE plpgsql SET search_path = pg_catalog, pg_temp AS $$
 BEGIN
   EXECUTE format('ALTER TABLE %s ALTER label SET NOT NULL, ENABLE ROW LEVEL SECURITY, FORCE ROW LEVEL SECURITY', t);
   EXECUTE format('CREATE POLICY mls_open ON %s USING (true)', t);
@@ -57,7 +59,7 @@ CREATE FUNCTION mls.is_kept_key(oid) RETURNS bool AS 'MODULE_PATHNAME', 'mls_is_
 -- What a table's indexes, statistics and types call: functions also that stand behind operators, casts to domains, and
 -- ranges, which ANALYZE measures.
 CREATE FUNCTION mls.functions_over(t regclass) RETURNS TABLE (f regprocedure)
-LANGUAGE sql STABLE SET search_path = pg_catalog AS $$
+LANGUAGE sql STABLE SET search_path = pg_catalog, pg_temp AS $$
   WITH RECURSIVE used AS (
     SELECT d.refclassid AS class, d.refobjid AS id FROM pg_depend d
       WHERE d.classid = 'pg_class'::regclass AND d.objid IN (SELECT indexrelid FROM pg_index WHERE indrelid = t)
@@ -76,7 +78,7 @@ $$;
 
 -- What of a protected table reads or locks rows beside its policies.
 CREATE FUNCTION mls.faults(t regclass) RETURNS TABLE (finding text, name text, remedy text)
-LANGUAGE sql STABLE SET search_path = pg_catalog AS $$
+LANGUAGE sql STABLE SET search_path = pg_catalog, pg_temp AS $$
   SELECT 'foreign key that tells', k.conname || ' on ' || k.conrelid::regclass,
       'drop it, or put label into both sides, and protect both tables'
     FROM pg_constraint k WHERE k.contype = 'f' AND t IN (k.conrelid, k.confrelid) AND NOT mls.is_kept_key(k.oid)
@@ -95,7 +97,7 @@ $$;
 
 -- Protects tables that have a column `label`, and all that stand below them: their partitions and heirs. Tables that
 -- foreign keys join are named in one call.
-CREATE PROCEDURE mls.protect(VARIADIC t regclass[]) LANGUAGE plpgsql SET search_path = pg_catalog AS $$
+CREATE PROCEDURE mls.protect(VARIADIC t regclass[]) LANGUAGE plpgsql SET search_path = pg_catalog, pg_temp AS $$
 DECLARE
   one regclass;
   fault record;
@@ -120,7 +122,7 @@ END $$;
 
 -- What goes round the policies, or tells what they hide: each with what an administrator does about it.
 CREATE FUNCTION mls.audit() RETURNS TABLE (finding text, name text, remedy text)
-LANGUAGE sql STABLE SET search_path = pg_catalog AS $$
+LANGUAGE sql STABLE SET search_path = pg_catalog, pg_temp AS $$
   WITH relation AS (
     SELECT c.oid, c.relkind, c.reloptions, c.relowner, c.oid::regclass::text AS name
     FROM pg_class c JOIN pg_namespace n ON n.oid = c.relnamespace

@@ -41,6 +41,31 @@ no_answer(const char *answer)
 					errmsg("mls: the monitor says %s to %s", answer, subject_held())));
 }
 
+static const Container *into;	/* what is written */
+
+/* Errors where the session may remember a container that is above the one that is written: its level has fallen. What
+ * is held in this transaction was decided about. */
+static void
+must_be_readable(Container *c)
+{
+	if (session_holds() && (c->known[MODE_READ] == KNOWN_YES || c->known[MODE_WRITE] == KNOWN_YES))
+		return;
+	c->is_readable = false;
+	if (!access_may_read(c))
+		ereport(ERROR, (errcode(ERRCODE_INSUFFICIENT_PRIVILEGE),
+						errmsg("mls: %s may not write %.*s: this session worked with %.*s, above its level now",
+							   subject_held(), NAME_BYTES, into->name, NAME_BYTES, c->name),
+						errhint("DISCARD ALL, or connect anew.")));
+}
+
+/* Nothing that a session remembers is written below it. The access is held already, so the level can't rise meanwhile. */
+static void
+must_not_carry(const Container *c)
+{
+	into = c;
+	containers_each_remembered(must_be_readable);
+}
+
 /* Gets an access. It counts as asked for before its line is sent: a cancel must still release it. */
 static Known
 get(Container *c, AccessMode mode)
@@ -55,7 +80,12 @@ get(Container *c, AccessMode mode)
 	if (strcmp(answer, "yes") != 0)
 		no_answer(answer);
 	c->checked = GetCurrentStatementStartTimestamp();
-	return c->known[mode] = KNOWN_YES;
+	c->known[mode] = KNOWN_YES;
+	if (mode != MODE_READ)
+		must_not_carry(c);
+	if (mode != MODE_APPEND || (!c->is_remembered && access_may_read(c)))
+		container_remember(c);
+	return KNOWN_YES;
 }
 
 /* Whether the monitor would deny it: that question has no entry and no sync. */
@@ -120,6 +150,9 @@ access_ask(AccessMode mode, Container *c, bool is_filter)
 		ereport(ERROR, (errcode(ERRCODE_INVALID_TRANSACTION_STATE),
 						errmsg("mls: the worker of a parallel query asks nothing"),
 						errhint("Is a function PARALLEL SAFE that isn't?")));
+	if (guard_is_with_owner())
+		ereport(ERROR, (errcode(ERRCODE_INSUFFICIENT_PRIVILEGE),
+						errmsg("mls: an owner's function asks nothing where the server runs it")));
 	subject_name();
 	if (known == KNOWN_NO || (known == KNOWN_YES && session_holds()))
 		return known;
@@ -128,6 +161,7 @@ access_ask(AccessMode mode, Container *c, bool is_filter)
 	if (mode == MODE_READ && is_still_kept(c))
 	{
 		container_touch(c);
+		container_remember(c);
 		return c->known[mode] = KNOWN_YES;
 	}
 	if (is_filter && mls_preview && known != KNOWN_ASKED && is_foreseen(c, mode))

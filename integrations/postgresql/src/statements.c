@@ -126,15 +126,17 @@ option_is_on(List *options, const char *name, bool otherwise)
 	return otherwise;
 }
 
-/* How many pages of any table a plan found in the cache tells which ones others have read. */
+/* How many pages of any table a plan found in the cache, or put into the log whole, tells which ones others have read. */
 static void
 look_at_explained(ExplainStmt *explain)
 {
 	bool		counts = PG_VERSION_NUM >= 180000 && option_is_on(explain->options, "analyze", false);
 
-	if (option_is_on(explain->options, "buffers", counts) && !mls_explain && guard_is_on())
+	if (mls_explain || !guard_is_on())
+		return;
+	if (option_is_on(explain->options, "buffers", counts) || option_is_on(explain->options, "wal", false))
 		ereport(ERROR, (errcode(ERRCODE_INSUFFICIENT_PRIVILEGE),
-						errmsg("mls: EXPLAIN (BUFFERS) would tell what other sessions read"),
+						errmsg("mls: EXPLAIN (BUFFERS, WAL) would tell what other sessions read"),
 						errhint("A superuser may set mls.explain.")));
 }
 
@@ -143,7 +145,14 @@ look_at(Node *statement)
 {
 	if (IsA(statement, ExplainStmt))
 		look_at_explained((ExplainStmt *) statement);
-	if (leaves_nothing(statement) || !guard_is_on())
+	if (leaves_nothing(statement))
+		return;
+	/* (ANALYZE is what a concurrent REFRESH does by such a statement) */
+	if (guard_is_with_owner() && !IsA(statement, VacuumStmt))
+		ereport(ERROR, (errcode(ERRCODE_INSUFFICIENT_PRIVILEGE),
+						errmsg("mls: no %s where the server runs an owner's function",
+							   GetCommandTagName(CreateCommandTag(statement)))));
+	if (!guard_is_on())
 		return;
 	guard_must_append(GetCommandTagName(CreateCommandTag(statement)));
 	protection_stays(statement);
