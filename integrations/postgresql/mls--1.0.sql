@@ -48,7 +48,7 @@ BEGIN
                  'USING (mls.may_write(label)) WITH CHECK (mls.must_write(label))', t);
   EXECUTE format('CREATE POLICY mls_delete ON %s AS RESTRICTIVE FOR DELETE USING (mls.may_write(label))', t);
   IF NOT mls.is_protected(t) THEN
-    RAISE EXCEPTION 'mls: the column label of % is to be of the type mls.label, or text', t;
+    RAISE EXCEPTION 'mls: the column label of % is to be of the type mls.label, or text that is compared as it is', t;
   END IF;
 END $$;
 
@@ -162,6 +162,10 @@ LANGUAGE sql STABLE SET search_path = pg_catalog, pg_temp AS $$
     FROM pg_roles r JOIN pg_roles o ON o.oid <> r.oid AND pg_has_role(r.oid, o.oid, 'MEMBER')
     WHERE r.rolcanlogin AND NOT r.rolsuper AND NOT o.rolsuper
       AND o.oid IN (SELECT relowner FROM relation WHERE relkind IN ('r', 'p') AND mls.is_protected(relation.oid))
+  UNION ALL SELECT 'role that can become a superuser', r.rolname || ': ' || o.rolname,
+      format('REVOKE %I FROM %I', o.rolname, r.rolname)
+    FROM pg_roles r JOIN pg_roles o ON o.oid <> r.oid AND pg_has_role(r.oid, o.oid, 'MEMBER')
+    WHERE r.rolcanlogin AND NOT r.rolsuper AND (o.rolsuper OR o.rolbypassrls)
   UNION ALL SELECT 'role with CREATEROLE', r.rolname, 'ALTER ROLE .. NOCREATEROLE: it can become any owner, and more'
     FROM pg_roles r WHERE r.rolcreaterole AND NOT r.rolsuper
   UNION ALL SELECT 'role with CREATEDB', r.rolname, 'ALTER ROLE .. NOCREATEDB: nothing is asked in its databases'
@@ -172,6 +176,11 @@ LANGUAGE sql STABLE SET search_path = pg_catalog, pg_temp AS $$
   UNION ALL SELECT 'function that runs as a superuser', p.oid::regprocedure::text, 'ALTER FUNCTION .. SECURITY INVOKER'
     FROM pg_proc p JOIN pg_roles o ON o.oid = p.proowner
     WHERE p.prosecdef AND p.oid >= 16384 AND (o.rolsuper OR o.rolbypassrls)
+  UNION ALL SELECT 'trigger that runs as a superuser', t.tgname || ' on ' || r.name,
+      'ALTER FUNCTION .. OWNER TO a superuser, or DROP TRIGGER'
+    FROM pg_trigger t JOIN relation r ON r.oid = t.tgrelid JOIN pg_roles o ON o.oid = r.relowner
+      JOIN pg_proc p ON p.oid = t.tgfoid JOIN pg_roles f ON f.oid = p.proowner
+    WHERE NOT t.tgisinternal AND (o.rolsuper OR o.rolbypassrls) AND NOT f.rolsuper
   UNION ALL SELECT 'other extension', e.extname, 'DROP EXTENSION, unless nothing of it reads or leaves rows elsewhere'
     FROM pg_extension e WHERE e.extname NOT IN ('mls', 'plpgsql')
   UNION ALL SELECT 'activity that others see', 'track_activities', 'ALTER SYSTEM SET track_activities = off'

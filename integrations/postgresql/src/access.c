@@ -55,7 +55,7 @@ must_be_readable(Container *c)
 		ereport(ERROR, (errcode(ERRCODE_INSUFFICIENT_PRIVILEGE),
 						errmsg("mls: %s may not write %.*s: this session worked with %.*s, above its level now",
 							   subject_held(), NAME_BYTES, into->name, NAME_BYTES, c->name),
-						errhint("DISCARD ALL, or connect anew.")));
+						errhint("Connect anew, or DISCARD ALL, where the session made no setting of a new name.")));
 }
 
 /* Nothing that a session remembers is written below it. The access is held already, so the level can't rise meanwhile. */

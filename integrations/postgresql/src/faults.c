@@ -1,7 +1,7 @@
 /*
- * Tables that a session protects. Whoever owns a table may protect it by policies of his own hand, and is asked nothing by
- * mls.protect then. So each table that was changed is looked at before the transaction commits: where it is protected now,
- * nothing of it may read or lock rows beside its policies.
+ * Tables that a session protects. Whoever owns a table may protect it by policies of his own hand, without mls.protect.
+ * So each table that was changed is looked at before the transaction commits: where it is protected now, nothing of it
+ * may read or lock rows beside its policies.
  */
 #include "mls.h"
 #include "access/xact.h"

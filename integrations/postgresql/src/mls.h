@@ -109,6 +109,7 @@ extern void session_reach(void);
 extern void session_needs_level(void);
 extern void session_level(const char *label);
 extern void session_begin_anew(void);
+extern void session_discarded(void);
 extern void session_start(void);
 
 /* protected.c: which tables are protected */

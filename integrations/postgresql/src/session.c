@@ -90,6 +90,14 @@ session_level(const char *label)
 	is_level_lost = false;
 }
 
+/* The session has no level of its own, and holds nothing. It throws nothing. */
+void
+session_begin_anew(void)
+{
+	wire_end();
+	is_level_set = is_level_lost = false;
+}
+
 /* Whether the session made a setting of its own: its name outlives RESET ALL. */
 static bool
 has_made_setting(void)
@@ -103,15 +111,14 @@ has_made_setting(void)
 	return false;
 }
 
-/* The session is as a new one: it has no level of its own, and holds nothing. It remembers nothing either, unless by what
- * DISCARD ALL leaves: names of settings, and the seed of random(). */
+/* After DISCARD ALL it is as a new one, and remembers nothing, unless by names of settings. That also leaves the seed of
+ * random(). */
 void
-session_begin_anew(void)
+session_discarded(void)
 {
 	uint32		seed;
 
-	wire_end();
-	is_level_set = is_level_lost = false;
+	session_begin_anew();
 	if (has_made_setting() || !pg_strong_random(&seed, sizeof seed))
 		return;
 	DirectFunctionCall1(setseed, Float8GetDatum((double) seed / PG_UINT32_MAX));
