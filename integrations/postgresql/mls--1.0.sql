@@ -85,6 +85,9 @@ LANGUAGE sql STABLE SET search_path = pg_catalog, pg_temp AS $$
   UNION ALL SELECT 'table without protection above it', t || ' below ' || i.inhparent::regclass,
       'CALL mls.protect of that table, or ALTER TABLE .. NO INHERIT'
     FROM pg_inherits i WHERE i.inhrelid = t AND NOT mls.is_protected(i.inhparent)
+  UNION ALL SELECT 'table without protection below it', i.inhrelid::regclass || ' below ' || t,
+      'CALL mls.protect of both, or ALTER TABLE .. NO INHERIT or DETACH PARTITION'
+    FROM pg_inherits i WHERE i.inhparent = t AND NOT mls.is_protected(i.inhrelid)
   UNION ALL SELECT 'policy that is asked first', p.polname || ' on ' || t, 'ALTER POLICY .. RENAME TO own_..'
     FROM pg_policy p
     WHERE p.polrelid = t AND NOT p.polpermissive AND p.polname COLLATE "C" < 'mls_write'

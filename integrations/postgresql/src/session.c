@@ -111,8 +111,8 @@ has_made_setting(void)
 	return false;
 }
 
-/* After DISCARD ALL it is as a new one, and remembers nothing, unless by names of settings. That also leaves the seed of
- * random(). */
+/* After DISCARD ALL it is as a new one, and remembers nothing, unless by names of settings: that leaves them, and the
+ * seed of random(). */
 void
 session_discarded(void)
 {

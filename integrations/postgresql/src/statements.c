@@ -163,7 +163,7 @@ drops_temporary(DropStmt *drop)
 	return true;
 }
 
-/* Whether it is what REFRESH .. CONCURRENTLY does by statements of its own: to temporary tables, of the session alone. */
+/* Whether it is what REFRESH .. CONCURRENTLY does by statements of its own, to tables that are the session's alone. */
 static bool
 is_of_refresh(Node *statement)
 {

@@ -1,5 +1,5 @@
-"""What somebody at a low level leaves, and that runs later: in a session above, in a command of the server's own, or where
-a foreign key acts. Each row has the statements that read hidden rows, or wrote them down, once."""
+"""What somebody at a low level leaves, and that runs later: in a session above, in a command of the server's own, or
+where a foreign key acts. Each row has the statements that read hidden rows, or wrote them down, once."""
 from rows_closed import AT_S
 
 CARRIED = "ERROR:  mls: ann may not write {}: this session worked with {}, above its level now\n".format
@@ -29,6 +29,9 @@ def test_a_session_carries_nothing_down(world):
         # (what a session reads, writes or adds at its level it remembers; it leaves nothing without a label either)
         ("ann", AT_S + "SELECT count(*) FROM docs WHERE id = 4; SELECT mls.level('U'); NOTIFY dawn; "
                        "UPDATE docs SET body = 'x'; DELETE FROM docs;", "S:A\n1\nU\n" + above + 2 * above),
+        ("ann", AT_S + "SELECT count(*) FROM docs WHERE id = 4; SELECT mls.level('U'); DO $$ BEGIN "
+                       "BEGIN DELETE FROM docs; EXCEPTION WHEN OTHERS THEN NULL; END; DELETE FROM docs; END $$;",
+         "S:A\n1\nU\n" + above),
         ("ann", AT_S + "INSERT INTO docs VALUES (7, 'S-A_hi', 'x'); SELECT mls.level('U'); "
                        "INSERT INTO docs VALUES (8, 'U_hi', 'x');", "S:A\nU\n" + above),
         # (what it added above its level it doesn't know more of for that; and a trusted subject may write down)
@@ -74,8 +77,8 @@ CREATE FUNCTION d.sees(body text) RETURNS text LANGUAGE plpgsql IMMUTABLE AS
 
 
 def test_protection_by_hand_is_looked_at(world):
-    """bob protected a table by policies of his own, and his function in an index was given all rows by ANALYZE, which the
-    server runs by itself."""
+    """bob protected a table by policies of his own, and his function in an index was given all rows by ANALYZE, which
+    the server runs by itself."""
     over = "ERROR:  mls: function over hidden rows: d.sees(text) on d.t\n"
     first = "ERROR:  mls: policy that is asked first: a on d.t\n"
     world.same([
@@ -91,7 +94,8 @@ def test_protection_by_hand_is_looked_at(world):
         ("bob", f"BEGIN; {last} SELECT mls.is_protected('d.t'); COMMIT;", "t\n" + over),
         ("bob", f"BEGIN; SAVEPOINT s; {last} RELEASE s; PREPARE TRANSACTION 'x';", over),
         # (nor does he get so far by names that stand before the catalogs')
-        ("bob", "DROP TABLE d.t; CREATE TABLE d.t (id int, label mls.label, body text); CREATE INDEX ON d.t (d.sees(body));"
+        ("bob", "DROP TABLE d.t; CREATE TABLE d.t (id int, label mls.label, body text); "
+                "CREATE INDEX ON d.t (d.sees(body)); "
                 "CREATE TEMP VIEW pg_roles AS SELECT oid, true AS rolsuper FROM pg_catalog.pg_roles; "
                 "CREATE TEMP TABLE pg_depend (LIKE pg_catalog.pg_depend); CALL mls.protect('d.t');", over),
         ("postgres", "CALL mls.protect_one('t'); INSERT INTO t VALUES (1, 'S-A_hi', 'agents in A'); ANALYZE t;", ""),
@@ -108,6 +112,11 @@ def test_protection_by_a_name_is_looked_at(world):
         ("bob", "ALTER TABLE d.above RENAME x TO label; SELECT mls.is_protected('d.t');",
          "ERROR:  mls: table without protection above it: d.t below d.above\nf\n"),
         ("bob", "DROP TABLE d.above CASCADE;", "NOTICE:  drop cascades to table t\n"),
+        # (nor is a table let be that takes rows for one without policies)
+        ("bob", "CREATE TABLE d.parts (id int, label mls.label) PARTITION BY LIST (id); "
+                "CREATE TABLE d.part1 PARTITION OF d.parts DEFAULT;" + BY_HAND("parts", "label").replace("POLICY a", "POLICY mls_read") +
+         "SELECT mls.is_protected('d.parts'); DROP TABLE d.parts;",
+         "ERROR:  mls: table without protection below it: d.part1 below d.parts\nf\n"),
         # (tables that a key joins may be protected one after the other, in one transaction)
         ("bob", "CREATE TABLE d.a (id int, label mls.label, PRIMARY KEY (id, label)); CREATE TABLE d.t (id int, "
                 "label mls.label, FOREIGN KEY (id, label) REFERENCES d.a); BEGIN; CALL mls.protect_one('d.a'); "
@@ -136,23 +145,26 @@ LAID = [
 
 
 def test_functions_that_the_server_runs_change_nothing(world):
-    """In ANALYZE the session's user is a superuser, whom nothing binds: bob's function laid his protected table open."""
+    """In ANALYZE the session's user is a superuser, whom nothing binds: bob's function laid his table open."""
     for deed, due in LAID:
         world.same([
             ("bob", LAYS(deed), ""),
             ("ann", AT_S + "INSERT INTO d.t VALUES (1, 'S-A_hi', 'agents in A');", "S:A\n"),
         ])
-        for command in ("ANALYZE bait;", "REINDEX TABLE bait;", "CREATE INDEX ON bait (d.runs(id));", "VACUUM FULL bait;"):
+        for command in ("ANALYZE bait;", "REINDEX TABLE bait;", "CREATE INDEX ON bait (d.runs(id));",
+                        "VACUUM FULL bait;"):
             world.same([("postgres", command, ""),
                         ("bob", "SELECT DISTINCT body FROM d.loot; TRUNCATE d.loot;", due + "\n")])
-        world.same([("postgres", "SELECT mls.is_protected('t'); DROP TABLE t, bait, loot; DROP FUNCTION runs, lays;", "t\n")])
+        world.same([("postgres", "SELECT mls.is_protected('t'); DROP TABLE t, bait, loot; DROP FUNCTION runs, lays;",
+                     "t\n")])
 
 
 def test_what_a_superuser_runs_for_an_owner_goes_on(world):
     world.same([
         ("postgres", "SET ROLE keeper; CREATE TABLE k (id int, label mls.label, body text); CALL mls.protect('k'); "
-                     "CREATE MATERIALIZED VIEW m AS SELECT DISTINCT note FROM scratch; CREATE UNIQUE INDEX ON m (note); "
-                     "RESET ROLE; CREATE INDEX ON k (lower(body)); CREATE UNIQUE INDEX i ON k (id, label); "
+                     "CREATE MATERIALIZED VIEW m AS SELECT DISTINCT note FROM scratch; "
+                     "CREATE UNIQUE INDEX ON m (note); RESET ROLE; CREATE INDEX ON k (lower(body)); "
+                     "CREATE UNIQUE INDEX i ON k (id, label); "
                      "CLUSTER k USING i; REINDEX TABLE k; ANALYZE k; VACUUM FULL k; REFRESH MATERIALIZED VIEW m; "
                      "REFRESH MATERIALIZED VIEW CONCURRENTLY m; ALTER TABLE k ADD PRIMARY KEY (id, label); "
                      "SELECT mls.is_protected('k'); DROP TABLE k; DROP MATERIALIZED VIEW m;", "t\n"),
@@ -213,9 +225,10 @@ def test_pages_put_into_the_log_are_not_counted(world):
 
 
 def test_labels_are_compared_as_they_are(world):
-    """Where S-A_hi and SA_hi are one text to a key, rows of two containers lock each other, or tell that they are there."""
+    """Where S-A_hi and SA_hi are one text to a key, rows of one container tell of rows of the other, or lock them."""
     world.same([
-        ("bob", "CREATE COLLATION d.loose (provider = icu, locale = 'und-u-ka-shifted-ks-level1', deterministic = false); "
+        ("bob", "CREATE COLLATION d.loose (provider = icu, locale = 'und-u-ka-shifted-ks-level1', "
+                "deterministic = false); "
                 "CREATE TABLE d.t (id int, label text COLLATE d.loose, PRIMARY KEY (id, label)); CALL mls.protect('d.t');",
          "ERROR:  mls: the column label of d.t is to be of the type mls.label, or text that is compared as it is\n"),
         ("bob", "SELECT mls.is_protected('d.t'); DROP TABLE d.t; DROP COLLATION d.loose;", "f\n"),
@@ -225,20 +238,21 @@ def test_labels_are_compared_as_they_are(world):
 def test_the_audit_names_who_runs_as_a_superuser(world):
     """Its policies are asked nothing then; such a trigger runs so where a foreign key acts."""
     world.same([
-        ("postgres", "CREATE ROLE boss SUPERUSER NOLOGIN; CREATE ROLE friend; GRANT boss TO friend; GRANT friend TO bob; "
-                     "CREATE TABLE t (id int, label mls.label); CREATE FUNCTION g() RETURNS trigger LANGUAGE plpgsql AS "
+        ("postgres", "CREATE ROLE boss SUPERUSER NOLOGIN; CREATE ROLE friend; GRANT boss TO friend; "
+                     "GRANT friend TO bob; CREATE TABLE t (id int, label mls.label); "
+                     "CREATE FUNCTION g() RETURNS trigger LANGUAGE plpgsql AS "
                      "'BEGIN RETURN NEW; END'; ALTER FUNCTION g OWNER TO bob; "
                      "CREATE TRIGGER x BEFORE INSERT ON t FOR EACH ROW EXECUTE FUNCTION g();", ""),
         ("bob", "SET ROLE boss; SELECT count(*) FROM docs;", "5\n"),
         ("postgres", "SELECT finding, name, remedy FROM mls.audit() WHERE finding ~ 'superuser'; DROP TABLE t; "
                      "DROP FUNCTION g; DROP ROLE boss, friend;",
-         "role that can become a superuser|bob: boss|REVOKE boss FROM bob\ntrigger that runs as a superuser|x on d.t|ALTER "
-         "FUNCTION .. OWNER TO a superuser, or DROP TRIGGER\n"),
+         "role that can become a superuser|bob: boss|REVOKE boss FROM bob\n"
+         "trigger that runs as a superuser|x on d.t|ALTER FUNCTION .. OWNER TO a superuser, or DROP TRIGGER\n"),
     ])
 
 
 def test_a_row_whose_label_is_no_container_tells(world):
-    """A superuser's row, or one of an older start: a condition that picks it is an error, and so says that it is there."""
+    """A superuser's row, or one of an older start: a condition that picks it is an error, and so tells of it."""
     bad = "ERROR:  mls: the monitor says bad name to bob\n"
     world.same([
         ("postgres", "INSERT INTO docs VALUES (50, 'gone', 'lost at sea');", ""),
