@@ -114,8 +114,9 @@ def test_protection_by_a_name_is_looked_at(world):
         ("bob", "DROP TABLE d.above CASCADE;", "NOTICE:  drop cascades to table t\n"),
         # (nor is a table let be that takes rows for one without policies)
         ("bob", "CREATE TABLE d.parts (id int, label mls.label) PARTITION BY LIST (id); "
-                "CREATE TABLE d.part1 PARTITION OF d.parts DEFAULT;" + BY_HAND("parts", "label").replace("POLICY a", "POLICY mls_read") +
-         "SELECT mls.is_protected('d.parts'); DROP TABLE d.parts;",
+                "CREATE TABLE d.part1 PARTITION OF d.parts DEFAULT;" +
+         BY_HAND("parts", "label").replace("POLICY a", "POLICY mls_read") + "SELECT mls.is_protected('d.parts'); "
+         "DROP TABLE d.parts;",
          "ERROR:  mls: table without protection below it: d.part1 below d.parts\nf\n"),
         # (tables that a key joins may be protected one after the other, in one transaction)
         ("bob", "CREATE TABLE d.a (id int, label mls.label, PRIMARY KEY (id, label)); CREATE TABLE d.t (id int, "
@@ -229,7 +230,8 @@ def test_labels_are_compared_as_they_are(world):
     world.same([
         ("bob", "CREATE COLLATION d.loose (provider = icu, locale = 'und-u-ka-shifted-ks-level1', "
                 "deterministic = false); "
-                "CREATE TABLE d.t (id int, label text COLLATE d.loose, PRIMARY KEY (id, label)); CALL mls.protect('d.t');",
+                "CREATE TABLE d.t (id int, label text COLLATE d.loose, PRIMARY KEY (id, label)); "
+                "CALL mls.protect('d.t');",
          "ERROR:  mls: the column label of d.t is to be of the type mls.label, or text that is compared as it is\n"),
         ("bob", "SELECT mls.is_protected('d.t'); DROP TABLE d.t; DROP COLLATION d.loose;", "f\n"),
     ])
