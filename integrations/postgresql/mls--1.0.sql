@@ -48,7 +48,8 @@ BEGIN
                  'USING (mls.may_write(label)) WITH CHECK (mls.must_write(label))', t);
   EXECUTE format('CREATE POLICY mls_delete ON %s AS RESTRICTIVE FOR DELETE USING (mls.may_write(label))', t);
   IF NOT mls.is_protected(t) THEN
-    RAISE EXCEPTION 'mls: the column label of % is to be of the type mls.label, or text that is compared as it is', t;
+    RAISE EXCEPTION 'mls: the column label of % is to be of the type mls.label, or text', t
+      USING HINT = 'Its collation is to tell all texts apart.';
   END IF;
 END $$;
 

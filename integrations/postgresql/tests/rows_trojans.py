@@ -232,7 +232,7 @@ def test_labels_are_compared_as_they_are(world):
                 "deterministic = false); "
                 "CREATE TABLE d.t (id int, label text COLLATE d.loose, PRIMARY KEY (id, label)); "
                 "CALL mls.protect('d.t');",
-         "ERROR:  mls: the column label of d.t is to be of the type mls.label, or text that is compared as it is\n"),
+         "ERROR:  mls: the column label of d.t is to be of the type mls.label, or text\n"),
         ("bob", "SELECT mls.is_protected('d.t'); DROP TABLE d.t; DROP COLLATION d.loose;", "f\n"),
     ])
 
