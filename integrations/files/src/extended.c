@@ -12,17 +12,17 @@
 static bool begins(const char *name, const char *with) { return strncmp(name, with, strlen(with)) == 0; }
 static bool is_users(const char *name) { return begins(name, "user."); }
 
-/* The label of the folder that a file stands in. */
+/* The label of the folder that a file stands in; none of a multilevel one, whose folders keep their labels. */
 static int label_above(struct node *node)
 {
-	char path[PATH_BYTES], above[PATH_MAX];
+	char path[PATH_BYTES], above[PATH_MAX], labels[MARK_BYTES];
 	ssize_t length = readlink(path_of(node->fd, path), above, sizeof above - 1);
 	if (length <= 0)
 		return CONTAINER_NONE;
 	above[length] = 0;
 	*strrchr(above, '/') = 0;
 	int fd = open(above, O_PATH | O_DIRECTORY | O_NOFOLLOW | O_CLOEXEC);
-	int container = fd < 0 ? CONTAINER_NONE : label_of(fd);
+	int container = fd < 0 || levels_of(fd, labels) ? CONTAINER_NONE : label_of(fd);
 	if (fd >= 0)
 		close(fd);
 	return container;

@@ -32,7 +32,8 @@ static int is_seen(int folder, const char *name)
 	int container;
 	if (strcmp(name, ".") == 0 || strcmp(name, "..") == 0)
 		return 0;
-	int fd = openat(folder, name, O_PATH | O_NOFOLLOW | O_CLOEXEC);
+	struct stat file;
+	int fd = entry_open(folder, name, &file);
 	if (fd < 0)
 		return ENOENT;
 	int error = file_begin(fd, LIST, &container);

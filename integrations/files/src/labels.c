@@ -1,8 +1,14 @@
 /* The labels of files: each has the name of a container in an attribute that users neither see nor set. */
 #include "mlsfs.h"
 #include <ctype.h>
+#include <fcntl.h>
 #include <pthread.h>
+#include <stdint.h>
+#include <sys/syscall.h>
 #include <sys/xattr.h>
+#include <unistd.h>
+
+#define GET_ATTRIBUTE_AT 464    /* getxattrat of Linux 6.13, on each architecture */
 
 static char names[CONTAINERS][NAME_BYTES + 1];
 static int count;
@@ -42,11 +48,20 @@ int label_number(const char *name)
 	return found;
 }
 
+/* Reads the label's attribute, of an O_PATH descriptor too: at once where the kernel can. */
+static ssize_t label_text(int fd, char text[NAME_BYTES])
+{
+	struct { uint64_t value; uint32_t size, flags; } wanted = {(uintptr_t)text, NAME_BYTES, 0};
+	char path[PATH_BYTES];
+	long length = syscall(GET_ATTRIBUTE_AT, fd, "", AT_EMPTY_PATH, LABEL, &wanted, sizeof wanted);
+	return length >= 0 || errno != ENOSYS ? length : getxattr(path_of(fd, path), LABEL, text, NAME_BYTES);
+}
+
 /* The label of a backing file now: another session's mlsfs may have changed it. */
 int label_of(int fd)
 {
-	char path[PATH_BYTES], text[NAME_BYTES + 1];
-	ssize_t length = getxattr(path_of(fd, path), LABEL, text, NAME_BYTES);
+	char text[NAME_BYTES + 1];
+	ssize_t length = label_text(fd, text);
 	if (length <= 0)
 		return CONTAINER_NONE;
 	text[length] = 0;

@@ -9,9 +9,10 @@
 
 static const char usage[] = "usage: mlsfs [--foreground] [--socket PATH] FOLDER MOUNT\n"
 	"       mlsfs --make FOLDER CONTAINER\n"
+	"       mlsfs --levels FOLDER CONTAINER ..\n"
 	"       mlsfs [--socket PATH] --check FOLDER\n";
 
-enum { MOUNT_IT, MAKE_IT, CHECK_IT };
+enum { MOUNT_IT, MAKE_IT, DIVIDE_IT, CHECK_IT };
 
 static const char *socket_path = "/run/mlsd/socket";
 static struct fuse_session *served;
@@ -92,6 +93,12 @@ static int check(const char *folder)
 	return folder_check(folder);
 }
 
+static int divide(const char *folder, char *const *containers, int count)
+{
+	int error = levels_make(folder, containers, count);
+	return error ? fail(error == ENODATA ? "the folder has no label" : strerror(error)) : 0;
+}
+
 int main(int count, char **words)
 {
 	int what = MOUNT_IT;
@@ -102,16 +109,19 @@ int main(int count, char **words)
 			is_foreground = true;
 		else if (strcmp(*words, "--make") == 0)
 			what = MAKE_IT;
+		else if (strcmp(*words, "--levels") == 0)
+			what = DIVIDE_IT;
 		else if (strcmp(*words, "--check") == 0)
 			what = CHECK_IT;
 		else if (strcmp(*words, "--socket") == 0 && count > 1)
 			socket_path = *++words, count--;
 		else
 			count = -1;
-	if (count != (what == CHECK_IT ? 1 : 2)) {
+	if (what == DIVIDE_IT ? count < 2 : count != (what == CHECK_IT ? 1 : 2)) {
 		fputs(usage, stderr);
 		return 2;
 	}
-	return what == MAKE_IT ? folder_make(words[0], words[1]) : what == CHECK_IT ? check(words[0])
+	return what == MAKE_IT ? folder_make(words[0], words[1])
+		: what == DIVIDE_IT ? divide(words[0], words + 1, count - 1) : what == CHECK_IT ? check(words[0])
 		: serve_session(words[0], words[1], is_foreground);
 }

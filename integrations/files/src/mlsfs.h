@@ -18,6 +18,7 @@
 #define CONTAINERS 512          /* that a session may meet */
 #define ANSWER_BYTES 256
 #define PATH_BYTES 64           /* of /proc/self/fd/N */
+#define MARK_BYTES 1024         /* of the labels of a multilevel folder */
 #define LABEL "trusted.mls"     /* the attribute of a backing file */
 #define SHOWN_LABEL "user.mls"  /* its name for users */
 #define CONTROL_NAME ".mls"     /* the file below the mount that tells and sets the level */
@@ -45,6 +46,11 @@ extern void monitor_start(void (*forget)(int container));
 extern void monitor_enter(void);        /* an operation is under way: what it was granted isn't acknowledged as lost */
 extern void monitor_leave(void);
 extern int monitor_level(const char *label);
+extern const char *monitor_subject(void);
+
+/* level.c: the level that the session has */
+extern void level_changed(void);
+extern bool monitor_is_level(int container);
 extern void monitor_describe(char *text, size_t size);
 
 /* notes.c: what mlsd is told, and asked, that is no access */
@@ -60,6 +66,11 @@ extern void session_end(void);
 /* numbers.c: inode numbers, which would count what others make */
 extern bool numbers_open(int folder);
 extern uint64_t number_shown(uint64_t number);
+
+/* levels.c: multilevel folders, and so what a session has behind a name */
+extern bool levels_of(int folder, char labels[MARK_BYTES]);
+extern int levels_make(const char *path, char *const *labels, int count);
+extern int entry_open(int folder, const char *name, struct stat *file);
 
 /* nodes.c: what the kernel knows of */
 struct owner {                  /* of locks on a file */

@@ -71,11 +71,11 @@ int node_find(struct node *folder, const char *name, struct node **found)
 	*found = NULL;
 	if (strcmp(name, ".") == 0 || strcmp(name, "..") == 0)
 		return ENOENT;
-	int fd = openat(folder->fd, name, O_PATH | O_NOFOLLOW | O_CLOEXEC);
+	int fd = entry_open(folder->fd, name, &file);
 	if (fd < 0)
 		return errno;
 	/* (another disk that is mounted among the files has no labels of ours) */
-	if (fstat(fd, &file) != 0 || file.st_dev != device) {
+	if (file.st_dev != device) {
 		close(fd);
 		return ENOENT;
 	}

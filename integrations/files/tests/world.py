@@ -115,6 +115,14 @@ class World:
         subprocess.run([MLSFS, "--make", folder, "public_any"], check=True)
         os.chmod(f"{folder}/files", 0o777)
 
+    def levels(self, name, *labels):
+        """Makes a multilevel folder, at public."""
+        folder = f"{self.back}/files/{name}"
+        os.mkdir(folder)
+        os.chmod(folder, 0o777)
+        os.setxattr(folder, "trusted.mls", b"public_any")
+        subprocess.run([MLSFS, "--levels", folder, *labels], check=True)
+
     def start(self):
         words = [MLSD, "--socket", self.socket, "--users", f"{self.folder}/users", "--release-on-close", "--", MLS,
                  "serve", "--sessions", "--names", "--recover", "--journal", f"{self.folder}/journal", self.started]
