@@ -74,6 +74,8 @@ static int serve_session(const char *folder, const char *mount, bool is_foregrou
 		return fail("mlsd is not there");
 	if (!session_claim())
 		return fail("this session has, or had, an mlsfs");
+	if (!labels_open())
+		return fail(RUN_FOLDER ": can't be used");
 	int device = mount_at(mount);
 	if (device < 0) {
 		fail(strerror(errno));

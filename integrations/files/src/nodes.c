@@ -100,6 +100,17 @@ void node_forget(struct node *node, uint64_t lookups)
 	}
 }
 
+/* Takes a reference to the node of a backing file's inode, where the kernel knows of it; else NULL. */
+struct node *node_known(uint64_t number)
+{
+	pthread_mutex_lock(&lock);
+	struct node *node = *place_of(number_shown(number));
+	if (node)
+		node->lookups++;
+	pthread_mutex_unlock(&lock);
+	return node;
+}
+
 /* What is shown of a file: no time of a read, which would tell of readers above, and no number that counts. */
 int node_show(struct node *node, struct stat *shown)
 {
@@ -118,7 +129,7 @@ static int referenced(int container, int *bucket, struct node *found[REFERENCES]
 	pthread_mutex_lock(&lock);
 	for (; *bucket < BUCKETS && count < REFERENCES / 2; ++*bucket)
 		for (struct node *node = buckets[*bucket]; node && count < REFERENCES; node = node->next)
-			if (S_ISREG(node->type) && label_of(node->fd) == container) {
+			if (S_ISREG(node->type) && label_now(node) == container) {
 				node->lookups++;
 				found[count++] = node;
 			}
