@@ -4,7 +4,7 @@
  *     auth    optional pam_mls.so               asks for the level, where nobody has given one
  *     session required pam_mls.so [PROGRAM]     takes a namespace of mounts, and runs PROGRAM in it, which mounts mlsfs
  *
- * The level is MLS_LEVEL of PAM's environment, which PROGRAM (/usr/libexec/mls-login) gets. It stands behind pam_loginuid,
+ * The level is MLS_LEVEL of PAM's environment, which PROGRAM (/etc/mlsfs/login) gets. It stands behind pam_loginuid,
  * which begins the audit session. The session ends with its last process: its namespace then ends, and mlsfs with it.
  */
 #define _GNU_SOURCE
@@ -20,7 +20,7 @@
 #include <syslog.h>
 #include <unistd.h>
 
-#define PROGRAM "/usr/libexec/mls-login"
+#define PROGRAM "/etc/mlsfs/login"
 #define LEVEL "MLS_LEVEL"
 #define VARIABLE_BYTES 256
 
