@@ -64,7 +64,9 @@ int entry_open(int folder, const char *name, struct stat *file)
 	if (fd < 0 && errno == ENOENT)
 		fd = open_labelled(folder, name);
 	*file = (struct stat){0};
-	if (fd >= 0 && fstat(fd, file) == 0 && S_ISDIR(file->st_mode) && levels_of(fd, labels)) {
+	/* (the kernel knows of no multilevel folder, but of what is behind one) */
+	if (fd >= 0 && fstat(fd, file) == 0 && S_ISDIR(file->st_mode) && !node_is_known(file->st_ino) &&
+	    levels_of(fd, labels)) {
 		fd = resolved(fd, labels, NULL);
 		if (fd >= 0)
 			fstat(fd, file);

@@ -99,6 +99,7 @@ extern struct node *node_of(fuse_ino_t number);
 extern int node_find(struct node *folder, const char *name, struct node **found);
 extern void node_forget(struct node *node, uint64_t lookups);
 extern struct node *node_known(uint64_t number);
+extern bool node_is_known(uint64_t number);
 extern int node_show(struct node *node, struct stat *shown);
 extern void nodes_each(int container, void (*deed)(struct node *));
 

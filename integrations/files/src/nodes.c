@@ -111,6 +111,13 @@ struct node *node_known(uint64_t number)
 	return node;
 }
 
+bool node_is_known(uint64_t number)
+{
+	struct node *node = node_known(number);
+	node_forget(node, 1);
+	return node;
+}
+
 /* What is shown of a file: no time of a read, which would tell of readers above, and no number that counts. */
 int node_show(struct node *node, struct stat *shown)
 {
