@@ -66,6 +66,7 @@ int label_of(int fd)
 /* Shares the count of changes with all other sessions' mlsfs. */
 bool labels_open(void)
 {
+	mkdir(RUN_FOLDER, 0700);
 	int fd = open(CHANGES, O_RDWR | O_CREAT | O_CLOEXEC, 0600);
 	bool is_open = fd >= 0 && ftruncate(fd, sizeof *changes) == 0;
 	void *shared = is_open ? mmap(NULL, sizeof *changes, PROT_READ | PROT_WRITE, MAP_SHARED, fd, 0) : MAP_FAILED;

@@ -79,8 +79,10 @@ static int make_level(int folder, const char *label)
 {
 	struct stat above;
 	int number = label_number(label);
-	if (number == CONTAINER_NONE || fstat(folder, &above) != 0 || mkdirat(folder, label, 0700) != 0)
-		return number == CONTAINER_NONE ? EINVAL : errno;
+	if (number == CONTAINER_NONE)
+		return EINVAL;
+	if (fstat(folder, &above) != 0 || mkdirat(folder, label, 0700) != 0)
+		return errno;
 	int fd = openat(folder, label, O_RDONLY | O_DIRECTORY | O_NOFOLLOW | O_CLOEXEC);
 	int error = fd < 0 ? errno : label_put(fd, number);
 	if (error == 0 && (fchown(fd, above.st_uid, above.st_gid) != 0 || fchmod(fd, above.st_mode & 07777) != 0))
@@ -90,13 +92,13 @@ static int make_level(int folder, const char *label)
 	return error;
 }
 
-/* Makes an empty folder a multilevel one. Returns 0 or an errno. */
+/* Makes a folder a multilevel one; a folder without a label gets the first. Returns 0 or an errno. */
 int levels_make(const char *path, char *const *labels, int count)
 {
 	char mark[MARK_BYTES] = "", proc[PATH_BYTES];
 	int folder = open(path, O_RDONLY | O_DIRECTORY | O_CLOEXEC), error = folder < 0 ? errno : 0;
 	if (error == 0 && label_of(folder) == CONTAINER_NONE)
-		error = ENODATA;
+		error = label_put(folder, label_number(labels[0]));
 	for (int k = 0; k < count && error == 0; k++) {
 		size_t used = strlen(mark);
 		error = make_level(folder, labels[k]);

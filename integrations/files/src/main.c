@@ -3,6 +3,7 @@
  * is run in, and serves it until the session ends.
  */
 #include "mlsfs.h"
+#include <fcntl.h>
 #include <stdlib.h>
 #include <sys/resource.h>
 #include <unistd.h>
@@ -10,9 +11,10 @@
 static const char usage[] = "usage: mlsfs [--foreground] [--socket PATH] FOLDER MOUNT\n"
 	"       mlsfs --make FOLDER CONTAINER\n"
 	"       mlsfs --levels FOLDER CONTAINER ..\n"
+	"       mlsfs --label FILE CONTAINER\n"
 	"       mlsfs [--socket PATH] --check FOLDER\n";
 
-enum { MOUNT_IT, MAKE_IT, DIVIDE_IT, CHECK_IT };
+enum { MOUNT_IT, MAKE_IT, DIVIDE_IT, LABEL_IT, CHECK_IT };
 
 static const char *socket_path = "/run/mlsd/socket";
 static struct fuse_session *served;
@@ -72,10 +74,10 @@ static int serve_session(const char *folder, const char *mount, bool is_foregrou
 		return fail("the folder is not one that mlsfs --make made");
 	if (!monitor_open(socket_path, name))
 		return fail("mlsd is not there");
-	if (!session_claim())
-		return fail("this session has, or had, an mlsfs");
 	if (!labels_open())
 		return fail(RUN_FOLDER ": can't be used");
+	if (!session_claim())
+		return fail("this session has, or had, an mlsfs");
 	int device = mount_at(mount);
 	if (device < 0) {
 		fail(strerror(errno));
@@ -95,10 +97,21 @@ static int check(const char *folder)
 	return folder_check(folder);
 }
 
+static int set_label(const char *path, const char *container)
+{
+	int number = label_number(container), fd = open(path, O_PATH | O_NOFOLLOW | O_CLOEXEC), error = errno;
+	if (number == CONTAINER_NONE)
+		return fail("no name of a container");
+	if (fd < 0 || !labels_open())
+		return fail(fd < 0 ? strerror(error) : RUN_FOLDER ": can't be used");
+	error = label_change(fd, number);
+	return error ? fail(strerror(error)) : 0;
+}
+
 static int divide(const char *folder, char *const *containers, int count)
 {
 	int error = levels_make(folder, containers, count);
-	return error ? fail(error == ENODATA ? "the folder has no label" : strerror(error)) : 0;
+	return error ? fail(strerror(error)) : 0;
 }
 
 int main(int count, char **words)
@@ -113,6 +126,8 @@ int main(int count, char **words)
 			what = MAKE_IT;
 		else if (strcmp(*words, "--levels") == 0)
 			what = DIVIDE_IT;
+		else if (strcmp(*words, "--label") == 0)
+			what = LABEL_IT;
 		else if (strcmp(*words, "--check") == 0)
 			what = CHECK_IT;
 		else if (strcmp(*words, "--socket") == 0 && count > 1)
@@ -123,7 +138,7 @@ int main(int count, char **words)
 		fputs(usage, stderr);
 		return 2;
 	}
-	return what == MAKE_IT ? folder_make(words[0], words[1])
+	return what == MAKE_IT ? folder_make(words[0], words[1]) : what == LABEL_IT ? set_label(words[0], words[1])
 		: what == DIVIDE_IT ? divide(words[0], words + 1, count - 1) : what == CHECK_IT ? check(words[0])
 		: serve_session(words[0], words[1], is_foreground);
 }

@@ -84,7 +84,6 @@ bool session_has(pid_t pid)
 bool session_claim(void)
 {
 	snprintf(claim, sizeof claim, RUN_FOLDER "/%u", session);
-	mkdir(RUN_FOLDER, 0700);
 	int fd = open(claim, O_CREAT | O_EXCL | O_WRONLY | O_CLOEXEC, 0600);
 	if (fd >= 0)
 		close(fd);

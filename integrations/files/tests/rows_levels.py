@@ -45,14 +45,30 @@ def test_a_multilevel_folder_stays(world):
           (high, "stat", "low", "ENOENT"), (high, "listed", "low@public_any", [])])
 
 
+def test_a_label_that_an_administrator_sets(world):
+    """By mlsfs --label a file has another label for all sessions at once."""
+    _, low, _ = world.three()
+    same([(low, "put", "f", b"low", "put"), (low, "put", "g", b"low", "put")])
+    fd = low.open("f", os.O_RDONLY)
+    same([(low, "pread", fd, 3, 0, b"low")])
+    subprocess.run([MLSFS, "--label", f"{world.back}/files/f", "secret_any"], check=True)
+    same([(low, "pread", fd, 3, 0, "EACCES"), (low, "listed", ["g"])])
+    subprocess.run([MLSFS, "--label", f"{world.back}/files/f", "public_any"], check=True)
+    same([(low, "pread", fd, 3, 0, b"low"), (low, "listed", ["f", "g"])])
+    done = subprocess.run([MLSFS, "--label", f"{world.back}/files/none", "public_any"], capture_output=True)
+    assert (done.returncode, done.stderr) == (1, b"mlsfs: No such file or directory\n"), done
+
+
 def test_the_making_and_the_check_of_a_multilevel_folder(world):
-    """An empty folder with a label becomes one; the check tells of a folder of it that is gone."""
+    """An empty folder becomes one, with the first label; the check tells of a folder of it that is gone."""
     world.levels("tmp", "public_any", "secret_any")
     files = f"{world.back}/files"
     assert checked(world) == (0, []), checked(world)
     os.rmdir(f"{files}/tmp/secret_any")
     assert checked(world) == (1, ["files/tmp: has no folder with the label secret_any"]), checked(world)
     os.mkdir(f"{files}/bare")
-    for words, wanted in (([f"{files}/bare", "public_any"], 1), ([f"{files}/tmp", "public_any"], 1), ([files], 2)):
+    for words, wanted in (([f"{files}/bare", "not/a/label"], 1), ([f"{files}/tmp", "public_any"], 1), ([files], 2),
+                          ([f"{files}/bare", "secret_any"], 0)):
         done = subprocess.run([MLSFS, "--levels", *words], capture_output=True)
-        assert done.returncode == wanted and done.stderr, (words, done)
+        assert (done.returncode, bool(done.stderr)) == (wanted, wanted > 0), (words, done)
+    assert os.getxattr(f"{files}/bare", "trusted.mls") == b"secret_any"
