@@ -100,7 +100,7 @@ int label_put(int fd, int container)
 	return setxattr(path_of(fd, path), LABEL, text, strlen(text), 0) == 0 ? 0 : errno;
 }
 
-/* Changes a label, and has all sessions read theirs anew. Where this ends in the middle they do until the next change. */
+/* Changes a label, and has all sessions read labels anew. Where this is killed they do so until the next change. */
 int label_change(int fd, int container)
 {
 	int one = open(CHANGES, O_RDWR | O_CLOEXEC);

@@ -46,7 +46,8 @@ static int open_labelled(int folder, const char *name)
 	char labels[MARK_BYTES];
 	const char *at = strrchr(name, '@');
 	char *multilevel = at ? strndup(name, (size_t)(at - name)) : NULL;
-	int fd = multilevel ? openat(folder, multilevel, FOLDER_ONLY) : -1;
+	bool is_name = multilevel && strcmp(multilevel, ".") != 0 && strcmp(multilevel, "..") != 0;
+	int fd = is_name ? openat(folder, multilevel, FOLDER_ONLY) : -1;
 	free(multilevel);
 	if (fd >= 0 && levels_of(fd, labels))
 		return resolved(fd, labels, at + 1);

@@ -18,7 +18,8 @@ def test_multilevel_folders(world):
           (high, "get", "tmp@public_any/a", b"low"), (high, "put", "tmp@public_any/a", b"x", "EACCES"),
           (low, "get", "tmp@public_any/a", b"low"), (sys, "get", "tmp@secret_any/a", b"attack"),
           (low, "get", "tmp@secret_any/a", "ENOENT"), (low, "stat", "tmp@secret_any", "ENOENT"),
-          (low, "stat", "tmp@none", "ENOENT"), (low, "listed", "tmp@public_any/..", ["tmp"]),
+          (low, "stat", "tmp@none", "ENOENT"), (low, "stat", "tmp/..@public_any", "ENOENT"),
+          (low, "listed", "tmp@public_any/..", ["tmp"]),
           (high, "rename", "tmp/a", "tmp@public_any/c", "EACCES"), (low, "stat", "tmp/public_any", "ENOENT")])
 
 
@@ -26,7 +27,8 @@ def test_a_level_that_rises_in_a_multilevel_folder(world):
     """The name then has the other folder; what was open or the working folder stays, and is decided by its label."""
     world.levels("tmp", "public_any", "secret_any")
     ann, high = world.session("games"), world.session("games", "secret")
-    same([(high, "put", "tmp/s", b"attack", "put"), (ann, "put", "tmp/a", b"low", "put"), (ann, "listed", "tmp", ["a"])])
+    same([(high, "put", "tmp/s", b"attack", "put"), (ann, "put", "tmp/a", b"low", "put"),
+          (ann, "listed", "tmp", ["a"])])
     here = ann.open("tmp", os.O_RDONLY)
     same([(ann, "put", ".mls", b"secret\n", "put"), (ann, "listed", "tmp", ["s"]), (ann, "get", "tmp/s", b"attack"),
           (ann, "listed", f"/proc/self/fd/{here}", ["a"]), (ann, "put", f"/proc/self/fd/{here}/b", b"x", "EACCES"),

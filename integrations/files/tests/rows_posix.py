@@ -1,7 +1,7 @@
 """Two test suites of POSIX calls on files, of which Debian has the source: posixtestsuite, and fuse3's own.
 
-MLS_POSIX names a folder with both, from `apt-get source posixtestsuite fuse3`. Each test runs below mlsfs and in a plain
-folder. What passes there and fails below mlsfs stands here, with the reason.
+MLS_POSIX names a folder with both, from `apt-get source posixtestsuite fuse3`. Each test runs below mlsfs and in a
+plain folder. What passes there and fails below mlsfs stands here, with the reason.
 """
 import glob
 import os
