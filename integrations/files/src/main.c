@@ -4,6 +4,7 @@
  */
 #include "mlsfs.h"
 #include <fcntl.h>
+#include <signal.h>
 #include <stdlib.h>
 #include <sys/resource.h>
 #include <unistd.h>
@@ -58,6 +59,9 @@ static int serve(int device, bool is_foreground)
 	served = fuse_session_new(&args, &ops, sizeof ops, NULL);
 	if (!served || fuse_session_custom_io(served, &mount_io, device) != 0 || fuse_daemonize(is_foreground) != 0)
 		return fail("can't serve");
+	/* (a service, or a login, that ends has all its processes told so: they may still write) */
+	signal(SIGTERM, SIG_IGN);
+	signal(SIGHUP, SIG_IGN);
 	monitor_start(forget_data);
 	return fuse_session_loop_mt(served, config) != 0;
 }
@@ -79,7 +83,8 @@ static int serve_session(const char *folder, const char *mount, bool is_foregrou
 	if (!session_claim())
 		return fail("this session has, or had, an mlsfs");
 	int device = mount_at(mount);
-	if (device < 0) {
+	/* (again: the paths of what is open are those of the namespace that it was opened in) */
+	if (device < 0 || !nodes_open(folder)) {
 		fail(strerror(errno));
 		session_end();
 		return 1;

@@ -8,7 +8,7 @@
 #define BUCKETS 4096
 #define REFERENCES 64           /* that are dealt with at a time */
 
-static struct node root, *buckets[BUCKETS];
+static struct node root = {.fd = -1}, *buckets[BUCKETS];
 static int staging = -1;
 static dev_t device;
 static pthread_mutex_t lock = PTHREAD_MUTEX_INITIALIZER;
@@ -20,13 +20,17 @@ bool nodes_open(const char *folder)
 {
 	struct stat found;
 	int top = open(folder, O_PATH | O_DIRECTORY | O_CLOEXEC);
+	close(root.fd);
+	close(staging);
 	root = (struct node){.number = FUSE_ROOT_ID, .lookups = 1, .type = S_IFDIR};
 	root.fd = openat(top, "files", O_PATH | O_DIRECTORY | O_NOFOLLOW | O_CLOEXEC);
 	staging = openat(top, "staging", O_PATH | O_DIRECTORY | O_NOFOLLOW | O_CLOEXEC);
-	if (top < 0 || root.fd < 0 || staging < 0 || fstat(root.fd, &found) != 0 || !numbers_open(top))
-		return false;
-	device = found.st_dev;
-	return true;
+	bool is_made = root.fd >= 0 && staging >= 0 && fstat(root.fd, &found) == 0 && numbers_open(top);
+	if (top >= 0)
+		close(top);
+	if (is_made)
+		device = found.st_dev;
+	return is_made;
 }
 
 static struct node **place_of(fuse_ino_t number)
