@@ -58,7 +58,7 @@ def test_programs(world):
 def test_pythons_own(world):
     """The tests of Python's library that are of files, but for those of access times, pipes and sockets."""
     if subprocess.run(["/usr/bin/python3", "-c", "import test.test_posix"], capture_output=True).returncode:
-        raise Skipped("libpython3-testsuite is not installed")
+        raise Skipped("Python's own tests (libpython3.11-testsuite) are not installed")
     ann = world.session("games")
     modules = "test_posix test_pathlib test_tempfile test_mmap test_fileio test_fcntl test_tarfile test_zipfile " \
               "test_glob test_dbm_dumb test_stat test_shutil test_largefile test_mailbox"
