@@ -48,6 +48,12 @@ pub record AddsEntry (names : Names) (marks : Option (List Row)) (v : State) (e 
   pub explains : Explains names v (Submit e.request) told
   pub text : new ≡ old ++ (stamped_line names marks e ++ under_text told)
 
+-- The lines of a text are those of a request's explanation behind its reply. (own)
+pub record TellsWhy (names : Names) (v : State) (r : Request) (text : List ℕ) : Type 0 where
+  pub told : List ℕ
+  pub explains : ExplainsRequest names v r told
+  pub lines : told_lines text ≡ behind_first (told_lines told)
+
 -- To a text this is added where an entry is asked for, and nothing where it isn't. (own)
 abbrev pub AddsWhere : Bool → Names → Option (List Row) → State → Entry → List ℕ → List ℕ → Type 0
 AddsWhere true names marks v e old new = AddsEntry names marks v e old new

@@ -17,7 +17,7 @@ fn add_all(alloc: Global, page: &mut Page, bytes: &Bytes) -> Result<(), Question
             let (verified, marks) = (bytes.verified.as_ref(), bytes.marks.as_ref());
             let done = add_sections(alloc, page, &seen, verified, marks);
             drop(seen);
-            done
+            Ok(done?)
         }
         Err(fault) => Err(fault),
     }

@@ -32,8 +32,11 @@ fn is_any_asked(choice: &Choice, spans: &[Span]) -> bool
     false
 }
 
-/// The spans over a start and its entries.
-fn spans_of(alloc: Global, start: &Start, entries: &[Entry]) -> Result<Vec<Span>, AllocError>
+/// The spans over a start and its entries, in the order in which they begin.
+///
+/// # Errors
+/// `AllocError` where an allocation failed.
+pub fn spans_of(alloc: Global, start: &Start, entries: &[Entry]) -> Result<Vec<Span>, AllocError>
     ensures { IfOk result (λ spans. spans.items ≡ spans_over start.now entries.now) }
 {
     let mut state = start.opening(alloc)?;

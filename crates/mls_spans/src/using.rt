@@ -47,8 +47,12 @@ pub(crate) fn entries_between(entries: &[Entry], states: States) -> &[Entry]
     entries_from(entries_up_to(entries, states.last), states.first)
 }
 
-/// How the permissions over entries were used, from a state.
-fn usages_over(alloc: Global, first: &State, entries: &[Entry]) -> Result<Vec<Usage>, AllocError>
+/// How the permissions over entries were used, from a state: each permission of one of the states, by subject, object and
+/// mode.
+///
+/// # Errors
+/// `AllocError` where an allocation failed.
+pub fn usages_over(alloc: Global, first: &State, entries: &[Entry]) -> Result<Vec<Usage>, AllocError>
     ensures { IfOk result (λ usages. usages.items ≡ usages_in first.now entries.now) }
 {
     let tally = tally_over(alloc, first, entries)?;
