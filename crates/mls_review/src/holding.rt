@@ -92,7 +92,7 @@ fn push_objects(found: &mut Vec<Holder>, state: &State, label: &SecLabel) -> Res
 }
 
 /// Who and what has the label: subjects, by number, and then objects, by number.
-pub(crate) fn holders(
+pub fn holders(
     alloc: Global,
     state: &State,
     label: &SecLabel,
