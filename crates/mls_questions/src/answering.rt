@@ -3,14 +3,16 @@ use crate::comparison::compare;
 use crate::describing::about;
 use crate::listing::journal;
 use crate::named::Named;
-use crate::one_state::asked_of;
+use crate::one_state::{OfState, listed_as, why};
 use crate::report::report;
 use crate::seeing::answer_state;
 use crate::source_names::source_of;
 use crate::sources::{Bytes, read_source};
 use crate::spans::{held, usage, who_ever};
 use crate::starts::{lattice, lint};
-use mls_command_line::{Question, Source};
+use mls_command_line::{
+    EverWords, HeldWords, JournalWords, Question, ReportWords, Source, UsageWords,
+};
 use mls_explain_text::{Sort, fault_line, thing_line, word_line};
 use mls_files::{command_refused, fault_file};
 use mls_lines::LineFault;
@@ -116,49 +118,66 @@ pub(crate) fn ended(
     }
 }
 
-/// Answers a question over the bytes of its files.
-fn answer_over(
+/// Answers a question about one state over its files.
+fn answer_of_state<'a>(
     progress: &mut Progress<'_>,
-    question: &Question<'_>,
-    source: &Source<'_>,
-    bytes: &Bytes,
+    question: &Question<'a>,
+    asked: OfState<'a>,
 ) -> ExitCode {
-    match question {
-        Question::WhoEver(words) => who_ever(progress, words, bytes),
-        Question::About {
-            name,
-            is_object,
-            ..
-        } => about(progress, source, bytes, name, *is_object),
-        Question::Lint { start } => lint(progress, start, bytes),
-        Question::Lattice { start } => lattice(progress, start, bytes),
-        Question::Journal(words) => journal(progress, words, bytes),
-        Question::Held(words) => held(progress, words, bytes),
-        Question::Usage(words) => usage(progress, words, bytes),
-        Question::Compare {
-            first,
-            second,
-            journal,
-        } => compare(progress, first, bytes, second, *journal),
-        Question::Report(words) => report(progress, words, bytes),
-        // (a question about one state is answered over what is seen, and never comes here)
-        Question::Ask { .. }
-        | Question::Explain { .. }
-        | Question::Who { .. }
-        | Question::Powers { .. }
-        | Question::State { .. } => ExitCode::SUCCESS,
+    answer_state(progress, &source_of(question), asked)
+}
+
+/// A question that is answered once its files are read whole.
+#[derive(Clone, Copy)]
+enum OfFiles<'x, 'a> {
+    WhoEver(&'x EverWords<'a>),
+    About {
+        name: &'a str,
+        is_object: bool,
+    },
+    Lint,
+    Lattice,
+    Journal(&'x JournalWords<'a>),
+    Held(&'x HeldWords<'a>),
+    Usage(&'x UsageWords<'a>),
+    Compare {
+        second: &'a str,
+        journal: Option<&'a str>,
+    },
+    Report(&'x ReportWords<'a>),
+}
+
+/// Answers a question over the bytes of its files.
+fn answer_over<'a>(
+    progress: &mut Progress<'_>,
+    source: &Source<'a>,
+    asked: OfFiles<'_, 'a>,
+    bytes: Bytes,
+) -> ExitCode {
+    match asked {
+        OfFiles::WhoEver(words) => who_ever(progress, words, bytes),
+        OfFiles::About { name, is_object } => about(progress, source, bytes, name, is_object),
+        OfFiles::Lint => lint(progress, source.start, bytes),
+        OfFiles::Lattice => lattice(progress, source.start, bytes),
+        OfFiles::Journal(words) => journal(progress, words, bytes),
+        OfFiles::Held(words) => held(progress, words, bytes),
+        OfFiles::Usage(words) => usage(progress, words, bytes),
+        OfFiles::Compare { second, journal } => {
+            compare(progress, source.start, bytes, second, journal)
+        }
+        OfFiles::Report(words) => report(progress, words, bytes),
     }
 }
 
 /// Answers a question, of a journal over all that it holds.
-fn answer_whole(progress: &mut Progress<'_>, question: &Question<'_>) -> ExitCode {
+fn answer_whole<'a>(
+    progress: &mut Progress<'_>,
+    question: &Question<'a>,
+    asked: OfFiles<'_, 'a>,
+) -> ExitCode {
     let source = source_of(question);
     match read_source(progress, &source) {
-        Ok(bytes) => {
-            let status = answer_over(progress, question, &source, &bytes);
-            drop(bytes);
-            status
-        }
+        Ok(bytes) => answer_over(progress, &source, asked, bytes),
         Err(status) => status,
     }
 }
@@ -166,8 +185,50 @@ fn answer_whole(progress: &mut Progress<'_>, question: &Question<'_>) -> ExitCod
 /// Answers a question about start files or journals on standard output. The status is 0 where the answer is a positive
 /// one, and 4 where it is a negative one.
 pub fn answer(progress: &mut Progress<'_>, question: &Question<'_>) -> ExitCode {
-    match asked_of(question) {
-        Some(asked) => answer_state(progress, &source_of(question), asked),
-        None => answer_whole(progress, question),
+    match question {
+        Question::Ask { line, .. } => answer_of_state(progress, question, OfState::Line(*line)),
+        Question::Explain { line, .. } => answer_of_state(progress, question, why(*line)),
+        Question::Who { object, mode, .. } => {
+            let (object, mode) = (*object, *mode);
+            answer_of_state(progress, question, OfState::Who { object, mode })
+        }
+        Question::Powers {
+            subject,
+            downgrades,
+            ..
+        } => {
+            let (subject, downgrades) = (*subject, *downgrades);
+            let asked = OfState::Powers {
+                subject,
+                downgrades,
+            };
+            answer_of_state(progress, question, asked)
+        }
+        Question::State { is_start, map, .. } => {
+            answer_of_state(progress, question, listed_as(*is_start, *map))
+        }
+        Question::WhoEver(words) => answer_whole(progress, question, OfFiles::WhoEver(words)),
+        Question::About {
+            name,
+            is_object,
+            ..
+        } => {
+            let (name, is_object) = (*name, *is_object);
+            answer_whole(progress, question, OfFiles::About { name, is_object })
+        }
+        Question::Lint { .. } => answer_whole(progress, question, OfFiles::Lint),
+        Question::Lattice { .. } => answer_whole(progress, question, OfFiles::Lattice),
+        Question::Journal(words) => answer_whole(progress, question, OfFiles::Journal(words)),
+        Question::Held(words) => answer_whole(progress, question, OfFiles::Held(words)),
+        Question::Usage(words) => answer_whole(progress, question, OfFiles::Usage(words)),
+        Question::Compare {
+            second,
+            journal,
+            ..
+        } => {
+            let (second, journal) = (*second, *journal);
+            answer_whole(progress, question, OfFiles::Compare { second, journal })
+        }
+        Question::Report(words) => answer_whole(progress, question, OfFiles::Report(words)),
     }
 }

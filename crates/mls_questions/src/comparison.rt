@@ -40,7 +40,7 @@ fn ended(
 pub(crate) fn compare<'x>(
     progress: &mut Progress<'_>,
     first: &str,
-    bytes: &Bytes,
+    bytes: Bytes,
     second: &'x str,
     journal: Option<&'x str>,
 ) -> ExitCode {
@@ -60,8 +60,12 @@ pub(crate) fn compare<'x>(
             let alloc = progress.rt().alloc();
             let done = compared(alloc, form, words, &bytes.start, &read.start, journal);
             drop(read);
+            drop(bytes);
             ended(progress, first, &others, done)
         }
-        Err(status) => status,
+        Err(status) => {
+            drop(bytes);
+            status
+        }
     }
 }

@@ -96,14 +96,18 @@ fn lint_bytes(progress: &mut Progress<'_>, path: &str, bytes: &[u8]) -> ExitCode
 }
 
 /// Prints what is suspicious in a start and its file, or where the start file's fault applies.
-pub(crate) fn lint(progress: &mut Progress<'_>, path: &str, bytes: &Bytes) -> ExitCode {
+pub(crate) fn lint(progress: &mut Progress<'_>, path: &str, bytes: Bytes) -> ExitCode {
     progress.end();
-    lint_bytes(progress, path, &bytes.start)
+    let status = lint_bytes(progress, path, &bytes.start);
+    drop(bytes);
+    status
 }
 
 /// Prints the order of the labels of a start.
-pub(crate) fn lattice(progress: &mut Progress<'_>, path: &str, bytes: &Bytes) -> ExitCode {
-    match judge_start(progress, path, &bytes.start) {
+pub(crate) fn lattice(progress: &mut Progress<'_>, path: &str, bytes: Bytes) -> ExitCode {
+    let judged = judge_start(progress, path, &bytes.start);
+    drop(bytes);
+    match judged {
         Ok(loaded) => {
             let done = asked(drawn(progress.rt().alloc(), loaded.names(), loaded.start()));
             drop(loaded);

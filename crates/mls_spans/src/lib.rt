@@ -39,4 +39,4 @@ pub use span::{Ending, Span};
 pub use states::States;
 pub use usage::Usage;
 pub use uses::Uses;
-pub use using::{list_usage, list_usages, list_usages_of};
+pub use using::{list_usage, list_usages};
