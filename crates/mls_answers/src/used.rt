@@ -26,14 +26,7 @@ fn tell_states(
         IsUsage form replay.now.names (rows_lent marks.entry) (usages_seen replay.now states) listing) }
     ensures fault { IfErr result (λ fault. fault ≡ Files Memory) }
 {
-    Ok(list_usage(
-        alloc,
-        form,
-        replay.names(),
-        replay,
-        marks,
-        states,
-    )?)
+    Ok(list_usage(alloc, form, replay.names(), replay, marks, states)?)
 }
 
 /// How the permissions were used of the states from the one on that a history looks at, up to another, where one is
@@ -53,11 +46,5 @@ pub fn usage(
     ensures fault { IfErr result (λ fault. fault ≡ Files Memory) }
 {
     let first = history.number();
-    tell_states(
-        alloc,
-        form,
-        history.replay(),
-        marks,
-        States { first, last },
-    )
+    tell_states(alloc, form, history.replay(), marks, States { first, last })
 }

@@ -100,7 +100,13 @@ fn journal_explained(
     let rt = progress.rt();
     let history = &past.history;
     let mut output = rt.stdout();
-    match write_explained(rt.alloc(), &mut output, history, past.marks.as_ref(), filter) {
+    match write_explained(
+        rt.alloc(),
+        &mut output,
+        history,
+        past.marks.as_ref(),
+        filter,
+    ) {
         Ok(is_any) if output.flush().is_ok() => status_of(is_any),
         Ok(_) | Err(WriteFault::Write) => refused(rt, NOT_WRITTEN, 1),
         Err(WriteFault::List(fault)) => list_refused(rt, words, history.start_file(), fault),

@@ -35,7 +35,12 @@ pub(crate) fn replayed(
         verified,
         at: _,
     } = bytes;
-    let read = History::read(alloc, start, journal.as_deref().unwrap_or(b"".as_slice()), at);
+    let read = History::read(
+        alloc,
+        start,
+        journal.as_deref().unwrap_or(b"".as_slice()),
+        at,
+    );
     drop(journal);
     match read {
         Ok(history) => Ok(Past {

@@ -12,11 +12,7 @@ use std::alloc::Global;
 use std::process::ExitCode;
 
 /// The page about a journal that was replayed.
-fn page_of(
-    alloc: Global,
-    words: &ReportWords<'_>,
-    past: &Past,
-) -> Result<Vec<u8>, QuestionFault> {
+fn page_of(alloc: Global, words: &ReportWords<'_>, past: &Past) -> Result<Vec<u8>, QuestionFault> {
     let mut page = Page::new(alloc, words.start, words.journal)?;
     let (verified, marks) = (past.verified.as_ref(), past.marks.as_ref());
     match add_sections(alloc, &mut page, past.history.replay(), verified, marks) {

@@ -5,9 +5,7 @@ use crate::past::{Past, past_refused, replayed};
 use crate::renaming::{held_after, usage_after};
 use crate::row_answers::{form_of, rows_ended};
 use crate::sources::Bytes;
-use mls_answers::{
-    held as answer_held, usage as answer_usage, who_ever as answer_who_ever,
-};
+use mls_answers::{held as answer_held, usage as answer_usage, who_ever as answer_who_ever};
 use mls_command_line::{EverWords, HeldWords, Times, UsageWords};
 use mls_marks::{Marks, Time};
 use mls_spans::{Filter, States, Words};
@@ -117,11 +115,7 @@ fn usage_over(
 }
 
 /// Prints how the permissions over a journal were used.
-pub(crate) fn usage(
-    progress: &mut Progress<'_>,
-    words: &UsageWords<'_>,
-    bytes: Bytes,
-) -> ExitCode {
+pub(crate) fn usage(progress: &mut Progress<'_>, words: &UsageWords<'_>, bytes: Bytes) -> ExitCode {
     let states = states_of(words.states, &words.times, &bytes);
     if let Some(map) = words.after {
         return usage_after(progress, words, map, bytes, states);
