@@ -65,6 +65,17 @@ fn read_names(
     names
 }
 
+/// The names of a start that was read by the map of this file.
+fn names_of(
+    progress: &mut Progress<'_>,
+    name: &str,
+    bytes: &Bytes,
+    path: &str,
+) -> Result<Names, ExitCode> {
+    let bytes = bytes.start.as_slice();
+    read_names(progress, StartFile { name, bytes }, path)
+}
+
 /// A word that names, by number, the object that another word names by these names; where that names none, one that
 /// names none either.
 fn number_word(alloc: Global, names: &Names, word: &str) -> Result<String, AllocError> {
@@ -209,55 +220,43 @@ fn journal_past<'a>(
     }
 }
 
-/// The names of objects by a map, and the journal, replayed.
-///
-/// # Errors
-/// The status to end with: it is told why the start file or the map is refused, or why the journal isn't replayed.
-fn names_and_past(
+/// Prints the entries of a journal that are asked for, by these names of objects.
+fn journal_by<'a>(
     progress: &mut Progress<'_>,
-    about: Named<'_>,
-    map: &str,
+    words: &JournalWords<'a>,
+    names: &Names,
     bytes: Bytes,
-    at: Option<u64>,
-) -> Result<(Names, Past), ExitCode> {
-    let file = StartFile {
-        name: about.start,
-        bytes: &bytes.start,
-    };
-    let names = match read_names(progress, file, map) {
-        Ok(names) => names,
-        Err(status) => {
-            drop(bytes);
-            return Err(status);
-        }
-    };
+    filter: &Words<'a>,
+) -> ExitCode {
     progress.begin("listing");
-    match replayed(progress.rt().alloc(), bytes, at) {
-        Ok(past) => Ok((names, past)),
-        Err(fault) => {
-            drop(names);
-            Err(past_refused(progress, about, fault))
+    match replayed(progress.rt().alloc(), bytes, None) {
+        Ok(past) => {
+            let status = journal_past(progress, words, names, &past, filter);
+            drop(past);
+            status
         }
+        Err(fault) => past_refused(progress, Named::files(words.start, words.journal), fault),
     }
 }
 
 /// Prints the entries of a journal that are asked for, with objects by the names of a map.
-pub(crate) fn journal_after(
+pub(crate) fn journal_after<'a>(
     progress: &mut Progress<'_>,
-    words: &JournalWords<'_>,
+    words: &JournalWords<'a>,
     map: &str,
     bytes: Bytes,
-    filter: &Words<'_>,
+    filter: &Words<'a>,
 ) -> ExitCode {
-    let about = Named::files(words.start, words.journal);
-    match names_and_past(progress, about, map, bytes, None) {
-        Ok((names, past)) => {
-            let status = journal_past(progress, words, &names, &past, filter);
+    match names_of(progress, words.start, &bytes, map) {
+        Ok(names) => {
+            let status = journal_by(progress, words, &names, bytes, filter);
             drop(names);
-            drop(past);
             status
         }
-        Err(status) => status,
+        Err(status) => {
+            drop(bytes);
+            status
+        }
     }
 }
 
@@ -290,25 +289,47 @@ fn held_by(
     )
 }
 
-/// Prints who held what over a journal, with objects by the names of a map.
-pub(crate) fn held_after(
+/// Prints who held what over a journal, by these names of objects.
+fn held_named<'a>(
     progress: &mut Progress<'_>,
-    words: &HeldWords<'_>,
-    map: &str,
+    about: Named<'a>,
+    names: &Names,
     bytes: Bytes,
-    filter: &SpanWords<'_>,
+    filter: &SpanWords<'a>,
 ) -> ExitCode {
-    let about = named(words.start, words.journal, filter.subject, filter.object);
-    match names_and_past(progress, about, map, bytes, None) {
-        Ok((names, past)) => {
-            let form = form_of(progress);
-            let done = held_by(progress.rt().alloc(), form, &names, &past, filter);
-            drop(names);
+    progress.begin("listing");
+    let form = form_of(progress);
+    let alloc = progress.rt().alloc();
+    match replayed(alloc, bytes, None) {
+        Ok(past) => {
+            let done = held_by(alloc, form, names, &past, filter);
             let status = ended_by(progress, about, past.history.start_file(), done);
             drop(past);
             status
         }
-        Err(status) => status,
+        Err(fault) => past_refused(progress, about, fault),
+    }
+}
+
+/// Prints who held what over a journal, with objects by the names of a map.
+pub(crate) fn held_after<'a>(
+    progress: &mut Progress<'_>,
+    words: &HeldWords<'a>,
+    map: &str,
+    bytes: Bytes,
+    filter: &SpanWords<'a>,
+) -> ExitCode {
+    let about = named(words.start, words.journal, filter.subject, filter.object);
+    match names_of(progress, words.start, &bytes, map) {
+        Ok(names) => {
+            let status = held_named(progress, about, &names, bytes, filter);
+            drop(names);
+            status
+        }
+        Err(status) => {
+            drop(bytes);
+            status
+        }
     }
 }
 
@@ -324,6 +345,28 @@ fn usage_by(
     Ok(list_usage(alloc, form, names, replay, marks, states)?)
 }
 
+/// Prints how the permissions over some states of a journal were used, by these names of objects.
+fn usage_named(
+    progress: &mut Progress<'_>,
+    about: Named<'_>,
+    names: &Names,
+    bytes: Bytes,
+    states: States,
+) -> ExitCode {
+    progress.begin("listing");
+    let form = form_of(progress);
+    let alloc = progress.rt().alloc();
+    match replayed(alloc, bytes, Some(states.first)) {
+        Ok(past) => {
+            let done = usage_by(alloc, form, names, &past, states);
+            let status = ended_by(progress, about, past.history.start_file(), done);
+            drop(past);
+            status
+        }
+        Err(fault) => past_refused(progress, about, fault),
+    }
+}
+
 /// Prints how the permissions over some states of a journal were used, with objects by the names of a map.
 pub(crate) fn usage_after(
     progress: &mut Progress<'_>,
@@ -333,15 +376,15 @@ pub(crate) fn usage_after(
     states: States,
 ) -> ExitCode {
     let about = Named::files(words.start, words.journal);
-    match names_and_past(progress, about, map, bytes, Some(states.first)) {
-        Ok((names, past)) => {
-            let form = form_of(progress);
-            let done = usage_by(progress.rt().alloc(), form, &names, &past, states);
+    match names_of(progress, words.start, &bytes, map) {
+        Ok(names) => {
+            let status = usage_named(progress, about, &names, bytes, states);
             drop(names);
-            let status = ended_by(progress, about, past.history.start_file(), done);
-            drop(past);
             status
         }
-        Err(status) => status,
+        Err(status) => {
+            drop(bytes);
+            status
+        }
     }
 }
