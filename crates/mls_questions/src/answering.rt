@@ -7,12 +7,10 @@ use crate::one_state::{OfState, listed_as, why};
 use crate::report::report;
 use crate::seeing::answer_state;
 use crate::source_names::source_of;
-use crate::sources::{Bytes, read_source};
+use crate::sources::read_source;
 use crate::spans::{held, usage, who_ever};
 use crate::starts::{lattice, lint};
-use mls_command_line::{
-    EverWords, HeldWords, JournalWords, Question, ReportWords, Source, UsageWords,
-};
+use mls_command_line::{Question, Source};
 use mls_explain_text::{Sort, fault_line, thing_line, word_line};
 use mls_files::{command_refused, fault_file};
 use mls_lines::LineFault;
@@ -118,66 +116,19 @@ pub(crate) fn ended(
     }
 }
 
-/// Answers a question about one state over its files.
-fn answer_of_state<'a>(
+/// Prints all that there is to tell of a subject or of an object, over its files.
+fn about_files(
     progress: &mut Progress<'_>,
-    question: &Question<'a>,
-    asked: OfState<'a>,
+    source: &Source<'_>,
+    name: &str,
+    is_object: bool,
 ) -> ExitCode {
-    answer_state(progress, &source_of(question), asked)
-}
-
-/// A question that is answered once its files are read whole.
-#[derive(Clone, Copy)]
-enum OfFiles<'x, 'a> {
-    WhoEver(&'x EverWords<'a>),
-    About {
-        name: &'a str,
-        is_object: bool,
-    },
-    Lint,
-    Lattice,
-    Journal(&'x JournalWords<'a>),
-    Held(&'x HeldWords<'a>),
-    Usage(&'x UsageWords<'a>),
-    Compare {
-        second: &'a str,
-        journal: Option<&'a str>,
-    },
-    Report(&'x ReportWords<'a>),
-}
-
-/// Answers a question over the bytes of its files.
-fn answer_over<'a>(
-    progress: &mut Progress<'_>,
-    source: &Source<'a>,
-    asked: OfFiles<'_, 'a>,
-    bytes: Bytes,
-) -> ExitCode {
-    match asked {
-        OfFiles::WhoEver(words) => who_ever(progress, words, bytes),
-        OfFiles::About { name, is_object } => about(progress, source, bytes, name, is_object),
-        OfFiles::Lint => lint(progress, source.start, bytes),
-        OfFiles::Lattice => lattice(progress, source.start, bytes),
-        OfFiles::Journal(words) => journal(progress, words, bytes),
-        OfFiles::Held(words) => held(progress, words, bytes),
-        OfFiles::Usage(words) => usage(progress, words, bytes),
-        OfFiles::Compare { second, journal } => {
-            compare(progress, source.start, bytes, second, journal)
+    match read_source(progress, source) {
+        Ok(bytes) => {
+            let status = about(progress, source, &bytes, name, is_object);
+            drop(bytes);
+            status
         }
-        OfFiles::Report(words) => report(progress, words, bytes),
-    }
-}
-
-/// Answers a question, of a journal over all that it holds.
-fn answer_whole<'a>(
-    progress: &mut Progress<'_>,
-    question: &Question<'a>,
-    asked: OfFiles<'_, 'a>,
-) -> ExitCode {
-    let source = source_of(question);
-    match read_source(progress, &source) {
-        Ok(bytes) => answer_over(progress, &source, asked, bytes),
         Err(status) => status,
     }
 }
@@ -185,12 +136,13 @@ fn answer_whole<'a>(
 /// Answers a question about start files or journals on standard output. The status is 0 where the answer is a positive
 /// one, and 4 where it is a negative one.
 pub fn answer(progress: &mut Progress<'_>, question: &Question<'_>) -> ExitCode {
+    let source = source_of(question);
     match question {
-        Question::Ask { line, .. } => answer_of_state(progress, question, OfState::Line(*line)),
-        Question::Explain { line, .. } => answer_of_state(progress, question, why(*line)),
+        Question::Ask { line, .. } => answer_state(progress, &source, OfState::Line(*line)),
+        Question::Explain { line, .. } => answer_state(progress, &source, why(*line)),
         Question::Who { object, mode, .. } => {
             let (object, mode) = (*object, *mode);
-            answer_of_state(progress, question, OfState::Who { object, mode })
+            answer_state(progress, &source, OfState::Who { object, mode })
         }
         Question::Powers {
             subject,
@@ -202,33 +154,27 @@ pub fn answer(progress: &mut Progress<'_>, question: &Question<'_>) -> ExitCode 
                 subject,
                 downgrades,
             };
-            answer_of_state(progress, question, asked)
+            answer_state(progress, &source, asked)
         }
         Question::State { is_start, map, .. } => {
-            answer_of_state(progress, question, listed_as(*is_start, *map))
+            answer_state(progress, &source, listed_as(*is_start, *map))
         }
-        Question::WhoEver(words) => answer_whole(progress, question, OfFiles::WhoEver(words)),
         Question::About {
             name,
             is_object,
             ..
-        } => {
-            let (name, is_object) = (*name, *is_object);
-            answer_whole(progress, question, OfFiles::About { name, is_object })
-        }
-        Question::Lint { .. } => answer_whole(progress, question, OfFiles::Lint),
-        Question::Lattice { .. } => answer_whole(progress, question, OfFiles::Lattice),
-        Question::Journal(words) => answer_whole(progress, question, OfFiles::Journal(words)),
-        Question::Held(words) => answer_whole(progress, question, OfFiles::Held(words)),
-        Question::Usage(words) => answer_whole(progress, question, OfFiles::Usage(words)),
+        } => about_files(progress, &source, *name, *is_object),
+        Question::Lint { .. } => lint(progress, &source),
+        Question::Lattice { .. } => lattice(progress, &source),
+        Question::Journal(words) => journal(progress, &source, words),
+        Question::Held(words) => held(progress, &source, words),
+        Question::Usage(words) => usage(progress, &source, words),
+        Question::WhoEver(words) => who_ever(progress, &source, words),
         Question::Compare {
             second,
             journal,
             ..
-        } => {
-            let (second, journal) = (*second, *journal);
-            answer_whole(progress, question, OfFiles::Compare { second, journal })
-        }
-        Question::Report(words) => answer_whole(progress, question, OfFiles::Report(words)),
+        } => compare(progress, &source, *second, *journal),
+        Question::Report(words) => report(progress, &source, words),
     }
 }

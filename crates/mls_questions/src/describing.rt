@@ -36,7 +36,7 @@ fn ended_about(
 pub(crate) fn about(
     progress: &mut Progress<'_>,
     source: &Source<'_>,
-    bytes: Bytes,
+    bytes: &Bytes,
     name: &str,
     is_object: bool,
 ) -> ExitCode {
@@ -50,7 +50,5 @@ pub(crate) fn about(
         name,
         is_object,
     );
-    let status = ended_about(progress, source, name, &bytes.start, done);
-    drop(bytes);
-    status
+    ended_about(progress, source, name, &bytes.start, done)
 }

@@ -4,9 +4,9 @@ use crate::named::Named;
 use crate::past::{Past, past_refused, replayed};
 use crate::renaming::journal_after;
 use crate::row_answers::listed;
-use crate::sources::Bytes;
+use crate::sources::{Bytes, read_source};
 use mls_answers::{journal as list_journal, journal_explained as write_explained};
-use mls_command_line::JournalWords;
+use mls_command_line::{JournalWords, Source};
 use mls_explain_text::{Sort, WriteFault};
 use mls_listings::{Filter, ListFault, Words};
 use mls_marks::Marks;
@@ -130,12 +130,8 @@ fn journal_listed(
     }
 }
 
-/// Prints the entries of a journal that are asked for.
-pub(crate) fn journal(
-    progress: &mut Progress<'_>,
-    words: &JournalWords<'_>,
-    bytes: Bytes,
-) -> ExitCode {
+/// Prints the entries of a journal that are asked for, over the bytes of its files.
+fn journal_bytes(progress: &mut Progress<'_>, words: &JournalWords<'_>, bytes: Bytes) -> ExitCode {
     let filter = marked_filter(words, bytes.marks.as_ref());
     if let Some(map) = words.after {
         return journal_after(progress, words, map, bytes, &filter);
@@ -154,5 +150,17 @@ pub(crate) fn journal(
             status
         }
         Err(fault) => past_refused(progress, Named::files(words.start, words.journal), fault),
+    }
+}
+
+/// Prints the entries of a journal that are asked for.
+pub(crate) fn journal(
+    progress: &mut Progress<'_>,
+    source: &Source<'_>,
+    words: &JournalWords<'_>,
+) -> ExitCode {
+    match read_source(progress, source) {
+        Ok(bytes) => journal_bytes(progress, words, bytes),
+        Err(status) => status,
     }
 }

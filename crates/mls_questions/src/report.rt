@@ -3,8 +3,8 @@ use crate::answering::question_refused;
 use crate::named::Named;
 use crate::past::{Past, past_refused, replayed};
 use crate::report_parts::add_sections;
-use crate::sources::Bytes;
-use mls_command_line::ReportWords;
+use crate::sources::{Bytes, read_source};
+use mls_command_line::{ReportWords, Source};
 use mls_page::Page;
 use mls_replay::QuestionFault;
 use mls_terminal::{Progress, print};
@@ -41,12 +41,8 @@ fn report_over(progress: &mut Progress<'_>, words: &ReportWords<'_>, past: &Past
     }
 }
 
-/// Prints a page about a journal.
-pub(crate) fn report(
-    progress: &mut Progress<'_>,
-    words: &ReportWords<'_>,
-    bytes: Bytes,
-) -> ExitCode {
+/// Prints a page about a journal, over the bytes of its files.
+fn report_bytes(progress: &mut Progress<'_>, words: &ReportWords<'_>, bytes: Bytes) -> ExitCode {
     progress.begin("reporting");
     match replayed(progress.rt().alloc(), bytes, None) {
         Ok(past) => {
@@ -55,5 +51,17 @@ pub(crate) fn report(
             status
         }
         Err(fault) => past_refused(progress, Named::files(words.start, words.journal), fault),
+    }
+}
+
+/// Prints a page about a journal.
+pub(crate) fn report(
+    progress: &mut Progress<'_>,
+    source: &Source<'_>,
+    words: &ReportWords<'_>,
+) -> ExitCode {
+    match read_source(progress, source) {
+        Ok(bytes) => report_bytes(progress, words, bytes),
+        Err(status) => status,
     }
 }

@@ -4,9 +4,9 @@ use crate::named::Named;
 use crate::past::{Past, past_refused, replayed};
 use crate::renaming::{held_after, usage_after};
 use crate::row_answers::{form_of, rows_ended};
-use crate::sources::Bytes;
+use crate::sources::{Bytes, read_source};
 use mls_answers::{held as answer_held, usage as answer_usage, who_ever as answer_who_ever};
-use mls_command_line::{EverWords, HeldWords, Times, UsageWords};
+use mls_command_line::{EverWords, HeldWords, Source, Times, UsageWords};
 use mls_marks::{Marks, Time};
 use mls_spans::{Filter, States, Words};
 use mls_terminal::Progress;
@@ -77,8 +77,8 @@ fn held_over<'a>(
     rows_ended(progress, named, past.history.start_file(), done)
 }
 
-/// Prints who held what over a journal.
-pub(crate) fn held(progress: &mut Progress<'_>, words: &HeldWords<'_>, bytes: Bytes) -> ExitCode {
+/// Prints who held what over a journal, over the bytes of its files.
+fn held_bytes(progress: &mut Progress<'_>, words: &HeldWords<'_>, bytes: Bytes) -> ExitCode {
     let filter = timed_filter(words, &bytes);
     if let Some(map) = words.after {
         return held_after(progress, words, map, bytes, &filter);
@@ -114,8 +114,8 @@ fn usage_over(
     rows_ended(progress, named, past.history.start_file(), done)
 }
 
-/// Prints how the permissions over a journal were used.
-pub(crate) fn usage(progress: &mut Progress<'_>, words: &UsageWords<'_>, bytes: Bytes) -> ExitCode {
+/// Prints how the permissions over a journal were used, over the bytes of its files.
+fn usage_bytes(progress: &mut Progress<'_>, words: &UsageWords<'_>, bytes: Bytes) -> ExitCode {
     let states = states_of(words.states, &words.times, &bytes);
     if let Some(map) = words.after {
         return usage_after(progress, words, map, bytes, states);
@@ -152,12 +152,8 @@ fn who_ever_over<'a>(
     rows_ended(progress, named, past.history.start_file(), done)
 }
 
-/// Prints who could ever get an object over a journal.
-pub(crate) fn who_ever(
-    progress: &mut Progress<'_>,
-    words: &EverWords<'_>,
-    bytes: Bytes,
-) -> ExitCode {
+/// Prints who could ever get an object over a journal, over the bytes of its files.
+fn who_ever_bytes(progress: &mut Progress<'_>, words: &EverWords<'_>, bytes: Bytes) -> ExitCode {
     let states = states_of(words.states, &words.times, &bytes);
     let named = Named {
         start: words.start,
@@ -174,5 +170,41 @@ pub(crate) fn who_ever(
             status
         }
         Err(fault) => past_refused(progress, named, fault),
+    }
+}
+
+/// Prints who held what over a journal.
+pub(crate) fn held(
+    progress: &mut Progress<'_>,
+    source: &Source<'_>,
+    words: &HeldWords<'_>,
+) -> ExitCode {
+    match read_source(progress, source) {
+        Ok(bytes) => held_bytes(progress, words, bytes),
+        Err(status) => status,
+    }
+}
+
+/// Prints how the permissions over a journal were used.
+pub(crate) fn usage(
+    progress: &mut Progress<'_>,
+    source: &Source<'_>,
+    words: &UsageWords<'_>,
+) -> ExitCode {
+    match read_source(progress, source) {
+        Ok(bytes) => usage_bytes(progress, words, bytes),
+        Err(status) => status,
+    }
+}
+
+/// Prints who could ever get an object over a journal.
+pub(crate) fn who_ever(
+    progress: &mut Progress<'_>,
+    source: &Source<'_>,
+    words: &EverWords<'_>,
+) -> ExitCode {
+    match read_source(progress, source) {
+        Ok(bytes) => who_ever_bytes(progress, words, bytes),
+        Err(status) => status,
     }
 }
