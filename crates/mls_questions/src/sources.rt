@@ -20,16 +20,6 @@ pub(crate) struct Bytes {
     pub at: Option<u64>,
 }
 
-impl Bytes {
-    /// The bytes of the journal, none where there is no journal.
-    pub(crate) fn journal(&self) -> &[u8] {
-        match &self.journal {
-            Some(journal) => journal.as_slice(),
-            None => b"".as_slice(),
-        }
-    }
-}
-
 /// The bytes of a journal, where there is one, all of whose entries are here.
 fn read_any(progress: &mut Progress<'_>, path: Option<&str>) -> Result<Option<Vec<u8>>, ExitCode> {
     let Some(path) = path else {

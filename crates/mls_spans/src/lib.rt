@@ -42,4 +42,4 @@ pub use usage::Usage;
 pub use usage_lines::push_ending;
 pub use usage_rows::count_unused;
 pub use uses::Uses;
-pub use using::{list_usage, list_usages, list_usages_of, usages_over};
+pub use using::{list_usage, list_usages, usages_over};
