@@ -69,7 +69,12 @@ impl Page {
     }
 
     /// The labels that the one at a place covers.
-    fn covered(&mut self, names: &Names, lattice: &Lattice, place: usize) -> Result<(), AllocError> {
+    fn covered(
+        &mut self,
+        names: &Names,
+        lattice: &Lattice,
+        place: usize,
+    ) -> Result<(), AllocError> {
         for cover in &lattice.covers {
             if cover.upper == place {
                 if let Some(lower) = lattice.nodes.get(cover.lower) {

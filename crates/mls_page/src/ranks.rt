@@ -18,7 +18,11 @@ fn raise(ranks: &mut [usize], covers: &[Cover]) {
 }
 
 /// The ranks of so many labels: how many others stand below each at most, one below the other.
-pub(crate) fn ranks(alloc: Global, count: usize, covers: &[Cover]) -> Result<Vec<usize>, AllocError> {
+pub(crate) fn ranks(
+    alloc: Global,
+    count: usize,
+    covers: &[Cover],
+) -> Result<Vec<usize>, AllocError> {
     let mut ranks = Vec::from_elem(alloc, 0usize, count)?;
     for _ in 0..count {
         raise(&mut ranks, covers);

@@ -1,8 +1,6 @@
 //! The files of a question, read.
 use mls_command_line::Source;
-use mls_files::{
-    MarksInput, marks_refused, read_journal, read_marks, refuse_missing, start_file,
-};
+use mls_files::{MarksInput, marks_refused, read_journal, read_marks, refuse_missing, start_file};
 use mls_marks::{Marks, Verified};
 use mls_terminal::{FileFault, Progress, file_refused};
 use std::process::ExitCode;

@@ -27,12 +27,7 @@ fn power_word(power: Power) -> &'static str
 }
 
 /// Appends a power over an object.
-fn push_over(
-    text: &mut String,
-    names: &Names,
-    power: Power,
-    o: ObjectId,
-) -> Result<(), AllocError>
+fn push_over(text: &mut String, names: &Names, power: Power, o: ObjectId) -> Result<(), AllocError>
     ensures { OnOk result
         (string_bytes text.new ≡ string_bytes text.old ++ power_word power ++ object_text names.now o) }
 {

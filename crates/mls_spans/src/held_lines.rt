@@ -57,11 +57,7 @@ fn push_end(
 ///
 /// # Errors
 /// `AllocError` where an allocation failed. The text may then have a part of it.
-pub fn push_extent(
-    text: &mut String,
-    marks: Option<&Marks>,
-    span: &Span,
-) -> Result<(), AllocError>
+pub fn push_extent(text: &mut String, marks: Option<&Marks>, span: &Span) -> Result<(), AllocError>
     ensures { OnOk result (string_bytes text.new
         ≡ string_bytes text.old ++ extent_text (rows_lent marks.entry) span.now) }
 {

@@ -49,7 +49,11 @@ pub(crate) fn entries_between(entries: &[Entry], states: States) -> &[Entry]
 ///
 /// # Errors
 /// `AllocError` where an allocation failed.
-pub fn usages_over(alloc: Global, first: &State, entries: &[Entry]) -> Result<Vec<Usage>, AllocError>
+pub fn usages_over(
+    alloc: Global,
+    first: &State,
+    entries: &[Entry],
+) -> Result<Vec<Usage>, AllocError>
     ensures { IfOk result (λ usages. usages.items ≡ usages_in first.now entries.now) }
 {
     let tally = tally_over(alloc, first, entries)?;
