@@ -1,2 +1,4 @@
+mod Explaining
+mod Histories
 mod Seen
 mod Starts

@@ -1,18 +1,29 @@
-//! What questions about one state are answered, over what is seen of files.
+//! What questions are answered over files: those about one state over what is seen, those about all entries over a
+//! history.
 #![tactic(auto)]
 
 mod asked;
 mod changed;
+mod entries;
+mod ever;
 mod explained;
 mod listed;
 mod snapshot_fault;
+mod spans;
 mod started;
+mod theorems;
 mod told;
+mod used;
 
 pub use asked::ask;
 pub use changed::powers;
+pub use entries::{journal, journal_explained};
+pub use ever::who_ever;
 pub use explained::explain;
 pub use listed::state;
 pub use snapshot_fault::SnapshotFault;
+pub use spans::held;
 pub use started::start_file;
+pub use theorems::entries_are_explained_alike;
 pub use told::who;
+pub use used::usage;
