@@ -98,14 +98,14 @@ impl Page {
         state: &mut State,
         entries: &[Entry],
     ) -> Result<(), AllocError> {
-        let mut shown = 0;
+        let mut shown = 0usize;
         for entry in entries {
             if shown == SHOWN {
                 break;
             }
             if is_denied(entry) {
                 self.denial(names, marks, state, entry)?;
-                shown += 1;
+                shown = shown.saturating_add(1);
             }
             apply(state, &entry.request)?;
         }
