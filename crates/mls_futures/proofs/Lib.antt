@@ -1,0 +1,9 @@
+mod BothWays
+mod Changing
+mod Coming
+mod Journals
+mod NeverHeld
+mod Scripts
+mod Shrinking
+mod Steps
+mod Within
