@@ -6,4 +6,5 @@ mod NeverHeld
 mod Scripts
 mod Shrinking
 mod Steps
+mod Walking
 mod Within

@@ -1,13 +1,18 @@
 -- What some subjects could get, by a closure over the permissions of one state.
-use Rattle.std.specs.Prelude.{◌≡◌, ◌⊎◌, ℕ, Bool, IsTrue, Some}
+use Rattle.std.specs.Prelude.{◌≡◌, ◌⊎◌, ℕ, Bool, IsTrue, List, Some, slice_get}
 use Rattle.std.specs.FinMap as map
 use Rattle.std.specs.FinSet as set
+use Rattle.mls_facts.specs.Numbered.{holds_of}
 use Rattle.mls_tables.specs.declared.mode.Mode.{Mode}
 use Rattle.mls_tables.specs.declared.mode.Mode.TheVariants.{Write}
 use Rattle.mls_state.specs.State.{State}
 use Rattle.mls_state.specs.Properties.{is_known, simple_holds, integrity_holds}
 
--- The actors are the subjects that make requests: those that pass a test. One of them is trusted. (own)
+-- Whether a subject is an actor, one of those that make requests, by a list that has true at the actors' numbers. (own)
+abbrev pub acts_in : List Bool → ℕ → Bool
+acts_in actors s = holds_of (λ acts. acts) (slice_get actors s)
+
+-- The actors are the subjects that pass a test. One of them is trusted. (own)
 pub record HasTrusted (v : State) (acts : ℕ → Bool) : Type 0 where
   pub subject : ℕ
   pub actor : IsTrue (acts subject)
