@@ -29,11 +29,17 @@ qualifies_without v acts b s o x q = record { actor = q.actor; known = q.known; 
   from (inl holds) = inl holds
   from (inr t) = inr (trusted_without v acts b t)
 
-could_without : (v : State) (acts : ℕ → Bool) (b : TripleSet) (s o : ℕ) (x : Mode) → CouldGet v acts s o x → CouldGet (record v { accesses = b }) acts s o x
+pub could_without : (v : State) (acts : ℕ → Bool) (b : TripleSet) (s o : ℕ) (x : Mode) → CouldGet v acts s o x → CouldGet (record v { accesses = b }) acts s o x
 could_without v acts b s o x (permitted has q) = permitted has (qualifies_without v acts b s o x q)
 could_without v acts b s o x (given_at_root t q) = given_at_root (trusted_without v acts b t) (qualifies_without v acts b s 0 x q)
 could_without v acts b s o x (given_below giver p at could q) =
     given_below giver p at (could_without v acts b giver p Write could) (qualifies_without v acts b s o x q)
+
+-- without what was held the state is secure still
+pub secure_without : (v : State) → IsSecure v → IsSecure (record v { accesses = without v.accesses (set.items v.accesses) })
+secure_without v h =
+    subst IsSecure (releases_lead v 0 (set.items v.accesses) (all_known v h.tree.accesses_known))
+    (fold_secure v (entries_of v 0 (releases_of (set.items v.accesses))) h)
 
 pub object_of : (v : State) (acts : ℕ → Bool) (s o : ℕ) (x : Mode) → CouldGet v acts s o x → is_active v o ≡ true
 object_of v acts s o x (permitted has q) = (and_parts (is_subject v s) (is_active v o) q.known).1

@@ -78,7 +78,7 @@ script_keeps acts v w n (asks r actor grant keeps rest) o active zero = active
 script_keeps acts v w n (asks r actor grant keeps rest) o active (suc k) = script_keeps acts (after v r) w (n + 1) rest o (keeps o active) k
 
 -- the releases of some accesses
-abbrev release : Triple → Request
+abbrev pub release : Triple → Request
 release t = record { subject = t.0; action = Release t.2 t.1 }
 
 abbrev pub releases_of : List Triple → List Request
@@ -101,17 +101,19 @@ abbrev pub AllKnown : State → List Triple → Type 0
 AllKnown v [] = Unit {0}
 AllKnown v (t ∷ ts) = (is_known v t ≡ true) × AllKnown v ts
 
-released_one : (v : State) (t : Triple) → is_known v t ≡ true → after v (release t) ≡ record v { accesses = set.remove v.accesses t }
+-- what is known still is without an access
+pub known_after : (v : State) (t : Triple) (us : List Triple) → AllKnown v us → AllKnown (record v { accesses = set.remove v.accesses t }) us
+known_after v t [] all = tt
+known_after v t (u ∷ us) all = (all.0, known_after v t us all.1)
+
+pub released_one : (v : State) (t : Triple) → is_known v t ≡ true → after v (release t) ≡ record v { accesses = set.remove v.accesses t }
 released_one v t known = after_grant v (release t) (ap is_grant (grants v (release t) known tt))
 
 pub releases_lead : (v : State) (n : ℕ) (ts : List Triple) → AllKnown v ts → fold v (entries_of v n (releases_of ts)) ≡ record v { accesses = without v.accesses ts }
 releases_lead v n [] known = refl
 releases_lead v n (t ∷ ts) known =
     ap (λ w. fold w (entries_of w (n + 1) (releases_of ts))) (released_one v t known.0)
-    ∙ releases_lead (record v { accesses = set.remove v.accesses t }) (n + 1) ts (still ts known.1) where
-      still : (us : List Triple) → AllKnown v us → AllKnown (record v { accesses = set.remove v.accesses t }) us
-      still [] all = tt
-      still (u ∷ us) all = (all.0, still us all.1)
+    ∙ releases_lead (record v { accesses = set.remove v.accesses t }) (n + 1) ts (known_after v t ts known.1)
 
 pub releases_keep : (v : State) (n : ℕ) (ts : List Triple) (o : ℕ) → is_active v o ≡ true → StaysActive v (entries_of v n (releases_of ts)) o
 releases_keep v n [] o active zero = active

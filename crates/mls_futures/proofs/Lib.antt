@@ -1,6 +1,7 @@
 mod BothWays
 mod Changing
 mod Coming
+mod Granted
 mod Journals
 mod NeverHeld
 mod Scripts

@@ -8,5 +8,7 @@ mod never;
 
 pub use actors::has_trusted;
 pub use closure::{could_get, could_give, qualifies};
-pub use exact::{labels_stay_within_the_bounds, what_the_closure_has_comes_about};
+pub use exact::{
+    a_script_brings_it_about, labels_stay_within_the_bounds, what_the_closure_has_comes_about,
+};
 pub use never::{no_future_has_what_the_closure_has_not, what_could_come_only_shrinks};
