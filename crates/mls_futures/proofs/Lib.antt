@@ -3,6 +3,7 @@ mod Changing
 mod Coming
 mod Granted
 mod Journals
+mod KnownAnswers
 mod NeverHeld
 mod Scripts
 mod Shrinking

@@ -1,11 +1,11 @@
 -- What some subjects could get, by a closure over the permissions of one state.
-use Rattle.std.specs.Prelude.{◌≡◌, ◌⊎◌, ℕ, Bool, IsTrue, List, Some, slice_get}
+use Rattle.std.specs.Prelude.{◌≡◌, ◌⊎◌, ◌↔◌, ℕ, Bool, IsTrue, List, Some, slice_get}
 use Rattle.std.specs.FinMap as map
 use Rattle.std.specs.FinSet as set
 use Rattle.mls_facts.specs.Numbered.{holds_of}
 use Rattle.mls_tables.specs.declared.mode.Mode.{Mode}
 use Rattle.mls_tables.specs.declared.mode.Mode.TheVariants.{Write}
-use Rattle.mls_state.specs.State.{State}
+use Rattle.mls_state.specs.State.{State, is_active}
 use Rattle.mls_state.specs.Properties.{is_known, simple_holds, integrity_holds}
 
 -- Whether a subject is an actor, one of those that make requests, by a list that has true at the actors' numbers. (own)
@@ -40,3 +40,8 @@ pub data CouldGet (v : State) (acts : ℕ → Bool) : ℕ → ℕ → Mode → T
 pub data CouldGive (v : State) (acts : ℕ → Bool) (o : ℕ) : Type 0 where
   by_trust : o ≡ 0 → HasTrusted v acts → CouldGive v acts o
   by_writing : (giver p : ℕ) → map.get v.parent o ≡ Some p → CouldGet v acts giver p Write → CouldGive v acts o
+
+-- A list tells of the objects of the first numbers whether an actor could give permissions of them. (own)
+abbrev pub IsGivable : State → (ℕ → Bool) → List Bool → Type 0
+IsGivable v acts flags = (o : ℕ) (gives : Bool) → slice_get flags o ≡ Some gives → IsTrue (is_active v o)
+    → (IsTrue gives ↔ CouldGive v acts o)

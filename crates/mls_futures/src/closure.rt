@@ -3,7 +3,7 @@ ghost use Rattle.std.specs.Prelude.{◌≡◌, ◌↔◌, ℕ, IsTrue};
 ghost use Rattle.std.specs.FinSet as set;
 ghost use Rattle.mls_tables.specs.declared.mode.Mode.TheVariants.{Write};
 ghost use Rattle.mls_state.specs.State.{is_subject, is_active};
-ghost use Rattle.mls_futures.specs.Closure.{acts_in, HasTrusted, Qualifies, CouldGet, CouldGive};
+ghost use Rattle.mls_futures.specs.Closure.{acts_in, HasTrusted, Qualifies, CouldGet, CouldGive, IsGivable};
 
 use crate::actors::{acts, has_trusted};
 use mls_state::{State, discretionary_holds, integrity_holds, simple_holds};
@@ -79,21 +79,27 @@ fn has_permitted_writer<A: Allocator>(
     false
 }
 
-/// Whether an actor could give permissions of the object. It goes up from the object, at most to the root, and looks at
-/// each subject at most twice for each object on the way.
-pub fn could_give<A: Allocator>(
+/// Whether an actor could give permissions of the object, where the answer is known for the objects of the first numbers.
+/// It goes up from the object, at most to the root or to an object of these, and looks at each subject at most twice for
+/// each object on the way.
+pub(crate) fn could_give_above<A: Allocator>(
     state: &State<A>,
     actors: &[bool],
     trusted: bool,
+    known: &[bool],
     o: ObjectId,
 ) -> bool
     requires object { IsTrue (is_active state.now o) }
     requires trusted { IsTrue trusted ↔ HasTrusted state.now (acts_in actors.now) }
+    requires known { IsGivable state.now (acts_in actors.now) known.now }
     ensures { IsTrue result ↔ CouldGive state.now (acts_in actors.now) o }
 {
     state.agrees();
     let mut at = o;
     for step in 0..MAX_OBJECTS {
+        if let Some(open) = known.get(at.number() as usize) {
+            return *open;
+        }
         match state.parent(at) {
             None => return trusted,
             Some(parent) => {
@@ -108,6 +114,20 @@ pub fn could_give<A: Allocator>(
         }
     }
     trusted
+}
+
+/// Whether an actor could give permissions of the object. It goes up from the object, at most to the root.
+pub fn could_give<A: Allocator>(
+    state: &State<A>,
+    actors: &[bool],
+    trusted: bool,
+    o: ObjectId,
+) -> bool
+    requires object { IsTrue (is_active state.now o) }
+    requires trusted { IsTrue trusted ↔ HasTrusted state.now (acts_in actors.now) }
+    ensures { IsTrue result ↔ CouldGive state.now (acts_in actors.now) o }
+{
+    could_give_above(state, actors, trusted, &[], o)
 }
 
 /// Whether an actor could get the access, by the closure.
