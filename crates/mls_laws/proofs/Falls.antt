@@ -118,7 +118,8 @@ raises true root writes low high untrusted may = cc
 raises false root writes low high untrusted may =
     (and_parts low high ((and_parts writes (low && high) ((and_parts root (writes && (low && high)) may).1)).1)).1
 
-above_itself : (e : Option Label) → is_some e ≡ true → is_above e e ≡ true
+-- a label that is there dominates itself
+pub above_itself : (e : Option Label) → is_some e ≡ true → is_above e e ≡ true
 above_itself None there = cc
 above_itself (Some l) there = reflexive l
 
@@ -130,7 +131,7 @@ relabel_up v s a o l action holds untrusted =
     (is_above (Some l) (map.get v.object_label o)) untrusted all.0
 
 -- a request of a subject that isn't trusted lets no object's label fall
-step_up : (v : State) (r : Request) (o : ℕ) → set.contains v.trusted r.subject ≡ false → HasTree v → is_active v o ≡ true
+pub step_up : (v : State) (r : Request) (o : ℕ) → set.contains v.trusted r.subject ≡ false → HasTree v → is_active v o ≡ true
     → is_active (after v r) o ≡ true → is_above (map.get (after v r).object_label o) (map.get v.object_label o) ≡ true
 step_up v r o untrusted h active there = from (step_label v r o h active there) where
   from : (map.get (after v r).object_label o ≡ map.get v.object_label o)

@@ -132,7 +132,8 @@ change_integrity v s (Delete q) o h holds active there =
 change_integrity v s (SubjectLevel l) o h holds active there = refl
 change_integrity v s (ObjectLevel q l) o h holds active there = refl
 
-after_integrity : (v : State) (r : Request) (o : ℕ) → HasTree v → is_active v o ≡ true → is_active (after v r) o ≡ true
+-- the same of a request
+pub after_integrity : (v : State) (r : Request) (o : ℕ) → HasTree v → is_active v o ≡ true → is_active (after v r) o ≡ true
     → map.get (after v r).object_integrity o ≡ map.get v.object_integrity o
 after_integrity v r o h active =
     by_reply (λ w. is_active w o ≡ true → map.get w.object_integrity o ≡ map.get v.object_integrity o) v r (λ there. refl)

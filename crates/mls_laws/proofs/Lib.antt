@@ -8,6 +8,7 @@ mod FlowExamples
 mod FlowLabels
 mod Journalled
 mod Kept
+pub mod Laws
 mod Lowered
 mod Plain
 mod Provenances

@@ -1,0 +1,12 @@
+mod BothWays
+mod Changing
+mod Coming
+mod Granted
+mod Journals
+mod KnownAnswers
+mod NeverHeld
+mod Scripts
+mod Shrinking
+mod Steps
+mod Walking
+mod Within

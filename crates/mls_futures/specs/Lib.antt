@@ -1,0 +1,3 @@
+pub mod Closure
+pub mod Futures
+pub mod Scripts
