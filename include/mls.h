@@ -7,8 +7,8 @@
  * proved.
  *
  * Duties of the caller, which nothing checks:
- * - The caller allocates a handle, as MLS_INIT or all zeros. It never copies the handle or writes to
- *   it, and does not move it while it is open.
+ * - The caller allocates a handle, as MLS_INIT or all zeros. It never copies the handle or writes
+ *   to it, and does not move it while it is open.
  * - Pointers are aligned, and valid for what the call reads or writes. None overlaps another of the
  *   same call, except that memory that the call only reads may be passed twice. If a length is 0,
  *   the pointer beside it may be null; no other pointer may be null.
@@ -36,8 +36,8 @@ extern "C" {
 #define MLS_VERSION_MAJOR 0
 #define MLS_VERSION_MINOR 2
 
-/* Statuses: MLS_OK, or a number below 0. With a status below 0 the handle is unchanged, and the call
- * writes only the output that its comment names for that status: the fault of MLS_ESTART,
+/* Statuses: MLS_OK, or a number below 0. With a status below 0 the handle is unchanged, and the
+ * call writes only the output that its comment names for that status: the fault of MLS_ESTART,
  * MLS_EJOURNAL, MLS_EREPLAY and MLS_ESTATE, and the length of MLS_ERANGE. The decision is never in
  * the status. */
 enum {
@@ -271,8 +271,8 @@ int mls_resume(mls_monitor *m, const uint8_t *start, size_t len, const uint8_t *
  * of that start: the profile, the bounds of labels, and the subjects with their maximum and
  * integrity labels and trust. The caller must know that those entries led to the state: nothing
  * checks it. docs/EMBEDDING.md shows how.
- * MLS_EOPEN; MLS_ESTART; MLS_EINVAL if number is above 2^63; MLS_ENOMEM; MLS_ESTATE, with a fault of
- * kind 1 for a line that isn't as it must be, its place the number of lines before it, of kind 2
+ * MLS_EOPEN; MLS_ESTART; MLS_EINVAL if number is above 2^63; MLS_ENOMEM; MLS_ESTATE, with a fault
+ * of kind 1 for a line that isn't as it must be, its place the number of lines before it, of kind 2
  * for a state of another start, and of kind 3 for one that isn't secure. The fault is written only
  * if the start or the state is refused. */
 int mls_open_state(mls_monitor *m, const uint8_t *start, size_t len, const uint8_t *state,
@@ -283,8 +283,8 @@ int mls_open_state(mls_monitor *m, const uint8_t *start, size_t len, const uint8
  * MLS_ENOMEM: then nothing is changed or written. */
 int mls_submit(mls_monitor *m, uint32_t session, const mls_request *request, mls_answer *answer);
 
-/* Returns 1 if the subject holds an access to the object in the mode now; 0 if not, if the handle is
- * closed, and if the mode is none. It adds no entry and doesn't allocate. */
+/* Returns 1 if the subject holds an access to the object in the mode now; 0 if not, if the handle
+ * is closed, and if the mode is none. It adds no entry and doesn't allocate. */
 int mls_check(mls_monitor *m, uint16_t subject, uint16_t object, uint8_t mode);
 
 /* What mls_submit would answer now. Nothing changes, and it doesn't allocate. MLS_ECLOSED,
@@ -297,9 +297,9 @@ uint64_t mls_entries(mls_monitor *m);
 /* Copies out entry n, counted from 0, unless it is forgotten. MLS_ECLOSED, MLS_ENOTFOUND. */
 int mls_entry(mls_monitor *m, uint64_t n, mls_journal_entry *entry);
 
-/* Copies out the line of entry n, counted from 0, with its newline and without a zero byte after it:
- * the lines of all entries, one after the other, are the journal's text. The length of the line is
- * written with MLS_OK and with MLS_ERANGE, which leaves the buffer unchanged. MLS_ECLOSED,
+/* Copies out the line of entry n, counted from 0, with its newline and without a zero byte after
+ * it: the lines of all entries, one after the other, are the journal's text. The length of the line
+ * is written with MLS_OK and with MLS_ERANGE, which leaves the buffer unchanged. MLS_ECLOSED,
  * MLS_ENOTFOUND, MLS_ERANGE, MLS_ENOMEM. */
 int mls_entry_text(mls_monitor *m, uint64_t n, char *buf, size_t cap, size_t *len);
 
@@ -326,8 +326,8 @@ int mls_read_label(mls_monitor *m, int kind, const uint8_t *text, size_t len, ml
 int mls_write_label(mls_monitor *m, int kind, const mls_label *label, char *buf, size_t cap,
                     size_t *len);
 
-/* Returns 1 if label a dominates label b; 0 if not, and if the level of one is above 15. It takes no
- * handle, and a and b may be the same label. */
+/* Returns 1 if label a dominates label b; 0 if not, and if the level of one is above 15. It takes
+ * no handle, and a and b may be the same label. */
 int mls_dominates(const mls_label *a, const mls_label *b);
 
 /* Decides an access of the subject in the mode to something that has these labels and isn't an
@@ -353,13 +353,13 @@ int mls_count(mls_monitor *m, mls_counts *counts);
  * MLS_ENOTFOUND if the object isn't active or has no such child. */
 int mls_next_child(mls_monitor *m, uint16_t object, uint16_t above, uint16_t *child);
 
-/* Copy out the name that the start has for a subject's or an object's number, as mls_entry_text does
- * a line. They don't allocate. MLS_ECLOSED, MLS_ENOTFOUND if it has none, MLS_ERANGE. */
+/* Copy out the name that the start has for a subject's or an object's number, as mls_entry_text
+ * does a line. They don't allocate. MLS_ECLOSED, MLS_ENOTFOUND if it has none, MLS_ERANGE. */
 int mls_subject_name(mls_monitor *m, uint16_t subject, char *buf, size_t cap, size_t *len);
 int mls_object_name(mls_monitor *m, uint16_t object, char *buf, size_t cap, size_t *len);
 
-/* Copies out the conditions of a request, in the order of its rule, and the remedy, which only a get
- * has. cap is the number of rows. The number of conditions is written with MLS_OK and with
+/* Copies out the conditions of a request, in the order of its rule, and the remedy, which only a
+ * get has. cap is the number of rows. The number of conditions is written with MLS_OK and with
  * MLS_ERANGE, which writes nothing else. MLS_ECLOSED; MLS_EINVAL; MLS_ENOTFOUND if the reply is
  * MLS_UNDEFINED; MLS_ERANGE; MLS_ENOMEM. */
 int mls_explain(mls_monitor *m, const mls_request *request, mls_condition *conditions, size_t cap,
