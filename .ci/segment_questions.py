@@ -254,14 +254,13 @@ def files_in_an_archive():
         same((words, ran_program(words)), (words, lacking))
     # before entry 0 the state is that of the start
     is_alike_behind(["state", "--at", "0", STANDARD, "a"], first, "a", whole)
-    # all closed files, and the live one is empty: the state is that behind the last entry
+    # all closed files, and the live one is empty: replay says that entries are missing
     for number in closed[place:]:
         os.remove(segment("a", number))
     put("a", b"")
     last = numbered("a", "state.")[-1]
-    same(ran_program(["state", STANDARD, "a"]), (0, content(state("a", last)), missing(last)))
-    for words in (["replay", STANDARD, "a"], ["journal", STANDARD, "a"]):
-        same((words, ran_program(words)), (words, (1, b"", missing(last))))
+    same(ran_program(["state", STANDARD, "a"])[:2], (0, content(state("a", last))))
+    same(ran_program(["replay", STANDARD, "a"]), (3, b"", b"mls: %s: behind the last entry\n" % state("a", last).encode()))
 
 
 def files_that_a_crash_left():
