@@ -1,12 +1,13 @@
 //! The command that tells all of a subject or of an object.
-use crate::answering::{ended, thing_refused};
+use crate::answering::thing_refused;
 use crate::named::Named;
+use crate::row_answers::{form_of, rows_ended};
 use crate::sources::Bytes;
 use mls_about::about as told;
 use mls_command_line::Source;
 use mls_replay::QuestionFault;
+use mls_rows::Listing;
 use mls_terminal::Progress;
-use mls_wording::Answer;
 use std::process::ExitCode;
 
 /// Ends the command over the bytes of a start file: prints the answer, or tells why there is none.
@@ -15,7 +16,7 @@ fn ended_about(
     source: &Source<'_>,
     name: &str,
     start: &[u8],
-    done: Result<Answer, QuestionFault>,
+    done: Result<Listing, QuestionFault>,
 ) -> ExitCode {
     if let Err(QuestionFault::Subject) = &done {
         progress.end();
@@ -29,7 +30,7 @@ fn ended_about(
         object: name,
         line: "",
     };
-    ended(progress, named, start, done)
+    rows_ended(progress, named, start, done)
 }
 
 /// Prints all that there is to tell of a subject or of an object.
@@ -43,6 +44,7 @@ pub(crate) fn about(
     progress.begin("looking");
     let done = told(
         progress.rt().alloc(),
+        form_of(progress),
         &bytes.start,
         bytes.journal.as_deref(),
         bytes.at,

@@ -19,3 +19,4 @@ mod spans;
 mod starts;
 
 pub use answering::answer;
+pub use row_answers::form_of;
