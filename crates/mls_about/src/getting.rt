@@ -25,11 +25,7 @@ fn gets_of_active(alloc: Global, state: &State, o: ObjectId) -> Result<Vec<Prosp
 }
 
 /// What becomes of the gets of an object that the matrix permits, by subject, then by mode.
-pub(crate) fn gets(
-    alloc: Global,
-    state: &State,
-    o: ObjectId,
-) -> Result<Vec<Prospect>, AllocError>
+pub(crate) fn gets(alloc: Global, state: &State, o: ObjectId) -> Result<Vec<Prospect>, AllocError>
     ensures { IfOk result (λ found. GetsOf state.now o found.items) }
 {
     if !state.is_active(o) {

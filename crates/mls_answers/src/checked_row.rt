@@ -54,7 +54,11 @@ fn push_counts(text: &mut String, row: &CheckedRow) -> Result<(), AllocError>
 fn secure_line(secure: bool) -> &'static str
     ensures { result.now ≡ secure_line secure }
 {
-    if secure { "secure yes\n" } else { "secure no\n" }
+    if secure {
+        "secure yes\n"
+    } else {
+        "secure no\n"
+    }
 }
 
 /// Writes how many subjects and objects there are.

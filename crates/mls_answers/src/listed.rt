@@ -23,12 +23,7 @@ fn objects(alloc: Global, names: &Names, state: &State) -> Result<Vec<u8>, Alloc
 }
 
 /// What there is in a state, in a form: the text of a state, or objects.
-fn written(
-    alloc: Global,
-    form: Form,
-    names: &Names,
-    state: &State,
-) -> Result<Vec<u8>, AllocError>
+fn written(alloc: Global, form: Form, names: &Names, state: &State) -> Result<Vec<u8>, AllocError>
     ensures { IfOk result (λ bytes. bytes.items ≡ state_bytes form names.now state.now) }
 {
     match form {

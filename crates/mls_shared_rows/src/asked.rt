@@ -16,7 +16,11 @@ use mls_wording::{push_integrity, push_security};
 use std::alloc::{AllocError, Global};
 
 /// Writes the parent of an object that is made.
-pub(crate) fn write_parent(writer: &mut Writer, names: &Names, o: ObjectId) -> Result<(), AllocError>
+pub(crate) fn write_parent(
+    writer: &mut Writer,
+    names: &Names,
+    o: ObjectId,
+) -> Result<(), AllocError>
     ensures { Adds result writer.old writer.new (of_parent names.now o) }
 {
     write_object_at(writer, ("parent", "parent_name"), names, o)

@@ -10,5 +10,5 @@ pub loop-child-preserved : goal.loop-child-preserved
 loop-child-preserved c = (
   c.in_ok-with_child.ensures.form ∙ c.loop-child.invariant.0,
   grows_in (λ form. child_bytes form c.args.names.now c.args.state.now c.args.o c.loop-child.child) _ _ _ _ _ _ _ c.loop-child.invariant.0
-  c.loop-child.invariant.1 c.in_ok-with_child.ensures.bytes (children_more _ _ _ _ _),
+      c.loop-child.invariant.1 c.in_ok-with_child.ensures.bytes (children_more _ _ _ _ _),
 )

@@ -10,5 +10,5 @@ pub loop-s-preserved : goal.loop-s-preserved
 loop-s-preserved c = (
   c.in_ok-with_subject.ensures.form ∙ c.loop-s.invariant.0,
   grows_in (λ form. subject_bytes form c.args.names.now c.args.state.now c.loop-s.s) _ _ _ _ _ _ _ c.loop-s.invariant.0
-  c.loop-s.invariant.1 c.in_ok-with_subject.ensures.bytes (subjects_more _ _ _ _),
+      c.loop-s.invariant.1 c.in_ok-with_subject.ensures.bytes (subjects_more _ _ _ _),
 )
