@@ -32,6 +32,11 @@ pub grows_in : (line : Form → List ℕ) (old now new part longer : List ℕ) (
 grows_in line old now new part longer f g same so_far added more =
     grows old now new part longer (line g) so_far (added ∙ ap (λ h. now ++ line h) same) more
 
+-- rows behind others, in the form of what was there
+pub then_in : (f g : Form → List ℕ) (old now new : List ℕ) (a b : Form) → b ≡ a → now ≡ old ++ f a → new ≡ now ++ g b
+    → new ≡ old ++ (f a ++ g a)
+then_in f g old now new a b same first second = second ∙ (λ i. first i ++ g (same i)) ∙ append_assoc old (f a) (g a)
+
 pub subjects_none : (form : Form) (names : Names) (v : State) → subjects_bytes form names v 0 ≡ []
 unfolding subjects_bytes
 subjects_none form names v = refl

@@ -39,17 +39,31 @@ abbrev pub head_members : HeadRow → List Token
 head_members (Profile profile) = number_member (codes "profile") (profile_number profile)
 head_members (Next n) = number_member (codes "next") n
 
+-- The row of a state's profile, in a form. (own)
+abbrev pub profile_bytes : State → Form → List ℕ
+profile_bytes v form =
+    kind_bytes form (codes "profile") (head_line (Profile v.profile)) (head_members (Profile v.profile))
+
+-- The row of the number that the next object will have, in a form. (own)
+abbrev pub next_bytes : State → Form → List ℕ
+next_bytes v form = kind_bytes form (codes "next") (head_line (Next v.next)) (head_members (Next v.next))
+
 -- The rows of a state's profile and of the number that the next object will have, in a form. (own)
 abbrev pub heads_bytes : Form → State → List ℕ
-heads_bytes form v =
-    kind_bytes form (codes "profile") (head_line (Profile v.profile)) (head_members (Profile v.profile))
-    ++ kind_bytes form (codes "next") (head_line (Next v.next)) (head_members (Next v.next))
+heads_bytes form v = profile_bytes v form ++ next_bytes v form
+
+-- The maximum label of a subject. (own)
+abbrev pub maximum_member : Names → Label → List Token
+maximum_member names l = text_member (codes "maximum") (security_text names l)
+
+-- The current label of a subject. (own)
+abbrev pub current_member : Names → Label → List Token
+current_member names l = text_member (codes "current") (security_text names l)
 
 -- The three labels of a subject. (own)
 abbrev pub label_members : Names → Label → Label → Label → List Token
 label_members names maximum current integrity =
-    text_member (codes "maximum") (security_text names maximum)
-    ++ text_member (codes "current") (security_text names current) ++ of_integrity names integrity
+    maximum_member names maximum ++ current_member names current ++ of_integrity names integrity
 
 -- The members of a subject: its labels, and whether it is trusted. (own)
 abbrev pub subject_members : Names → ℕ → Label → Label → Label → Bool → List Token

@@ -1,8 +1,9 @@
 //! Subjects as rows.
-ghost use Rattle.std.specs.Prelude.{◌≡◌, ◌++◌, Some, codes};
+ghost use Rattle.std.specs.Prelude.{◌≡◌, Some, codes};
 ghost use Rattle.mls_labels.specs.Label.{Label};
 ghost use Rattle.mls_rows.specs.Members.{Adds, text_member};
-ghost use Rattle.mls_shared_rows.specs.StateRows.{label_members, subject_members, truth_member};
+ghost use Rattle.mls_shared_rows.specs.StateRows.{current_member, label_members, maximum_member, subject_members};
+ghost use Rattle.mls_shared_rows.specs.StateRows.{truth_member};
 ghost use Rattle.mls_snapshots.specs.States.{subject_parts};
 ghost use Rattle.mls_wording.specs.Wording.{security_text};
 
@@ -43,6 +44,30 @@ fn write_label(
     written
 }
 
+/// Writes the maximum label of a subject.
+fn write_maximum(
+    alloc: Global,
+    writer: &mut Writer,
+    names: &Names,
+    label: SecLabel,
+) -> Result<(), AllocError>
+    ensures { Adds result writer.old writer.new (maximum_member names.now label) }
+{
+    write_label(alloc, writer, "maximum", names, label)
+}
+
+/// Writes the current label of a subject.
+fn write_current(
+    alloc: Global,
+    writer: &mut Writer,
+    names: &Names,
+    label: SecLabel,
+) -> Result<(), AllocError>
+    ensures { Adds result writer.old writer.new (current_member names.now label) }
+{
+    write_label(alloc, writer, "current", names, label)
+}
+
 /// Writes the three labels of a subject.
 fn write_labels(
     alloc: Global,
@@ -53,8 +78,8 @@ fn write_labels(
     ensures { Adds result writer.old writer.new
         (label_members names.now subject.now.maximum subject.now.current subject.now.integrity) }
 {
-    write_label(alloc, writer, "maximum", names, subject.maximum)?;
-    write_label(alloc, writer, "current", names, subject.current)?;
+    write_maximum(alloc, writer, names, subject.maximum)?;
+    write_current(alloc, writer, names, subject.current)?;
     write_integrity(alloc, writer, names, subject.integrity)
 }
 

@@ -8,7 +8,7 @@ loop-child-init c = (refl, begins _ _ (children_none _ _ _ _))
 
 pub loop-child-preserved : goal.loop-child-preserved
 loop-child-preserved c = (
-  c.in_ok-with_child.ensures.form ∙ c.loop-child.invariant.0,
+  c.in_ok-written.ensures.form ∙ c.loop-child.invariant.0,
   grows_in (λ form. child_bytes form c.args.names.now c.args.state.now c.args.o c.loop-child.child) _ _ _ _ _ _ _ c.loop-child.invariant.0
-      c.loop-child.invariant.1 c.in_ok-with_child.ensures.bytes (children_more _ _ _ _ _),
+      c.loop-child.invariant.1 c.in_ok-written.ensures.bytes (children_more _ _ _ _ _),
 )

@@ -8,7 +8,7 @@ loop-o-init c = (refl, begins _ _ (objects_none _ _ _))
 
 pub loop-o-preserved : goal.loop-o-preserved
 loop-o-preserved c = (
-  c.in_ok-with_object.ensures.form ∙ c.loop-o.invariant.0,
+  c.in_ok-written.ensures.form ∙ c.loop-o.invariant.0,
   grows_in (λ form. object_bytes form c.args.names.now c.args.state.now c.loop-o.o) _ _ _ _ _ _ _ c.loop-o.invariant.0
-      c.loop-o.invariant.1 c.in_ok-with_object.ensures.bytes (objects_more _ _ _ _),
+      c.loop-o.invariant.1 c.in_ok-written.ensures.bytes (objects_more _ _ _ _),
 )

@@ -8,7 +8,7 @@ loop-s-init c = (refl, begins _ _ (subjects_none _ _ _))
 
 pub loop-s-preserved : goal.loop-s-preserved
 loop-s-preserved c = (
-  c.in_ok-with_subject.ensures.form ∙ c.loop-s.invariant.0,
+  c.in_ok-written.ensures.form ∙ c.loop-s.invariant.0,
   grows_in (λ form. subject_bytes form c.args.names.now c.args.state.now c.loop-s.s) _ _ _ _ _ _ _ c.loop-s.invariant.0
-      c.loop-s.invariant.1 c.in_ok-with_subject.ensures.bytes (subjects_more _ _ _ _),
+      c.loop-s.invariant.1 c.in_ok-written.ensures.bytes (subjects_more _ _ _ _),
 )

@@ -10,6 +10,6 @@ use Rattle.mls_shared_rows.proofs.triples.with_cell.Goals as goal
 pub returns-clause-bytes : goal.returns-clause-bytes
 returns-clause-bytes c =
     four_added (λ form. triple_bytes form (word_of c.args.table) c.args.names.now) (set.contains (triples_of c.args.table c.args.state.now)) _ _ _ _ _ _ _ _ _ _ _ _ _ _ _ _ _
-    (c.has.ensures ∙ c.modes-modes.ensures Execute) (c.has-2.ensures ∙ c.modes-modes.ensures Read) (c.has-3.ensures ∙ c.modes-modes.ensures Append)
-    (c.has-4.ensures ∙ c.modes-modes.ensures Write) c.in_ok-output.ensures.form c.in_ok-output-2.ensures.form c.in_ok-output-3.ensures.form
+    (c.has-execute.ensures ∙ c.modes-modes.ensures Execute) (c.has-read.ensures ∙ c.modes-modes.ensures Read) (c.has-append.ensures ∙ c.modes-modes.ensures Append)
+    (c.has-write.ensures ∙ c.modes-modes.ensures Write) c.in_ok-output.ensures.form c.in_ok-output-2.ensures.form c.in_ok-output-3.ensures.form
     c.in_ok-output.ensures.bytes c.in_ok-output-2.ensures.bytes c.in_ok-output-3.ensures.bytes c.in_ok-output-4.ensures.bytes

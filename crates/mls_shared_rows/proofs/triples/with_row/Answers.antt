@@ -11,9 +11,9 @@ loop-o-init c = (refl, begins _ _ (cells_none _ _ _ _ _))
 
 pub loop-o-preserved : goal.loop-o-preserved
 loop-o-preserved c = (
-  c.in_ok-with_cell.ensures.form ∙ c.loop-o.invariant.0,
+  c.in_ok-written.ensures.form ∙ c.loop-o.invariant.0,
   grows_in (λ form. cell_bytes form (word_of c.args.table) c.args.names.now (triples_of c.args.table c.args.state.now) c.args.s c.loop-o.o)
-      _ _ _ _ _ _ _ c.loop-o.invariant.0 c.loop-o.invariant.1 c.in_ok-with_cell.ensures.bytes (cells_more _ _ _ _ _ _),
+      _ _ _ _ _ _ _ c.loop-o.invariant.0 c.loop-o.invariant.1 c.in_ok-written.ensures.bytes (cells_more _ _ _ _ _ _),
 )
 
 pub returns-then-not-is_subject-clause-bytes : goal.returns-then-not-is_subject-clause-bytes

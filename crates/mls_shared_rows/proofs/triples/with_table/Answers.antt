@@ -11,7 +11,7 @@ loop-s-init c = (refl, begins _ _ (table_none _ _ _ _))
 
 pub loop-s-preserved : goal.loop-s-preserved
 loop-s-preserved c = (
-  c.in_ok-with_row.ensures.form ∙ c.loop-s.invariant.0,
+  c.in_ok-written.ensures.form ∙ c.loop-s.invariant.0,
   grows_in (λ form. cells_bytes form (word_of c.args.table) c.args.names.now (triples_of c.args.table c.args.state.now) c.loop-s.s MAX_OBJECTS)
-      _ _ _ _ _ _ _ c.loop-s.invariant.0 c.loop-s.invariant.1 c.in_ok-with_row.ensures.bytes (table_more _ _ _ _ _),
+      _ _ _ _ _ _ _ c.loop-s.invariant.0 c.loop-s.invariant.1 c.in_ok-written.ensures.bytes (table_more _ _ _ _ _),
 )
