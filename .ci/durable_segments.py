@@ -123,11 +123,11 @@ def segments_elsewhere():
     closed, last = numbered("m"), numbered("m", "state.")[-1]
 
     def lacks_its_first_entries(first):
-        told = lambda name: (3, b"", b"mls: %s: replay 1 Number at 0\n" % name.encode())
         same(served(b"", "m", *CUT), (0, ready(due.next), b""))
-        same(served(b"", "m", *CUT, "--from-start"), told(first))
+        same(served(b"", "m", *CUT, "--from-start"), (3, b"", b"mls: %s: replay 1 Number at 0\n" % first.encode()))
+        number = (numbered("m") or [last])[0]
         for words in (["replay", STANDARD, "m"], ["journal", STANDARD, "m"]):
-            same((words, ran_program(words)), (words, told("m")))
+            same((words, ran_program(words)), (words, (1, b"", b"mls: m: entries before %d are not here\n" % number)))
 
     os.remove(segment("m", closed[0]))
     lacks_its_first_entries(segment("m", closed[1]))

@@ -73,10 +73,10 @@ def a_core_that_ends_for_another_reason():
 
 
 def units_and_their_statuses():
-    """The unit isn't started again, and its socket goes, after the statuses of which DEPLOYING says so."""
+    """The unit isn't started again, and its socket goes, after the statuses of which OPERATIONS says so."""
     with open(f"{TOP}/share/systemd/mlsd.service", encoding="utf-8") as file:
         unit = file.read()
-    with open(f"{TOP}/docs/DEPLOYING.md", encoding="utf-8") as file:
+    with open(f"{TOP}/docs/OPERATIONS.md", encoding="utf-8") as file:
         rows = re.findall(r"^\| (\d+) \|.*\| ends, with its socket\b", file.read(), re.M)
     assert len(rows) >= 4 and "6" in rows, rows
     same(re.search(r"^RestartPreventExitStatus=(.*)$", unit, re.M)[1].split(), rows)

@@ -215,14 +215,37 @@ def segment_that_is_forged_with_its_marks():
 
 
 def marks_of_an_archive():
-    """Once the first file is moved away a start goes on, which compares the marks of its own; mls verify says that the first entries lack, and
-    a question with marks that these differ."""
+    """Once the first file is moved away a start goes on, which compares the marks of its own; a question that needs all entries says which are
+    not here. So does mls verify, which can't tell whether they were moved or removed: it verifies the others only with the digest that the
+    missing ones ended with, whether their marks are in the file or not."""
     due = filled("a")
     found = is_marked("a")
     os.remove(segment("a", numbered("a")[0]))
+    first = numbered("a")[0]
+    lacking = b"mls: a: entries before %d are not here\n" % first
     same(served(b"", "a", *BOTH), (0, ready(due.next), b""))
-    same(verify("a"), (3, b"", b"mls: a: replay 1 Number at 0\n"))
-    same(ran_program(["journal", "--marks", "m", STANDARD, "a"]), (3, b"", b"mls: m: differs at entry %d\n" % found[0].number))
+    same(ran_program(["journal", "--marks", "m", STANDARD, "a"]), (1, b"", lacking))
+    same(verify("a"), (3, b"", lacking))
+    gone = [it for it in found if it.number < first]
+    ended = gone[-1].digest.hex()
+    (status, output, error) = verify("a", "m", "--from", ended)
+    same((status, error), (0, lacking))
+    lines = output.splitlines()
+    same(lines[:2], [b"entries %d" % due.next, b"last %s" % found[-1].digest.hex().encode()])
+    same(lines[2].split()[1], found[len(gone)].time)
+    for other in ("0" * 64, found[len(gone)].digest.hex()):
+        same(verify("a", "m", "--from", other), (3, b"", lacking + b"mls: m: differs at entry %d\n" % gone[-1].number))
+    # an entry that is here is another one
+    path = segment("a", first)
+    text = content(path)
+    os.chmod(path, 0o600)
+    put(path, text.replace(b" yes\n", b" no star\n", 1))
+    same(verify("a", "m", "--from", ended)[0], 3)
+    put(path, text)
+    # the marks of the missing entries were moved away with them
+    put_marks(found[len(gone):])
+    same(verify("a", "m", "--from", ended), (0, output, lacking))
+    same(verify("a", "m", "--from", "0" * 64)[0], 3)
 
 
 def state_that_is_forged_under_marks():

@@ -218,32 +218,50 @@ def replay_of_segments():
     is_alike(words, "r", "whole")
 
 
+def missing(number, journal="a"):
+    """The line where the entries before the one of this number were moved away."""
+    return b"mls: %s: entries before %d are not here\n" % (journal.encode(), number)
+
+
+def is_alike_behind(words, number, journal, whole):
+    """What is said of the one journal, behind the line of the entries that aren't here."""
+    status, output, error = said(words, journal, whole)
+    same((words, ran_program(words)), (words, (status, output, missing(number, journal) + error)))
+
+
 def files_in_an_archive():
-    """Once the first files are moved away, questions about states from there on are answered: those before a state that was kept, and all
-    behind it; the others, and replay, say that the first entries lack."""
+    """Once the first files are moved away, each question says which entries are not here. Those about states from there on are answered: before
+    a state that was kept, and all behind it; the others, and replay, are refused by that line alone."""
     due = filled("a", 2_500)
     whole, closed = put("whole", due.journal), numbered("a")
     place = len(closed) // 2
     for number in closed[:place]:
         os.remove(segment("a", number))
-    lacking = (3, b"", b"mls: a: replay 1 Number at 0\n")
-    for at in (closed[place], closed[place] + 3, closed[-1], due.next, None):
+    first = closed[place]
+    lacking = (1, b"", missing(first))
+    for at in (first, first + 3, closed[-1], due.next, None):
         for words in about_a_state("a", at=at):
-            is_alike(words, "a", whole)
+            is_alike_behind(words, first, "a", whole)
     for words in about_a_state("a", at=closed[place - 1]):
         if words[0] == "explain" and LINE not in words:
             same((words, ran_program(words)), (words, lacking))
         else:
-            is_alike(words, "a", whole)
-    for words in (["replay", STANDARD, "a"], ["state", "--at", str(closed[place] - 1), STANDARD, "a"]):
-        same(ran_program(words), lacking)
-    # all closed files, and the live one is empty: replay says that entries are missing
+            is_alike_behind(words, first, "a", whole)
+    for words in (["replay", STANDARD, "a"], ["state", "--at", str(first - 1), STANDARD, "a"], ["journal", STANDARD, "a"],
+                  ["journal", "--json", STANDARD, "a"], ["held", STANDARD, "a"], ["usage", STANDARD, "a"], ["report", STANDARD, "a"],
+                  ["compare", STANDARD, STANDARD, "a"], ["who", "--ever", "--journal", "a", STANDARD, "plans"],
+                  ["about", "--journal", "a", STANDARD, "ann"]):
+        same((words, ran_program(words)), (words, lacking))
+    # before entry 0 the state is that of the start
+    is_alike_behind(["state", "--at", "0", STANDARD, "a"], first, "a", whole)
+    # all closed files, and the live one is empty: the state is that behind the last entry
     for number in closed[place:]:
         os.remove(segment("a", number))
     put("a", b"")
     last = numbered("a", "state.")[-1]
-    same(ran_program(["state", STANDARD, "a"])[:2], (0, content(state("a", last))))
-    same(ran_program(["replay", STANDARD, "a"]), (3, b"", b"mls: %s: behind the last entry\n" % state("a", last).encode()))
+    same(ran_program(["state", STANDARD, "a"]), (0, content(state("a", last)), missing(last)))
+    for words in (["replay", STANDARD, "a"], ["journal", STANDARD, "a"]):
+        same((words, ran_program(words)), (words, (1, b"", missing(last))))
 
 
 def files_that_a_crash_left():

@@ -1,22 +1,23 @@
 /* mls.h: a proved reference monitor for C programs.
  *
- * A handle is closed or open. It is open with the names of a start, the start, and a journal; the
- * state of the monitor is the fold of the rules over the journal from the start, and is always
- * secure. Each call says what becomes of the handle and what it tells, for every status;
- * docs/EMBEDDING.md has the table, and crates/mls_c the contracts, which are proved.
+ * A handle is closed or open. An open handle has the names of a start, the start, and a journal.
+ * The state of its monitor is the fold of the rules over the journal from the start, and is always
+ * secure. The comment of each call gives its effect on the handle and its output, for every status;
+ * docs/CALLS.md is the reference with examples, and crates/mls_c has the contracts, which are
+ * proved.
  *
- * What the caller keeps, and nothing checks:
- * - The caller allocates a handle, as MLS_INIT or all zeros, and never copies it, writes to it or
- *   moves it while it is open.
- * - Pointers are valid for what they are lent for, aligned, and none overlaps another of the same
- *   call, but that what is only read may be lent twice. Where a length is 0, the pointer beside it
- *   may be null; no other may.
- * - One call at a time works on a handle, and what one thread did with it is ordered before what
- *   the next does: by a thread's start or join, say, or a mutex, as mls_shared.h has. Calls on
- *   different handles are made by any threads at once. Many threads share one monitor as an office:
- *   each has the handle of a session of its own, and mls_session_check, mls_session_decide and
+ * Duties of the caller, which nothing checks:
+ * - The caller allocates a handle, as MLS_INIT or all zeros. It never copies the handle or writes to
+ *   it, and does not move it while it is open.
+ * - Pointers are aligned, and valid for what the call reads or writes. None overlaps another of the
+ *   same call, except that memory that the call only reads may be passed twice. If a length is 0,
+ *   the pointer beside it may be null; no other pointer may be null.
+ * - One call at a time works on a handle. If threads pass a handle on, their calls are ordered: by
+ *   a thread's start or join, say, or a mutex, as mls_shared.h has. Calls on different handles may
+ *   run in different threads at the same time. Threads share one monitor as an office: each has the
+ *   handle of a session of its own, and mls_session_check, mls_session_decide and
  *   mls_session_submit on different sessions run side by side.
- * - mls_dominates and the words of numbers take no handle, and are called by any threads at once.
+ * - mls_dominates and the names of numbers take no handle; any threads may call them at once.
  * - No call is made from a signal handler, nor in the forked child of a process with threads.
  * Memory comes from malloc, realloc and free. mls_close frees what the library holds, and
  * mls_forget may free memory of entries.
@@ -35,15 +36,16 @@ extern "C" {
 #define MLS_VERSION_MAJOR 0
 #define MLS_VERSION_MINOR 2
 
-/* Statuses: MLS_OK, or below 0, where the handle is as it was; then only what the comments of the
- * calls name is written, as the fault of MLS_ESTART, MLS_EJOURNAL, MLS_EREPLAY and MLS_ESTATE and
- * the length of MLS_ERANGE. The decision is never in the status. */
+/* Statuses: MLS_OK, or a number below 0. With a status below 0 the handle is unchanged, and the call
+ * writes only the output that its comment names for that status: the fault of MLS_ESTART,
+ * MLS_EJOURNAL, MLS_EREPLAY and MLS_ESTATE, and the length of MLS_ERANGE. The decision is never in
+ * the status. */
 enum {
     MLS_OK = 0,
     MLS_ECLOSED = -1,   /* the handle is closed */
     MLS_EOPEN = -2,     /* the handle is open already */
     MLS_ENOMEM = -3,    /* an allocation failed */
-    MLS_EINVAL = -4,    /* the numbers are no request, label or kind, the text no label, or there
+    MLS_EINVAL = -4,    /* the numbers are no request, label or kind, the text is no label, or there
                            are too many entries */
     MLS_ESTART = -5,    /* the start is refused: the fault says why */
     MLS_EJOURNAL = -6,  /* a line of the journal is no entry's: the fault says which and why */
@@ -58,8 +60,8 @@ enum {
 enum {
     MLS_GET = 0,            /* object, mode */
     MLS_RELEASE = 1,        /* object, mode */
-    MLS_GIVE = 2,           /* object, mode, and the other subject that is permitted it */
-    MLS_RESCIND = 3,        /* object, mode, and the other subject that is permitted it no longer */
+    MLS_GIVE = 2,           /* object, mode, and the other subject, which gets the permission */
+    MLS_RESCIND = 3,        /* object, mode, and the other subject, which loses the permission */
     MLS_CREATE = 4,         /* object: the parent; security, integrity: the new object's labels */
     MLS_DELETE = 5,         /* object */
     MLS_SUBJECT_LEVEL = 6,  /* security: the subject's new current label */
@@ -118,14 +120,14 @@ typedef struct {
     uint64_t categories[4];
 } mls_label;
 
-/* A request. What its action doesn't use isn't looked at. */
+/* A request. The library ignores the members that its action doesn't use. */
 typedef struct {
     uint8_t action, mode;
     uint16_t subject, other, object;
     mls_label security, integrity;
 } mls_request;
 
-/* An answer: the number of its entry, the reply, and the object that was made where the reply is
+/* An answer: the number of its entry, the reply, and the number of the new object if the reply is
  * MLS_CREATED, else 0. */
 typedef struct {
     uint64_t number;
@@ -140,20 +142,20 @@ typedef struct {
     mls_request request;
 } mls_journal_entry;
 
-/* Why a start, a journal or a state is refused: the kind of the fault, a number that says more, and
+/* Why a start, a journal or a state is refused: the kind of the fault, a number with details, and
  * the place. */
 typedef struct {
     uint16_t kind, number;
     uint64_t place;
 } mls_fault;
 
-/* A subject: its labels, and 1 where the star property doesn't bind it, else 0. */
+/* A subject: its labels, and 1 if the star property doesn't bind it, else 0. */
 typedef struct {
     mls_label maximum, current, integrity;
     uint8_t trusted;
 } mls_subject_info;
 
-/* An object: its labels, and its parent, 0 where it is the root. */
+/* An object: its labels, and its parent, 0 if it is the root. */
 typedef struct {
     mls_label security, integrity;
     uint16_t parent;
@@ -170,8 +172,8 @@ typedef struct {
     uint8_t permitted, held;
 } mls_pair_info;
 
-/* How many entries, subjects and active objects there are, and the number that the next object will
- * have, MLS_OBJECTS where there is none. Subjects have the numbers below how many there are. */
+/* The numbers of entries, subjects and active objects, and the number of the next object,
+ * MLS_OBJECTS if there is none. Subjects have the numbers below their count. */
 typedef struct {
     uint64_t entries;
     uint16_t subjects, objects, next;
@@ -192,14 +194,14 @@ enum {
     MLS_INTEGRITY_OF_SUBJECT = 7   /* of: the subject */
 };
 
-/* A label that a condition compares: what it is the label of, the number of the object or the
- * subject, else 0, and the label. */
+/* A label that a condition compares: what it is the label of; the number of that object or subject,
+ * else 0; and the label. */
 typedef struct {
     uint16_t kind, of;
     mls_label label;
 } mls_term;
 
-/* What a condition rests on, and the fields that say it; the others are 0. */
+/* What a condition rests on, and the fields that it uses; the others are 0. */
 enum {
     MLS_BY_PERMISSION = 1,   /* the matrix permits subject the object in the mode */
     MLS_BY_NO_OBSERVING = 2, /* the mode doesn't observe */
@@ -225,8 +227,8 @@ enum {
 /* No request has more conditions than this. */
 enum { MLS_CONDITIONS = 4 };
 
-/* A condition of a request: the reason of the denial where it is the first that fails, 1 where it
- * holds, and what it rests on. */
+/* A condition of a request: the reason of the denial if it is the first that fails, 1 if it holds,
+ * and what it rests on. */
 typedef struct {
     uint16_t reason;
     uint8_t holds, also, basis, mode;
@@ -235,8 +237,8 @@ typedef struct {
 } mls_condition;
 
 /* The remedy of a get: 1 and the least current label that the subject can take now after which the
- * get is granted; 0 where there is none. Of a get that is granted anyway it may be a lower label
- * than the current one. */
+ * get is granted; 0 if there is none. For a get that is granted anyway it may be a lower label than
+ * the current one. */
 typedef struct {
     uint8_t there;
     mls_label label;
@@ -252,64 +254,63 @@ typedef mls_journal_entry mls_entry_t;
 typedef mls_fault mls_fault_t;
 
 /* Opens a closed handle from the bytes of a start file, with an empty journal.
- * MLS_EOPEN, MLS_ESTART, MLS_ENOMEM. The fault is written where the status is MLS_ESTART, and else
- * left alone. */
+ * MLS_EOPEN, MLS_ESTART, MLS_ENOMEM. The fault is written only if the status is MLS_ESTART. */
 int mls_open(mls_monitor *m, const uint8_t *start, size_t len, mls_fault *fault);
 
-/* Opens a closed handle from the bytes of a start file and the text of a journal, whose numbers and
- * replies are computed anew. The first fault decides: of the start, then of the journal's lines,
- * then of the entries. MLS_EOPEN, MLS_ESTART, MLS_EJOURNAL, MLS_EREPLAY, MLS_ENOMEM. The fault is
- * written where the start or the journal is refused, and else left alone. */
+/* Opens a closed handle from the bytes of a start file and the text of a journal, and computes the
+ * journal's numbers and replies again. The first fault decides: of the start, then of the journal's
+ * lines, then of the entries. MLS_EOPEN, MLS_ESTART, MLS_EJOURNAL, MLS_EREPLAY, MLS_ENOMEM. The
+ * fault is written only if the start or the journal is refused. */
 int mls_resume(mls_monitor *m, const uint8_t *start, size_t len, const uint8_t *journal,
                size_t journal_len, mls_fault *fault);
 
 /* Opens a closed handle from the bytes of a start file and the text of a state to which number
- * entries led, as mls_state_text has it. It goes on from there as the handle that answered these:
- * objects keep their numbers, the next entry has this number, and the entries before it are not
- * there, as if they were forgotten. Whatever the text says, the state is secure and has what no
- * request changes of that start: the profile, the bounds of labels, and the subjects with their
- * maximum and integrity labels and trust. That those entries led to the state is for the caller to
- * know: nothing checks it. docs/EMBEDDING.md shows how.
- * MLS_EOPEN; MLS_ESTART; MLS_ESTATE, where the kind of the fault is 1 of a line that isn't as it
- * must be, and the place how many stand before it, 2 of a state of another start, and 3 of one that
- * isn't secure; MLS_EINVAL where number is above 2^63; MLS_ENOMEM. The fault is written where the
- * start or the state is refused, and else left alone. */
+ * entries led, as mls_state_text copies it out. The handle goes on as the one that answered these
+ * entries: objects keep their numbers, the next entry has this number, and the entries before it
+ * are as if forgotten. Whatever the text says, the state is secure and has what no request changes
+ * of that start: the profile, the bounds of labels, and the subjects with their maximum and
+ * integrity labels and trust. The caller must know that those entries led to the state: nothing
+ * checks it. docs/EMBEDDING.md shows how.
+ * MLS_EOPEN; MLS_ESTART; MLS_EINVAL if number is above 2^63; MLS_ENOMEM; MLS_ESTATE, with a fault of
+ * kind 1 for a line that isn't as it must be, its place the number of lines before it, of kind 2
+ * for a state of another start, and of kind 3 for one that isn't secure. The fault is written only
+ * if the start or the state is refused. */
 int mls_open_state(mls_monitor *m, const uint8_t *start, size_t len, const uint8_t *state,
                    size_t state_len, uint64_t number, mls_fault *fault);
 
-/* Answers a request by the rules, changes the state as they say, and adds just its entry to the
+/* Answers a request by the rules, changes the state as they say, and adds exactly its entry to the
  * journal. The session is written into the entry and means nothing else. MLS_ECLOSED, MLS_EINVAL,
- * MLS_ENOMEM; nothing is changed or written then. */
+ * MLS_ENOMEM: then nothing is changed or written. */
 int mls_submit(mls_monitor *m, uint32_t session, const mls_request *request, mls_answer *answer);
 
-/* Whether the subject holds an access to the object in the mode now: 1 or 0, and 0 too where the
- * handle is closed or the mode is none. It adds no entry and doesn't allocate. */
+/* Returns 1 if the subject holds an access to the object in the mode now; 0 if not, if the handle is
+ * closed, and if the mode is none. It adds no entry and doesn't allocate. */
 int mls_check(mls_monitor *m, uint16_t subject, uint16_t object, uint8_t mode);
 
 /* What mls_submit would answer now. Nothing changes, and it doesn't allocate. MLS_ECLOSED,
  * MLS_EINVAL. */
 int mls_decide(mls_monitor *m, const mls_request *request, mls_answer *answer);
 
-/* How many entries the journal has, with those that are forgotten; 0 where the handle is closed. */
+/* The number of entries in the journal, forgotten ones included; 0 if the handle is closed. */
 uint64_t mls_entries(mls_monitor *m);
 
 /* Copies out entry n, counted from 0, unless it is forgotten. MLS_ECLOSED, MLS_ENOTFOUND. */
 int mls_entry(mls_monitor *m, uint64_t n, mls_journal_entry *entry);
 
-/* Copies out the line of entry n, counted from 0, with its newline and without a byte of 0 after
- * it: the lines of all entries, one after the other, are the journal's text. The length of the line
- * is told with MLS_OK and with MLS_ERANGE, which leaves the buffer as it was. MLS_ECLOSED,
+/* Copies out the line of entry n, counted from 0, with its newline and without a zero byte after it:
+ * the lines of all entries, one after the other, are the journal's text. The length of the line is
+ * written with MLS_OK and with MLS_ERANGE, which leaves the buffer unchanged. MLS_ECLOSED,
  * MLS_ENOTFOUND, MLS_ERANGE, MLS_ENOMEM. */
 int mls_entry_text(mls_monitor *m, uint64_t n, char *buf, size_t cap, size_t *len);
 
-/* Forgets the entries with numbers below n, as far as they are there: mls_entry and mls_entry_text
- * find them no more. Their place is used again once they are as many as those that are kept, and
- * memory is given back where much of it is unused. All else stays as it was: the state, and the
- * numbers of the entries that come. MLS_ECLOSED. */
+/* Forgets the entries with numbers below n: mls_entry and mls_entry_text no longer find them. Their
+ * place is used again once they are as many as those that are kept, and memory is given back if
+ * much of it is unused. All else is unchanged, the state and the numbers of later entries too.
+ * MLS_ECLOSED. */
 int mls_forget(mls_monitor *m, uint64_t n);
 
 /* How many of the first entries are forgotten, which is the number of the first that can be read; 0
- * where the handle is closed. */
+ * if the handle is closed. */
 uint64_t mls_forgotten(mls_monitor *m);
 
 /* The number of a subject's or of an object's name in the start; objects that were made later have
@@ -321,101 +322,101 @@ int mls_object(mls_monitor *m, const uint8_t *name, size_t len, uint16_t *object
 int mls_read_label(mls_monitor *m, int kind, const uint8_t *text, size_t len, mls_label *label);
 
 /* Copies out a label's text in the scheme of its kind, as mls_entry_text does a line. MLS_ECLOSED,
- * MLS_EINVAL where the scheme has no such label, MLS_ERANGE, MLS_ENOMEM. */
+ * MLS_EINVAL if the scheme has no such label, MLS_ERANGE, MLS_ENOMEM. */
 int mls_write_label(mls_monitor *m, int kind, const mls_label *label, char *buf, size_t cap,
                     size_t *len);
 
-/* Whether label a dominates label b: 1 or 0, and 0 too where the level of one is above 15. It takes
- * no handle, and a and b may be the same label. */
+/* Returns 1 if label a dominates label b; 0 if not, and if the level of one is above 15. It takes no
+ * handle, and a and b may be the same label. */
 int mls_dominates(const mls_label *a, const mls_label *b);
 
-/* What simple security, star and integrity say of an access of the subject in the mode to what has
- * these labels and isn't an object, a row or a file say: MLS_YES, MLS_UNDEFINED where the subject
- * is unknown or a label outside the bounds, or MLS_DENIED and the reason of the first of the three
- * that fails, as in the rule for a get. The matrix isn't asked, nothing is held afterwards, no
- * entry is added, and it doesn't allocate. MLS_ECLOSED, MLS_EINVAL.
- * It says what holds now. No later level change sees the access, as it sees what is held of
- * objects: docs/EMBEDDING.md says how star is kept over rows. */
+/* Decides an access of the subject in the mode to something that has these labels and isn't an
+ * object, say a row or a file. The reply is MLS_YES; MLS_UNDEFINED if the subject is unknown or a
+ * label is outside the bounds; or MLS_DENIED plus the reason of the first that fails of simple
+ * security, star and integrity, as in the rule for a get. The matrix isn't asked, nothing is held
+ * afterwards, no entry is added, and it doesn't allocate. MLS_ECLOSED, MLS_EINVAL.
+ * The decision is for now only: a later level change doesn't see the access, as it would see one
+ * that is held. docs/EMBEDDING.md says how to keep star over rows. */
 int mls_decide_label(mls_monitor *m, uint16_t subject, uint8_t mode, const mls_label *security,
                      const mls_label *integrity, uint16_t *reply);
 
-/* Copies out a subject; an active object; which modes of a subject on an object are permitted and
- * held; and how much there is. They don't allocate. MLS_ECLOSED; MLS_ENOTFOUND where there is no
- * such subject or the object isn't active. */
+/* Copy out a subject; an active object; which modes of a subject on an object are permitted and
+ * held; and the counts. They don't allocate. MLS_ECLOSED; MLS_ENOTFOUND if there is no such subject
+ * or the object isn't active. */
 int mls_read_subject(mls_monitor *m, uint16_t subject, mls_subject_info *info);
 int mls_read_object(mls_monitor *m, uint16_t object, mls_object_info *info);
 int mls_read_pair(mls_monitor *m, uint16_t subject, uint16_t object, mls_pair_info *info);
 int mls_count(mls_monitor *m, mls_counts *counts);
 
-/* The least child of an object whose number is above another one: of 0 and then of each child that
- * is told, it tells all children. It doesn't allocate. MLS_ECLOSED; MLS_ENOTFOUND where the object
- * isn't active or has no such child. */
+/* Returns the least child of an object with a number above another one. Called with 0 and then with
+ * each child that it returned, it returns all children. It doesn't allocate. MLS_ECLOSED;
+ * MLS_ENOTFOUND if the object isn't active or has no such child. */
 int mls_next_child(mls_monitor *m, uint16_t object, uint16_t above, uint16_t *child);
 
-/* Copies out the name that the start has for a subject's or an object's number, as mls_entry_text
- * does a line. They don't allocate. MLS_ECLOSED, MLS_ENOTFOUND where it has none, MLS_ERANGE. */
+/* Copy out the name that the start has for a subject's or an object's number, as mls_entry_text does
+ * a line. They don't allocate. MLS_ECLOSED, MLS_ENOTFOUND if it has none, MLS_ERANGE. */
 int mls_subject_name(mls_monitor *m, uint16_t subject, char *buf, size_t cap, size_t *len);
 int mls_object_name(mls_monitor *m, uint16_t object, char *buf, size_t cap, size_t *len);
 
-/* Copies out the conditions of a request, in the order of its rule, and the remedy, which only a
- * get has. How many conditions there are is told with MLS_OK and with MLS_ERANGE, which writes
- * nothing else; cap is how many have room. MLS_ECLOSED; MLS_EINVAL; MLS_ENOTFOUND where the reply
- * is MLS_UNDEFINED; MLS_ERANGE; MLS_ENOMEM. */
+/* Copies out the conditions of a request, in the order of its rule, and the remedy, which only a get
+ * has. cap is the number of rows. The number of conditions is written with MLS_OK and with
+ * MLS_ERANGE, which writes nothing else. MLS_ECLOSED; MLS_EINVAL; MLS_ENOTFOUND if the reply is
+ * MLS_UNDEFINED; MLS_ERANGE; MLS_ENOMEM. */
 int mls_explain(mls_monitor *m, const mls_request *request, mls_condition *conditions, size_t cap,
                 size_t *count, mls_remedy *remedy);
 
 /* Copies out a start file of the present state, from which mls_open opens a handle that holds what
- * this one does, and writes the number that each object has there, MLS_OBJECTS where it isn't
- * active: numbers has MLS_OBJECTS members. The objects of the start are numbered without gaps,
+ * this one does. numbers has MLS_OBJECTS members: the call writes the number that each object has
+ * in the file, MLS_OBJECTS if it isn't active. The objects of the file are numbered without gaps,
  * parents before their children; they keep their names, and one without gets a new one. The length
- * of the text is told with MLS_OK and with MLS_ERANGE, which writes nothing else. It is read back
- * and compared with the state first. MLS_ECLOSED; MLS_ERANGE; MLS_ENOMEM; MLS_ESTART where what was
- * written differs, of which no case is known.
- * With it a handle whose journal has grown is changed for a new one: docs/EMBEDDING.md shows it. */
+ * of the text is written with MLS_OK and with MLS_ERANGE, which writes nothing else. The text is
+ * first read back and compared with the state. MLS_ECLOSED; MLS_ERANGE; MLS_ENOMEM; MLS_ESTART if
+ * what was written differs, of which no case is known.
+ * Use it to replace a handle whose journal has grown: docs/EMBEDDING.md shows it. */
 int mls_state_start(mls_monitor *m, char *buf, size_t cap, size_t *len, uint16_t *numbers);
 
-/* Copies out the text of the present state as mls_entry_text does a line: the one that mls state
- * prints (docs/FORMATS.md, "state"), with a line for each thing by its name or its number.
- * mls_open_state goes on from it. MLS_ECLOSED, MLS_ERANGE, MLS_ENOMEM. */
+/* Copies out the text of the present state as mls_entry_text does a line: the text that mls state
+ * prints (docs/FORMATS.md, "state"). mls_open_state goes on from it. MLS_ECLOSED, MLS_ERANGE,
+ * MLS_ENOMEM. */
 int mls_state_text(mls_monitor *m, char *buf, size_t cap, size_t *len);
 
 /* Closes a handle and frees what it holds. A closed handle stays closed. */
 void mls_close(mls_monitor *m);
 
-/* Opens an office: the monitor of an open handle goes into it, and that handle is then closed; each
- * of the count handles of sessions, 1 to MLS_SESSIONS and all closed, is opened with a session.
+/* Opens an office: the monitor of an open handle moves into it, and that handle is then closed. The
+ * count handles of sessions, 1 to MLS_SESSIONS and all closed, are opened with a session each.
  * Session n has the number n, which is written into its entries. The handles of sessions may then
- * go to other threads. What else is asked of a monitor, names and labels say, is asked before or
- * after. MLS_EOPEN where the office or a session is open; MLS_ECLOSED where the monitor's handle
- * is; MLS_EINVAL; MLS_ENOMEM. All is as it was then. */
+ * go to other threads. The other calls on a monitor, for names and labels say, are made before or
+ * after. MLS_EOPEN if the office or a session is open; MLS_ECLOSED if the monitor's handle is
+ * closed; MLS_EINVAL; MLS_ENOMEM: then all is unchanged. */
 int mls_office_open(mls_office *office, mls_monitor *m, mls_session *sessions, uint16_t count);
 
-/* Closes an office that all its sessions are given back to, in the order in which they were opened;
- * no call is at work on one. The monitor's handle is opened again, with the one journal of all
- * sessions, and the sessions' are closed. It needs no memory. MLS_EOPEN where the monitor's handle
- * is open; MLS_ECLOSED where the office is; MLS_EINVAL where one isn't this office's session of
- * that place; MLS_EBUSY where one was dropped. All is as it was then. */
+/* Closes an office. It is given all sessions of the office, in the order in which they were opened,
+ * while no call works on one. The monitor's handle is opened again, with the one journal of all
+ * sessions, and the handles of the sessions are closed. It needs no memory. MLS_EOPEN if the
+ * monitor's handle is open; MLS_ECLOSED if the office is closed; MLS_EINVAL if one isn't this
+ * office's session of that position; MLS_EBUSY if one was dropped: then all is unchanged. */
 int mls_office_close(mls_office *office, mls_session *sessions, mls_monitor *m);
 
-/* Frees an office that isn't closed, with its monitor once its last session is dropped: the journal
- * is lost. Calls may be at work on its sessions, and go on. A closed one stays closed. */
+/* Frees an office that isn't closed, and its monitor once its last session is dropped: the journal
+ * is lost. Calls may be at work on its sessions, and go on. A closed office stays closed. */
 void mls_office_drop(mls_office *office);
 
-/* Frees a session, without which its office can't be closed any more, but dropped. */
+/* Frees a session. Its office can then only be dropped, not closed. */
 void mls_session_drop(mls_session *s);
 
-/* Answers a request by the rules, changes the state as they say, and adds just its entry to the one
- * journal, with the session's number. It tries the lock once, and never waits. MLS_ECLOSED;
- * MLS_EINVAL; MLS_EBUSY where another session is at the monitor: ask again, as mls_wait_submit of
- * mls_shared.h does; MLS_ENOMEM. Nothing is changed or written then. */
+/* Answers a request by the rules, changes the state as they say, and adds exactly its entry to the
+ * one journal, with the session's number. It tries the lock once, and never waits. MLS_ECLOSED;
+ * MLS_EINVAL; MLS_ENOMEM; MLS_EBUSY if another session is at the monitor: ask again, as
+ * mls_wait_submit of mls_shared.h does. With these nothing is changed or written. */
 int mls_session_submit(mls_session *s, const mls_request *request, mls_answer *answer);
 
-/* Whether the subject holds an access to the object in the mode: it writes 1 or 0, as it was at
- * some moment between the session's last entry and its next. It reads one word and takes no lock;
- * only where the word is blank, or there is none, it tries the lock once and fills the word. Words
- * are blank when the office opens, and those of an object once it is deleted. MLS_ECLOSED;
- * MLS_EINVAL where the mode is none; MLS_EBUSY: ask again, as mls_wait_check does. It writes 0
- * then. It adds no entry and doesn't allocate. */
+/* Writes 1 if the subject holds an access to the object in the mode, else 0, as it was at some
+ * moment between the session's last entry and its next. It reads one word and takes no lock. Only
+ * if the word is blank, or there is none, it tries the lock once and fills the word. Words are
+ * blank when the office opens, and those of an object after it is deleted. MLS_ECLOSED; MLS_EINVAL
+ * if the mode is none; MLS_EBUSY: ask again, as mls_wait_check does. With these it writes 0. It
+ * adds no entry and doesn't allocate. */
 int mls_session_check(mls_session *s, uint16_t subject, uint16_t object, uint8_t mode, int *held);
 
 /* What mls_session_submit would answer now, with the number that the entry would have if no other
@@ -426,7 +427,7 @@ int mls_session_decide(mls_session *s, const mls_request *request, mls_answer *a
 /* The version of the library, as MAJOR.MINOR. */
 const char *mls_version(void);
 
-/* The words of the numbers, as the program mls writes them; "?" where a number has none. */
+/* The names of numbers, as the program mls writes them; "?" if a number has none. */
 const char *mls_status_word(int status);
 const char *mls_action_word(int action);
 const char *mls_mode_word(int mode);
@@ -434,7 +435,7 @@ const char *mls_reply_word(int reply);
 const char *mls_reason_word(int reason);
 
 /* The eight actions: each makes its request and submits it, with the statuses of mls_submit. The
- * subject is the one that asks. They are no part of the library, nor of what is proved. */
+ * subject is the one that asks. These functions are not in the library, and not proved. */
 #if defined(__cplusplus) || (defined(__STDC_VERSION__) && __STDC_VERSION__ >= 199901L)
 #define MLS_INLINE static inline
 #elif defined(__GNUC__)
@@ -443,7 +444,7 @@ const char *mls_reason_word(int reason);
 #define MLS_INLINE static
 #endif
 
-/* A request for an access or a permission, or of none that names another subject or a label. */
+/* A request whose other subject and labels are 0. */
 MLS_INLINE mls_request mls_request_of(uint8_t action, uint16_t subject, uint16_t object,
                                       uint8_t mode) {
     mls_request request = { 0, 0, 0, 0, 0, { 0, { 0, 0, 0, 0 } }, { 0, { 0, 0, 0, 0 } } };
@@ -468,7 +469,7 @@ MLS_INLINE int mls_release(mls_monitor *m, uint32_t session, uint16_t subject, u
     return mls_submit(m, session, &request, answer);
 }
 
-/* Has the other subject permitted the object in the mode. */
+/* Gives the other subject a permission on the object in the mode. */
 MLS_INLINE int mls_give(mls_monitor *m, uint32_t session, uint16_t subject, uint16_t other,
                         uint16_t object, uint8_t mode, mls_answer *answer) {
     mls_request request = mls_request_of(MLS_GIVE, subject, object, mode);
@@ -476,7 +477,7 @@ MLS_INLINE int mls_give(mls_monitor *m, uint32_t session, uint16_t subject, uint
     return mls_submit(m, session, &request, answer);
 }
 
-/* Has the other subject permitted it no longer. */
+/* Ends a permission of the other subject. */
 MLS_INLINE int mls_rescind(mls_monitor *m, uint32_t session, uint16_t subject, uint16_t other,
                            uint16_t object, uint8_t mode, mls_answer *answer) {
     mls_request request = mls_request_of(MLS_RESCIND, subject, object, mode);
@@ -484,7 +485,7 @@ MLS_INLINE int mls_rescind(mls_monitor *m, uint32_t session, uint16_t subject, u
     return mls_submit(m, session, &request, answer);
 }
 
-/* Makes an object below its parent; the answer has its number where the reply is MLS_CREATED. */
+/* Makes an object below its parent; the answer has its number if the reply is MLS_CREATED. */
 MLS_INLINE int mls_create(mls_monitor *m, uint32_t session, uint16_t subject, uint16_t parent,
                           const mls_label *security, const mls_label *integrity,
                           mls_answer *answer) {
@@ -517,8 +518,8 @@ MLS_INLINE int mls_relabel(mls_monitor *m, uint32_t session, uint16_t subject, u
     return mls_submit(m, session, &request, answer);
 }
 
-/* Whether the subject may see what has this label, or change it: mls_decide_label says yes. 1 or 0,
- * and 0 too where the handle is closed or the numbers are none. */
+/* Returns 1 if the reply of mls_decide_label is MLS_YES; 0 if not, if the handle is closed, and if
+ * the numbers are no mode or no labels. */
 MLS_INLINE int mls_may(mls_monitor *m, uint16_t subject, uint8_t mode, const mls_label *security,
                        const mls_label *integrity) {
     uint16_t reply = MLS_UNDEFINED;
@@ -526,16 +527,16 @@ MLS_INLINE int mls_may(mls_monitor *m, uint16_t subject, uint8_t mode, const mls
            reply == MLS_YES;
 }
 
-/* The reason of a denial, 0 of any other reply: mls_reason_word has its word. */
+/* The reason of a denial, 0 for any other reply: mls_reason_word has its name. */
 MLS_INLINE int mls_reason_of(uint16_t reply) { return reply > MLS_DENIED ? reply - MLS_DENIED : 0; }
 
-/* Whether an object is active: 1 or 0. */
+/* Returns 1 if an object is active, else 0. */
 MLS_INLINE int mls_is_active(mls_monitor *m, uint16_t object) {
     mls_object_info info;
     return mls_read_object(m, object, &info) == MLS_OK;
 }
 
-/* The least child of an object above another number, 0 where there is none:
+/* The least child of an object above another number, 0 if there is none:
  * for (c = mls_child_after(m, o, 0); c; c = mls_child_after(m, o, c)) .. */
 MLS_INLINE uint16_t mls_child_after(mls_monitor *m, uint16_t object, uint16_t above) {
     uint16_t child = 0;

@@ -4,10 +4,10 @@
  * A mls_shared is made by MLS_SHARED_INIT, or by mls_shared_init, and neither copied nor moved
  * after that. Each call below takes the mutex, makes the call of mls.h that has its name, and gives
  * the mutex back; statuses and all else are as mls.h says. Between two calls another thread may
- * ask: what mls_shared_check says was so at one moment of the call.
+ * ask: what mls_shared_check returns was true at one moment of the call.
  *
- * The mutex is no part of what a signal handler may use. It isn't given back where a thread is
- * cancelled within a call, which has no cancellation point but those of malloc and free.
+ * A signal handler may not use the mutex. If a thread is cancelled within a call, the mutex isn't
+ * given back; a call has no cancellation points except those of malloc and free.
  */
 #ifndef MLS_SHARED_H
 #define MLS_SHARED_H
@@ -26,7 +26,7 @@ typedef struct {
 
 #define MLS_SHARED_INIT { PTHREAD_MUTEX_INITIALIZER, MLS_INIT }
 
-/* Takes the mutex. Where that fails, the handle was never made: no call may go on without it. */
+/* Takes the mutex. If that fails, the handle was never made: no call may go on without it. */
 MLS_INLINE mls_monitor *mls_shared_lock(mls_shared *s) {
     if (pthread_mutex_lock(&s->mutex)) abort();
     return &s->monitor;
@@ -37,7 +37,7 @@ MLS_INLINE void mls_shared_unlock(mls_shared *s) {
     if (pthread_mutex_unlock(&s->mutex)) abort();
 }
 
-/* Makes a handle, which is closed: MLS_OK, or MLS_ENOMEM where the system has no mutex. */
+/* Makes a handle, which is closed: MLS_OK, or MLS_ENOMEM if the system has no mutex. */
 MLS_INLINE int mls_shared_init(mls_shared *s) {
     mls_shared closed = MLS_SHARED_INIT;
     *s = closed;
@@ -229,7 +229,7 @@ MLS_INLINE void mls_shared_destroy(mls_shared *s) {
     if (pthread_mutex_destroy(&s->mutex)) abort();
 }
 
-/* How a session that was told MLS_EBUSY pauses before it asks again: twice as long each round, and
+/* How a session that got MLS_EBUSY pauses before it asks again: twice as long each round, and
  * from round MLS_ROUNDS on it gives its time slice to other threads. */
 enum { MLS_ROUNDS = 7 };
 
@@ -264,7 +264,7 @@ MLS_INLINE int mls_wait_decide(mls_session *s, const mls_request *request, mls_a
     return status;
 }
 
-/* 1 or 0, and 0 too where the handle is closed or the mode is none, as mls_check. */
+/* Returns 1 or 0; 0 also if the handle is closed or the mode is none, as mls_check. */
 MLS_INLINE int mls_wait_check(mls_session *s, uint16_t subject, uint16_t object, uint8_t mode) {
     unsigned round = 0;
     int held;

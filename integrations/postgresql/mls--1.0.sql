@@ -34,9 +34,11 @@ REVOKE EXECUTE ON FUNCTION mls.session() FROM public;
 CREATE FUNCTION mls.is_protected(regclass) RETURNS bool AS 'MODULE_PATHNAME', 'mls_is_protected'
   LANGUAGE C STRICT STABLE PARALLEL RESTRICTED;
 
+-- (each names pg_temp last: a session's own tables would else be found before the catalogs)
+
 -- Protects one table. The policies that decide are restrictive: no other policy opens what they close. As row security
 -- shows nothing without a permissive policy, there is one that permits all; a table with policies of its own drops it.
-CREATE PROCEDURE mls.protect_one(t regclass) LANGUAGE plpgsql SET search_path = pg_catalog AS $$
+CREATE PROCEDURE mls.protect_one(t regclass) LANGUAGE plpgsql SET search_path = pg_catalog, pg_temp AS $$
 BEGIN
   EXECUTE format('ALTER TABLE %s ALTER label SET NOT NULL, ENABLE ROW LEVEL SECURITY, FORCE ROW LEVEL SECURITY', t);
   EXECUTE format('CREATE POLICY mls_open ON %s USING (true)', t);
@@ -46,7 +48,8 @@ BEGIN
                  'USING (mls.may_write(label)) WITH CHECK (mls.must_write(label))', t);
   EXECUTE format('CREATE POLICY mls_delete ON %s AS RESTRICTIVE FOR DELETE USING (mls.may_write(label))', t);
   IF NOT mls.is_protected(t) THEN
-    RAISE EXCEPTION 'mls: the column label of % is to be of the type mls.label, or text', t;
+    RAISE EXCEPTION 'mls: the column label of % is to be of the type mls.label, or text', t
+      USING HINT = 'Its collation is to tell all texts apart.';
   END IF;
 END $$;
 
@@ -57,7 +60,7 @@ CREATE FUNCTION mls.is_kept_key(oid) RETURNS bool AS 'MODULE_PATHNAME', 'mls_is_
 -- What a table's indexes, statistics and types call: functions also that stand behind operators, casts to domains, and
 -- ranges, which ANALYZE measures.
 CREATE FUNCTION mls.functions_over(t regclass) RETURNS TABLE (f regprocedure)
-LANGUAGE sql STABLE SET search_path = pg_catalog AS $$
+LANGUAGE sql STABLE SET search_path = pg_catalog, pg_temp AS $$
   WITH RECURSIVE used AS (
     SELECT d.refclassid AS class, d.refobjid AS id FROM pg_depend d
       WHERE d.classid = 'pg_class'::regclass AND d.objid IN (SELECT indexrelid FROM pg_index WHERE indrelid = t)
@@ -76,13 +79,16 @@ $$;
 
 -- What of a protected table reads or locks rows beside its policies.
 CREATE FUNCTION mls.faults(t regclass) RETURNS TABLE (finding text, name text, remedy text)
-LANGUAGE sql STABLE SET search_path = pg_catalog AS $$
+LANGUAGE sql STABLE SET search_path = pg_catalog, pg_temp AS $$
   SELECT 'foreign key that tells', k.conname || ' on ' || k.conrelid::regclass,
       'drop it, or put label into both sides, and protect both tables'
     FROM pg_constraint k WHERE k.contype = 'f' AND t IN (k.conrelid, k.confrelid) AND NOT mls.is_kept_key(k.oid)
   UNION ALL SELECT 'table without protection above it', t || ' below ' || i.inhparent::regclass,
       'CALL mls.protect of that table, or ALTER TABLE .. NO INHERIT'
     FROM pg_inherits i WHERE i.inhrelid = t AND NOT mls.is_protected(i.inhparent)
+  UNION ALL SELECT 'table without protection below it', i.inhrelid::regclass || ' below ' || t,
+      'CALL mls.protect of both, or ALTER TABLE .. NO INHERIT or DETACH PARTITION'
+    FROM pg_inherits i WHERE i.inhparent = t AND NOT mls.is_protected(i.inhrelid)
   UNION ALL SELECT 'policy that is asked first', p.polname || ' on ' || t, 'ALTER POLICY .. RENAME TO own_..'
     FROM pg_policy p
     WHERE p.polrelid = t AND NOT p.polpermissive AND p.polname COLLATE "C" < 'mls_write'
@@ -95,7 +101,7 @@ $$;
 
 -- Protects tables that have a column `label`, and all that stand below them: their partitions and heirs. Tables that
 -- foreign keys join are named in one call.
-CREATE PROCEDURE mls.protect(VARIADIC t regclass[]) LANGUAGE plpgsql SET search_path = pg_catalog AS $$
+CREATE PROCEDURE mls.protect(VARIADIC t regclass[]) LANGUAGE plpgsql SET search_path = pg_catalog, pg_temp AS $$
 DECLARE
   one regclass;
   fault record;
@@ -120,7 +126,7 @@ END $$;
 
 -- What goes round the policies, or tells what they hide: each with what an administrator does about it.
 CREATE FUNCTION mls.audit() RETURNS TABLE (finding text, name text, remedy text)
-LANGUAGE sql STABLE SET search_path = pg_catalog AS $$
+LANGUAGE sql STABLE SET search_path = pg_catalog, pg_temp AS $$
   WITH relation AS (
     SELECT c.oid, c.relkind, c.reloptions, c.relowner, c.oid::regclass::text AS name
     FROM pg_class c JOIN pg_namespace n ON n.oid = c.relnamespace
@@ -160,6 +166,10 @@ LANGUAGE sql STABLE SET search_path = pg_catalog AS $$
     FROM pg_roles r JOIN pg_roles o ON o.oid <> r.oid AND pg_has_role(r.oid, o.oid, 'MEMBER')
     WHERE r.rolcanlogin AND NOT r.rolsuper AND NOT o.rolsuper
       AND o.oid IN (SELECT relowner FROM relation WHERE relkind IN ('r', 'p') AND mls.is_protected(relation.oid))
+  UNION ALL SELECT 'role that can become a superuser', r.rolname || ': ' || o.rolname,
+      format('REVOKE %I FROM %I', o.rolname, r.rolname)
+    FROM pg_roles r JOIN pg_roles o ON o.oid <> r.oid AND pg_has_role(r.oid, o.oid, 'MEMBER')
+    WHERE r.rolcanlogin AND NOT r.rolsuper AND (o.rolsuper OR o.rolbypassrls)
   UNION ALL SELECT 'role with CREATEROLE', r.rolname, 'ALTER ROLE .. NOCREATEROLE: it can become any owner, and more'
     FROM pg_roles r WHERE r.rolcreaterole AND NOT r.rolsuper
   UNION ALL SELECT 'role with CREATEDB', r.rolname, 'ALTER ROLE .. NOCREATEDB: nothing is asked in its databases'
@@ -170,6 +180,11 @@ LANGUAGE sql STABLE SET search_path = pg_catalog AS $$
   UNION ALL SELECT 'function that runs as a superuser', p.oid::regprocedure::text, 'ALTER FUNCTION .. SECURITY INVOKER'
     FROM pg_proc p JOIN pg_roles o ON o.oid = p.proowner
     WHERE p.prosecdef AND p.oid >= 16384 AND (o.rolsuper OR o.rolbypassrls)
+  UNION ALL SELECT 'trigger that runs as a superuser', t.tgname || ' on ' || r.name,
+      'ALTER FUNCTION .. OWNER TO a superuser, or DROP TRIGGER'
+    FROM pg_trigger t JOIN relation r ON r.oid = t.tgrelid JOIN pg_roles o ON o.oid = r.relowner
+      JOIN pg_proc p ON p.oid = t.tgfoid JOIN pg_roles f ON f.oid = p.proowner
+    WHERE NOT t.tgisinternal AND (o.rolsuper OR o.rolbypassrls) AND NOT f.rolsuper
   UNION ALL SELECT 'other extension', e.extname, 'DROP EXTENSION, unless nothing of it reads or leaves rows elsewhere'
     FROM pg_extension e WHERE e.extname NOT IN ('mls', 'plpgsql')
   UNION ALL SELECT 'activity that others see', 'track_activities', 'ALTER SYSTEM SET track_activities = off'

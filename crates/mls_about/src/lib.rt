@@ -16,5 +16,5 @@ mod telling;
 mod thing;
 mod times;
 
-pub use telling::about;
+pub use telling::list_about;
 pub use thing::Thing;

@@ -1,2 +1,5 @@
+mod Describing
+mod Explaining
+mod Histories
 mod Seen
 mod Starts

@@ -2,5 +2,4 @@ mod Followed
 mod Labels
 mod Mapped
 mod Refusals
-pub mod Replayed
 mod Tables

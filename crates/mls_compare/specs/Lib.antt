@@ -4,4 +4,3 @@ pub mod Comparing
 pub mod Entries
 pub mod Following
 pub mod Maps
-pub mod Snapshots

@@ -1,5 +1,5 @@
-//! Start files beside each other: how one differs from another, also over a journal, and the start that the state of a
-//! journal is.
+//! Start files beside each other: how one differs from another, also over a journal; and maps of a start's objects to
+//! those of a state.
 #![tactic(auto)]
 
 mod actions;
@@ -13,12 +13,8 @@ mod map;
 mod map_names;
 mod map_reading;
 mod object_table;
-mod snapshot_fault;
-mod snapshots;
 
 pub use compare_fault::CompareFault;
 pub use comparing::compare;
 pub use map::map_text;
 pub use map_names::{MapFault, names_after};
-pub use snapshot_fault::SnapshotFault;
-pub use snapshots::snapshot;

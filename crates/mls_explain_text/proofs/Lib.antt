@@ -1,4 +1,3 @@
-mod Alike
 mod Cuts
 mod Kept
 mod Listing

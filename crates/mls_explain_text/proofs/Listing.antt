@@ -1,22 +1,22 @@
 -- What is written of entries that are explained, and why it isn't.
-use Rattle.std.proofs.Common.{◌≡◌, ℕ, Bool, List, ◌++◌, Option, None, Result, Ok, Err, OnOk, filter, inl, inr, sym, ◌∙◌, subst}
+use Rattle.std.proofs.Common.{◌≡◌, ℕ, Bool, List, ◌++◌, Option, None, Result, Ok, Err, OnOk, filter, inl, sym, ◌∙◌, subst}
 use Rattle.std.proofs.KnownBytes.{Appends-trans}
 use Rattle.std.specs.Io.KnownBytes.{Appends}
 use Rattle.std.specs.List.{list_any}
 use Rattle.std.specs.Prelude.{IfOk, IfErr}
 use Rattle.mls_lines.specs.Names.{Names}
 use Rattle.mls_marks.specs.declared.row.Row.{Row}
-use Rattle.mls_replay.specs.Replays.{Replayed, ReplaysAt}
+use Rattle.mls_replay.specs.Replays.{Replayed}
 use Rattle.mls_replay.specs.declared.command.CommandFault.TheVariants.{Memory}
 use Rattle.mls_replay.specs.declared.question_fault.QuestionFault.TheVariants.{Files}
 use Rattle.mls_listings.specs.Choosing.{IsChosen, Words}
-use Rattle.mls_listings.specs.Listings.{RefusesNames, RefusesListing}
+use Rattle.mls_listings.specs.Listings.{RefusesNames}
 use Rattle.mls_listings.specs.Matching.{Choice, matches}
 use Rattle.mls_listings.specs.declared.list_fault.ListFault.{ListFault}
 use Rattle.mls_listings.specs.declared.list_fault.ListFault.TheVariants.{Question}
 use Rattle.mls_requests.specs.declared.entry.Entry.{Entry}
 use Rattle.mls_state.specs.State.{State}
-use Rattle.mls_explain_text.specs.Entries.{TellsEach, IsExplained, ExplainsOver, ListsExplained, RefusesWriting, Writes}
+use Rattle.mls_explain_text.specs.Entries.{TellsEach, IsExplained, ExplainsOver, RefusesWriting, Writes}
 use Rattle.mls_explain_text.specs.declared.write_fault.WriteFault.{WriteFault}
 use Rattle.mls_explain_text.specs.declared.write_fault.WriteFault.TheVariants as faults
 
@@ -49,13 +49,6 @@ pub replay_written : (r : Replayed) (marks : Option (List Row)) (asked : Words) 
 replay_written r marks asked c (Ok any) held holds chosen written = writes_also held holds (λ told is. (c, chosen, is)) written
 replay_written r marks asked c (Err fault) held holds chosen written = tt
 
--- those of a journal are
-pub journal_written : (bytes journal : List ℕ) (marks : Option (List Row)) (asked : Words) (r : Replayed) (result : Result Bool WriteFault) (held holds : Option (List ℕ))
-    → ReplaysAt bytes journal None r → IfOk result (λ any. Writes (λ told. ExplainsOver r marks asked told any) held holds)
-    → IfOk result (λ any. Writes (λ told. ListsExplained bytes journal marks asked told any) held holds)
-journal_written bytes journal marks asked r (Ok any) held holds replays written = writes_also held holds (λ told is. (r, replays, is)) written
-journal_written bytes journal marks asked r (Err fault) held holds replays written = tt
-
 refuses_also : {P Q : ListFault → Type 0} (result : Result Bool WriteFault) → ((fault : ListFault) → P fault → Q fault)
     → IfErr result (λ fault. RefusesWriting P fault) → IfErr result (λ fault. RefusesWriting Q fault)
 refuses_also (Ok any) also refused = tt
@@ -67,14 +60,3 @@ pub refuses_memory : (names : Names) (asked : Words) (result : Result Bool Write
     → IfErr result (λ fault. RefusesWriting (λ cause. cause ≡ Question (Files Memory)) fault)
     → IfErr result (λ fault. RefusesWriting (λ cause. RefusesNames names asked cause) fault)
 refuses_memory names asked result refused = refuses_also result (λ fault memory. inl memory) refused
-
--- why they aren't, where the replay went well
-names_refuse : (bytes journal : List ℕ) (asked : Words) (r : Replayed) → ReplaysAt bytes journal None r → (fault : ListFault) → RefusesNames r.names asked fault
-    → RefusesListing bytes journal asked fault
-names_refuse bytes journal asked r at fault (inl memory) = inl (Files Memory, tt, memory)
-names_refuse bytes journal asked r at fault (inr wrong) = inr (r, at, wrong)
-
-pub replay_refused : (bytes journal : List ℕ) (asked : Words) (r : Replayed) (result : Result Bool WriteFault) → ReplaysAt bytes journal None r
-    → IfErr result (λ fault. RefusesWriting (λ cause. RefusesNames r.names asked cause) fault)
-    → IfErr result (λ fault. RefusesWriting (λ cause. RefusesListing bytes journal asked cause) fault)
-replay_refused bytes journal asked r result at refused = refuses_also result (names_refuse bytes journal asked r at) refused

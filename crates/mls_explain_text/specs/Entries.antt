@@ -1,6 +1,6 @@
 -- What is listed of the entries of a journal, each with why it has its reply.
 use Rattle.std.specs.Prelude.{◌≡◌, ℕ, Bool, true, false, List, [], ◌∷◌, ◌++◌, filter, take}
-use Rattle.std.specs.Prelude.{Option, Some, None}
+use Rattle.std.specs.Prelude.{Option}
 use Rattle.std.specs.Io.KnownBytes.{Appends}
 use Rattle.std.specs.List.{list_any}
 use Rattle.mls_requests.specs.declared.ask.Ask.TheVariants.{Submit}
@@ -8,14 +8,14 @@ use Rattle.mls_requests.specs.declared.entry.Entry.{Entry}
 use Rattle.mls_lines.specs.Names.{Names}
 use Rattle.mls_marks.specs.declared.row.Row.{Row}
 use Rattle.mls_monitor.specs.Journal.{fold}
-use Rattle.mls_replay.specs.Replays.{Replayed, ReplaysAt}
+use Rattle.mls_replay.specs.Replays.{Replayed}
 use Rattle.mls_listings.specs.Choosing.{IsChosen, Words}
 use Rattle.mls_listings.specs.Listings.{stamped_line}
 use Rattle.mls_listings.specs.Matching.{Choice, matches}
 use Rattle.mls_listings.specs.declared.list_fault.ListFault.{ListFault}
 use Rattle.mls_state.specs.State.{State}
 use Rattle.mls_explain_text.specs.Explained.{Explains}
-use Rattle.mls_explain_text.specs.Files.{ExplainsEntry, ExplainsEither, SeesThat}
+use Rattle.mls_explain_text.specs.Files.{ExplainsEntry}
 use Rattle.mls_explain_text.specs.Under.{under_text}
 use Rattle.mls_explain_text.specs.declared.write_fault.WriteFault.{WriteFault}
 use Rattle.mls_explain_text.specs.declared.write_fault.WriteFault.TheVariants as faults
@@ -31,7 +31,7 @@ seen_before names start entries n =
 pub record IsUnder (names : Names) (start : State) (entries : List Entry) (e : Entry) (under : List ℕ) : Type 0 where
   pub told : List ℕ
   pub positive : Bool
-  pub explains : ExplainsEntry (seen_before names start entries e.number) (Some e.number) told positive
+  pub explains : ExplainsEntry (seen_before names start entries e.number) e.number told positive
   pub text : under ≡ under_text told
 
 -- A text is that of some of the entries: of each its line, and what stands under it. (own)
@@ -47,6 +47,12 @@ pub record AddsEntry (names : Names) (marks : Option (List Row)) (v : State) (e 
   pub told : List ℕ
   pub explains : Explains names v (Submit e.request) told
   pub text : new ≡ old ++ (stamped_line names marks e ++ under_text told)
+
+-- The lines of a text are those of a request's explanation behind its reply. (own)
+pub record TellsWhy (names : Names) (v : State) (r : Request) (text : List ℕ) : Type 0 where
+  pub told : List ℕ
+  pub explains : ExplainsRequest names v r told
+  pub lines : told_lines text ≡ behind_first (told_lines told)
 
 -- To a text this is added where an entry is asked for, and nothing where it isn't. (own)
 abbrev pub AddsWhere : Bool → Names → Option (List Row) → State → Entry → List ℕ → List ℕ → Type 0
@@ -65,12 +71,6 @@ abbrev pub ExplainsOver : Replayed → Option (List Row) → Words → List ℕ 
 ExplainsOver r marks asked told positive =
     (c : Choice) × IsChosen r.names asked c × IsExplained r.names r.start r.entries marks c told positive
 
--- A start file and a journal are replayed, and there is a listing of the entries that a filter asks for, each
--- explained, with their times by the rows of marks, where there are some. (own)
-abbrev pub ListsExplained : List ℕ → List ℕ → Option (List Row) → Words → List ℕ → Bool → Type 0
-ListsExplained bytes journal marks asked told positive =
-    (r : Replayed) × ReplaysAt bytes journal None r × ExplainsOver r marks asked told positive
-
 -- A writer was handed a text of which this is so, and nothing else. (own)
 abbrev pub Writes : (List ℕ → Type 0) → Option (List ℕ) → Option (List ℕ) → Type 0
 Writes P held holds = (told : List ℕ) × P told × Appends held holds told
@@ -78,14 +78,6 @@ Writes P held holds = (told : List ℕ) × P told × Appends held holds told
 -- A writer was handed a front of a text, of which the rest is left. (own)
 abbrev pub Pours : Option (List ℕ) → Option (List ℕ) → List ℕ → List ℕ → Type 0
 Pours held holds before after = (told : List ℕ) × Appends held holds told × (before ≡ told ++ after)
-
--- What stands under the line of an entry is what `mls explain --at` is answered of its number over these files, but for
--- the first line, each line behind two spaces. (own)
-abbrev pub AnswersAlike : List ℕ → List ℕ → Entry → List ℕ → Type 0
-AnswersAlike bytes journal e under =
-    (told : List ℕ) × (positive : Bool)
-    × SeesThat bytes (Some journal) (Some e.number) (λ seen. ExplainsEither seen (Some e.number) None told positive)
-    × (under ≡ under_text told)
 
 -- Why entries aren't written: the writer failed, or for such a fault of their listing. (own)
 abbrev pub RefusesWriting : (ListFault → Type 0) → WriteFault → Type 0

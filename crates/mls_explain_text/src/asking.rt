@@ -7,7 +7,6 @@ use crate::response::{Response, answer_to, push_response};
 use mls_requests::Ask;
 use mls_rows::{Form, Listing, Output};
 use mls_rules::State;
-use mls_wording::Answer;
 use std::alloc::{AllocError, Global};
 
 /// The text of the line of an answer.
@@ -39,19 +38,4 @@ pub fn list_answer(
         bytes: output.into_bytes(),
         is_positive: response.is_positive(),
     })
-}
-
-/// The line that a script would be answered in this state. It is positive for `yes`, `created` and `held`. Nothing
-/// changes.
-///
-/// # Errors
-/// `AllocError` where an allocation failed.
-pub fn answer_in(alloc: Global, state: &State, ask: &Ask) -> Result<Answer, AllocError>
-    ensures text { IfOk result (λ answer. string_bytes answer.text ≡ response_line (response_to state.now ask.now)) }
-    ensures positive { IfOk result (λ answer. answer.is_positive ≡ is_positive (response_to state.now ask.now)) }
-{
-    let response = answer_to(state, ask);
-    let text = response_text(alloc, &response)?;
-    let is_positive = response.is_positive();
-    Ok(Answer { text, is_positive })
 }

@@ -209,7 +209,7 @@ fn bytes_of(
 /// Why a line is answered as it is in this state, in a form: as the lines of [`explain_in`], or as one object with the
 /// answer, the conditions of the request's rule, each with the accesses in its way, and after a get that is denied its
 /// remedy; or with what the request names and isn't there. The answer is positive as that of
-/// [`answer_in`](crate::answer_in).
+/// [`list_answer`](crate::list_answer).
 ///
 /// # Errors
 /// `AllocError` where an allocation failed.

@@ -104,7 +104,7 @@ fn explain_ask(alloc: Global, names: &Names, state: &State, ask: &Ask) -> Result
 /// Why a line is answered as it is in this state: after the answer a line for each condition of the request's rule, in
 /// the rule's order, with the accesses in its way, and after a get that is denied its remedy; or a line for each thing
 /// that the request names and that isn't there. A check has its answer alone. The answer is positive as that of
-/// [`answer_in`](crate::answer_in).
+/// [`list_answer`](crate::list_answer).
 ///
 /// # Errors
 /// `AllocError` where an allocation failed.

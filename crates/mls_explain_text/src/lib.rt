@@ -3,7 +3,6 @@
 #![tactic(auto)]
 
 mod answer_row;
-mod asked;
 mod asking;
 mod basis;
 mod condition_line;
@@ -13,9 +12,9 @@ mod culprit;
 mod cutting;
 mod entries;
 mod explain_members;
-mod explained;
 mod explaining;
 mod fault_lines;
+mod grounds;
 mod level_changes;
 mod listed;
 mod nearest;
@@ -43,12 +42,11 @@ mod written;
 mod wrong;
 
 pub use answer_row::write_reply;
-pub use asked::ask;
-pub use asking::{answer_in, list_answer};
+pub use asking::list_answer;
 pub use explain_members::list_explanation;
-pub use explained::explain;
 pub use explaining::explain_in;
 pub use fault_lines::{fault_line, thing_line, word_line};
+pub use grounds::why;
 pub use listed::explain_chosen;
 pub use mls_wording::Answer;
 pub use outlook::{Outlook, write_outcome};
@@ -59,7 +57,7 @@ pub use question::read_question;
 pub use response::{Response, answer_to, is_granted};
 pub use sort::Sort;
 pub use sources::journal_bytes;
-pub use theorems::{entries_are_explained_alike, words_are_parts};
-pub use told::{modes_asked, who};
+pub use theorems::words_are_parts;
+pub use told::modes_asked;
 pub use write_fault::WriteFault;
 pub use written::write_explained;

@@ -19,7 +19,7 @@ fn next_line(text: &str) -> (&str, &str)
 
 /// What stands behind the first line of a text that has a byte.
 #[tactic(auto, using(crate::proofs::Cuts::behind, crate::proofs::Cuts::skips, crate::proofs::Cuts::ends))]
-fn behind_first_line(told: &str) -> &str
+pub(crate) fn behind_first_line(told: &str) -> &str
     ensures { told_lines result.now ≡ behind_first (told_lines told.now) }
 {
     let mut rest = told;

@@ -17,9 +17,10 @@ pub use marks::{
 };
 pub use opening::{OpenFault, PRIVATE, is_named, node_of, open_locked, sync_folder};
 pub use segments::{
-    Goal, KeptFault, Listing, Sought, Wanted, compare_state, count_judged, find_behind,
+    Goal, KeptFault, Listing, Sought, Wanted, compare_state, count_judged, find_behind, first_here,
     first_number, go_on, is_last, kept_refused, last_number, len_of, list_beside, list_files,
     other_path, probe_files, read_from, read_front, read_journal, read_rest, real_path,
-    refuse_behind, resume, seek, segment_path, segments_of, state_path, tell_behind,
+    refuse_behind, refuse_missing, resume, seek, segment_path, segments_of, state_path,
+    tell_behind, tell_missing,
 };
 pub use telling::{command_refused, fault_file, tell_call, tell_differing, tell_end};

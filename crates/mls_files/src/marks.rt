@@ -5,6 +5,7 @@ mod joining;
 mod judging;
 mod lines;
 mod reading;
+mod skipping;
 
 pub use faults::{MarksFault, marks_refused, tell_mark};
 pub use file::MarksInput;

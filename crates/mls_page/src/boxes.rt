@@ -3,9 +3,12 @@ ghost use Rattle.std.specs.Prelude.{◌≡◌};
 ghost use Rattle.mls_page.specs.Reading.{Text, Value, after_all};
 
 use crate::drawing::{Drawing, LINE};
-use crate::lattice::{BETWEEN, Node};
+use crate::lattice::Node;
 use crate::page::Page;
 use crate::slot::{BOX, Place};
+use mls_lines::Names;
+use mls_review::{Holder, push_holder};
+use mls_wording::push_security;
 use std::alloc::AllocError;
 
 /// How many characters of a text fit into a box.
@@ -76,16 +79,51 @@ impl Page {
         self.shaped("<path class=\"box\" d=\"", shape, "\"/>\n")
     }
 
+    /// A label, at a place.
+    fn label_line(&mut self, names: &Names, node: &Node, at: (u64, u64)) -> Result<(), AllocError> {
+        let mut text = String::new(self.alloc());
+        push_security(&mut text, names, node.label)?;
+        let done = self.box_line(LABEL, at, &text);
+        drop(text);
+        done
+    }
+
+    /// One that has a label, at a place.
+    fn holder_line(
+        &mut self,
+        names: &Names,
+        holder: &Holder,
+        at: (u64, u64),
+    ) -> Result<(), AllocError> {
+        let mut text = String::new(self.alloc());
+        push_holder(&mut text, names, holder)?;
+        let done = self.box_line(HOLDER, at, &text);
+        drop(text);
+        done
+    }
+
+    /// How many more have a label, at a place, where there are such.
+    fn more_line(&mut self, more: u64, at: (u64, u64)) -> Result<(), AllocError> {
+        if more == 0 {
+            return Ok(());
+        }
+        let alloc = self.alloc();
+        let text = format!(in alloc; "and {more} more")?;
+        let done = self.box_line(HOLDER, at, &text);
+        drop(text);
+        done
+    }
+
     /// A label's box.
-    fn node_box(&mut self, node: &Node<'_>, place: Place) -> Result<(), AllocError> {
+    fn node_box(&mut self, names: &Names, node: &Node, place: Place) -> Result<(), AllocError> {
         self.outline(place)?;
         let mut y = place.top.saturating_add(LINE);
-        self.box_line(LABEL, (place.x, y), node.label)?;
-        for holder in node.holders.split(BETWEEN) {
+        self.label_line(names, node, (place.x, y))?;
+        for holder in node.named() {
             y = y.saturating_add(LINE);
-            self.box_line(HOLDER, (place.x, y), holder)?;
+            self.holder_line(names, holder, (place.x, y))?;
         }
-        Ok(())
+        self.more_line(node.unnamed(), (place.x, y.saturating_add(LINE)))
     }
 
     /// The beginning of what can be scrolled, and in it of what is as wide as a drawing.
@@ -103,13 +141,18 @@ impl Page {
     }
 
     /// A drawing of labels.
-    pub(crate) fn draw(&mut self, drawing: &Drawing, nodes: &[Node<'_>]) -> Result<(), AllocError> {
+    pub(crate) fn draw(
+        &mut self,
+        names: &Names,
+        drawing: &Drawing,
+        nodes: &[Node],
+    ) -> Result<(), AllocError> {
         self.sheet(drawing.width)?;
         self.extent(drawing.width, drawing.height)?;
         self.strokes(drawing)?;
         for (index, slot) in drawing.slots.iter().enumerate() {
             if let Some(node) = slot.node.and_then(|place| nodes.get(place)) {
-                self.node_box(node, drawing.at(index))?;
+                self.node_box(names, node, drawing.at(index))?;
             }
         }
         self.markup("</svg>\n</div>\n</div>\n")

@@ -2,9 +2,11 @@
 use crate::colour::Colour;
 use crate::page::Page;
 use crate::section::COUNTS;
-use crate::share::Share;
-use crate::tally::Tally;
-use std::alloc::{AllocError, Global};
+use crate::share::{Share, greatest_of, shares_of, sums_of};
+use mls_lines::Names;
+use mls_listings::{ReasonCount, Summary};
+use mls_wording::push_subject;
+use std::alloc::AllocError;
 
 /// The table of reasons, up to its rows.
 const CAUSES: &str = "<table><caption>Denied, by reason</caption>\n\
@@ -17,40 +19,81 @@ const SUBJECTS: &str = "<table><caption>By the subject that asked</caption>\n\
 
 impl Page {
     /// The line that counts entries.
-    fn whole_line(&mut self, entries: u64, whole: &Share<'_>) -> Result<(), AllocError> {
+    fn whole_line(&mut self, entries: u64, shares: &[Share]) -> Result<(), AllocError> {
+        let (granted, denied, undefined) = sums_of(shares);
         self.counted("<p>", entries, " entries: ")?;
-        self.counted("", whole.granted, " granted, ")?;
-        self.counted("", whole.denied, " denied, ")?;
-        self.counted("", whole.undefined, " undefined.</p>\n")
+        self.counted("", granted, " granted, ")?;
+        self.counted("", denied, " denied, ")?;
+        self.counted("", undefined, " undefined.</p>\n")
     }
 
-    /// The line that counts entries, and the tables of a tally.
-    fn tally_tables(&mut self, entries: u64, tally: &Tally<'_>) -> Result<(), AllocError> {
-        self.whole_line(entries, &tally.whole())?;
-        if !tally.causes.is_empty() {
-            self.share_table(CAUSES, &[Colour::Denied], &tally.causes)?;
-        }
-        if !tally.shares.is_empty() {
-            let colours = [Colour::Granted, Colour::Denied, Colour::Undefined];
-            self.share_table(SUBJECTS, &colours, &tally.shares)?;
-        }
-        Ok(())
+    /// The row of a reason.
+    fn reason_row(&mut self, row: &ReasonCount, units: u64) -> Result<(), AllocError> {
+        self.within("<tr><th scope=\"row\">", row.reason.word(), "</th>")?;
+        self.share_cell(Colour::Denied, units, row.entries)?;
+        self.markup("</tr>\n")
     }
 
-    /// Appends how many entries there are, and of the text of `mls journal --summary` which.
+    /// The table of reasons, where there are such.
+    fn reason_table(&mut self, rows: &[ReasonCount]) -> Result<(), AllocError> {
+        if rows.is_empty() {
+            return Ok(());
+        }
+        let units = rows.iter().fold(0, |most, row| row.entries.max(most));
+        self.markup(CAUSES)?;
+        for row in rows {
+            self.reason_row(row, units)?;
+        }
+        self.markup("</tbody></table>\n")
+    }
+
+    /// The row of a subject.
+    fn subject_row(&mut self, names: &Names, share: &Share, units: u64) -> Result<(), AllocError> {
+        let mut name = String::new(self.alloc());
+        push_subject(&mut name, names, share.subject)?;
+        let done = self.within("<tr><th scope=\"row\">", &name, "</th>");
+        drop(name);
+        done?;
+        self.share_cell(Colour::Granted, units, share.granted)?;
+        self.share_cell(Colour::Denied, units, share.denied)?;
+        self.share_cell(Colour::Undefined, units, share.undefined)?;
+        self.markup("</tr>\n")
+    }
+
+    /// The table of subjects, where there are such.
+    fn subject_table(&mut self, names: &Names, shares: &[Share]) -> Result<(), AllocError> {
+        if shares.is_empty() {
+            return Ok(());
+        }
+        let units = greatest_of(shares);
+        self.markup(SUBJECTS)?;
+        for share in shares {
+            self.subject_row(names, share, units)?;
+        }
+        self.markup("</tbody></table>\n")
+    }
+
+    /// The line that counts entries, and the tables.
+    fn count_tables(
+        &mut self,
+        names: &Names,
+        summary: &Summary,
+        shares: &[Share],
+    ) -> Result<(), AllocError> {
+        self.whole_line(summary.entries, shares)?;
+        self.reason_table(&summary.reasons)?;
+        self.subject_table(names, shares)
+    }
+
+    /// Appends how many entries there are, and which, as `mls journal --summary` tells it.
     ///
     /// # Errors
     /// `AllocError` where an allocation failed.
-    pub fn add_counts(
-        &mut self,
-        alloc: Global,
-        entries: u64,
-        summary: &str,
-    ) -> Result<(), AllocError> {
+    pub fn add_counts(&mut self, names: &Names, summary: &Summary) -> Result<(), AllocError> {
         self.section(&COUNTS)?;
-        let tally = Tally::of(alloc, summary)?;
-        let done = self.tally_tables(entries, &tally);
-        drop(tally);
+        let shares = shares_of(self.alloc(), &summary.replies)?;
+        let done = self.count_tables(names, summary, &shares);
+        drop(shares);
         done?;
         self.end_section(&COUNTS, 0)
     }

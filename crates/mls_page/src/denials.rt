@@ -1,63 +1,155 @@
 //! The entries that were denied, and why.
-use crate::page::Page;
-use crate::section::DENIALS;
-use crate::words::parted;
-use std::alloc::AllocError;
+ghost use Rattle.std.specs.Prelude.{IsTrue};
+ghost use Rattle.mls_page.specs.Reading.{is_whole};
 
-/// The time that a line begins with, empty where it begins with none, and what stands behind it.
-fn timed(line: &str) -> (&str, &str) {
-    match line.strip_prefix('[') {
-        Some(rest) => rest.split_once("] ").unwrap_or(("", line)),
-        None => ("", line),
+use crate::page::Page;
+use crate::section::{DENIALS, SHOWN};
+use mls_explain_text::why;
+use mls_lines::Names;
+use mls_listings::{Stamp, push_asked};
+use mls_marks::Marks;
+use mls_requests::{Entry, Reply};
+use mls_rules::{State, apply};
+use mls_start::Start;
+use mls_wording::push_reply;
+use std::alloc::AllocError;
+use std::str;
+
+/// Whether an entry was denied.
+fn is_denied(entry: &Entry) -> bool {
+    match entry.reply {
+        Reply::No(_) => true,
+        Reply::Yes | Reply::Created(_) | Reply::Undefined => false,
     }
 }
 
-impl Page {
-    /// The line of an entry, which opens when it is asked.
-    fn entry(&mut self, line: &str) -> Result<(), AllocError> {
-        let (time, rest) = timed(line);
-        let (request, reply) = parted(rest);
-        self.within("<li><details><summary>", request, ": <b>")?;
-        if time.is_empty() {
-            return self.within("", reply, "</b></summary>\n<pre>");
+/// How many of some entries were denied.
+fn count_denied(entries: &[Entry]) -> usize {
+    let mut count = 0usize;
+    for entry in entries {
+        if is_denied(entry) {
+            count = count.saturating_add(1);
         }
-        self.within("", reply, "</b> <span class=\"time\">")?;
+    }
+    count
+}
+
+impl Page {
+    /// What was asked by an entry, and the beginning of its reply.
+    fn asked(&mut self, names: &Names, entry: &Entry) -> Result<(), AllocError> {
+        let mut asked = String::new(self.alloc());
+        push_asked(&mut asked, names, entry)?;
+        let done = self.within("<li><details><summary>", &asked, ": <b>");
+        drop(asked);
+        done
+    }
+
+    /// The reply of an entry, and what stands behind it.
+    fn replied(&mut self, entry: &Entry, after: &str) -> Result<(), AllocError>
+        requires { IsTrue (is_whole after.now) }
+    {
+        let mut reply = String::new(self.alloc());
+        push_reply(&mut reply, entry.reply)?;
+        let done = self.within("", &reply, after);
+        drop(reply);
+        done
+    }
+
+    /// The line of an entry, which opens when it is asked.
+    fn entry(&mut self, names: &Names, stamp: &Stamp, entry: &Entry) -> Result<(), AllocError> {
+        self.asked(names, entry)?;
+        let time = match stamp {
+            Stamp::Unasked => return self.replied(entry, "</b></summary>\n<pre>"),
+            Stamp::Unmarked => "-",
+            Stamp::At(time) => str::from_utf8(time.text()).unwrap_or("-"),
+        };
+        self.replied(entry, "</b> <span class=\"time\">")?;
         self.within("", time, "</span></summary>\n<pre>")
     }
 
-    /// A line of the explained entries: an entry, or a part of why it was denied.
-    fn explained_line(&mut self, line: &str, is_first: bool) -> Result<(), AllocError> {
-        if let Some(part) = line.strip_prefix("  ") {
-            return self.within("", part, "\n");
+    /// An entry, and why it was denied in a state.
+    fn denial(
+        &mut self,
+        names: &Names,
+        marks: Option<&Marks>,
+        state: &State,
+        entry: &Entry,
+    ) -> Result<(), AllocError> {
+        let stamp = Stamp::of(marks, entry.number);
+        self.entry(names, &stamp, entry)?;
+        let reasons = why(self.alloc(), names, state, &entry.request)?;
+        let mut done = Ok(());
+        for line in reasons.lines() {
+            done = self.within("", line, "\n");
+            if done.is_err() {
+                break;
+            }
         }
-        if !is_first {
-            self.markup("</pre></details></li>\n")?;
-        }
-        self.entry(line)
+        drop(reasons);
+        done?;
+        self.markup("</pre></details></li>\n")
     }
 
-    /// The list of the explained entries.
-    fn explained_list(&mut self, explained: &str) -> Result<(), AllocError> {
-        if explained.is_empty() {
-            return self.markup("<p>No entry was denied.</p>\n");
+    /// The first of these entries that were denied, from the state before them on.
+    fn denials(
+        &mut self,
+        names: &Names,
+        marks: Option<&Marks>,
+        state: &mut State,
+        entries: &[Entry],
+    ) -> Result<(), AllocError> {
+        let mut shown = 0;
+        for entry in entries {
+            if shown == SHOWN {
+                break;
+            }
+            if is_denied(entry) {
+                self.denial(names, marks, state, entry)?;
+                shown += 1;
+            }
+            apply(state, &entry.request)?;
         }
+        Ok(())
+    }
+
+    /// The list of those of a start's entries that were denied.
+    fn denial_list(
+        &mut self,
+        names: &Names,
+        marks: Option<&Marks>,
+        start: &Start,
+        entries: &[Entry],
+    ) -> Result<(), AllocError> {
         self.markup("<ul class=\"denials\">\n")?;
-        let mut is_first = true;
-        for line in explained.lines() {
-            self.explained_line(line, is_first)?;
-            is_first = false;
-        }
-        self.markup("</pre></details></li>\n</ul>\n")
+        let mut state = start.opening(self.alloc())?;
+        let done = self.denials(names, marks, &mut state, entries);
+        drop(state);
+        done?;
+        self.markup("</ul>\n")
     }
 
-    /// Appends the entries that were denied, of the text of `mls journal --explain --reply no` up to the last one that
-    /// is shown: the first `SHOWN` of so many.
+    /// Appends those of a start's entries that were denied, as `mls journal --explain --reply no` tells them; where there
+    /// are marks, with their times.
     ///
     /// # Errors
     /// `AllocError` where an allocation failed.
-    pub fn add_denials(&mut self, explained: &str, count: usize) -> Result<(), AllocError> {
+    pub fn add_denials(
+        &mut self,
+        names: &Names,
+        start: &Start,
+        entries: &[Entry],
+        marks: Option<&Marks>,
+    ) -> Result<(), AllocError> {
         self.section(&DENIALS)?;
-        self.explained_list(explained)?;
-        self.end_section(&DENIALS, count)
+        match count_denied(entries) {
+            0 => {
+                self.markup("<p>No entry was denied.</p>\n")?;
+                self.end_section(&DENIALS, 0)
+            }
+            count => {
+                self.denial_list(names, marks, start, entries)?;
+                self.end_section(&DENIALS, count)
+            }
+        }
     }
 }

@@ -1,7 +1,8 @@
 //! Labels, drawn by rank.
-use crate::lattice::{BETWEEN, Node};
-use crate::ranks::{Edge, rank_at, ranks};
+use crate::lattice::Node;
+use crate::ranks::{rank_at, ranks};
 use crate::slot::{GAP, Link, NOWHERE, Place, Row, Slot};
+use mls_review::Cover;
 use std::alloc::{AllocError, Global};
 
 /// The height of a line of text, what is free around the lines of a box, and what is free between two ranks.
@@ -23,9 +24,8 @@ pub(crate) struct Drawing {
 }
 
 /// The height of a label's box.
-fn box_height(node: &Node<'_>) -> u64 {
-    let lines = (node.holders.split(BETWEEN).count() as u64).saturating_add(1);
-    lines.saturating_mul(LINE).saturating_add(PAD)
+fn box_height(node: &Node) -> u64 {
+    node.lines().saturating_mul(LINE).saturating_add(PAD)
 }
 
 impl Drawing {
@@ -41,7 +41,7 @@ impl Drawing {
     }
 
     /// Adds the slots of labels, and a row for each rank.
-    fn add_nodes(&mut self, nodes: &[Node<'_>], ranks: &[usize]) -> Result<(), AllocError> {
+    fn add_nodes(&mut self, nodes: &[Node], ranks: &[usize]) -> Result<(), AllocError> {
         for (index, node) in nodes.iter().enumerate() {
             let rank = rank_at(ranks, index);
             let node_slot = Slot {
@@ -58,9 +58,9 @@ impl Drawing {
     }
 
     /// Adds a line that goes up from a slot, past all ranks to another slot.
-    fn add_line(&mut self, edge: &Edge, ranks: &[usize]) -> Result<(), AllocError> {
-        let mut low = edge.low;
-        for rank in rank_at(ranks, edge.low).saturating_add(1)..rank_at(ranks, edge.high) {
+    fn add_line(&mut self, cover: &Cover, ranks: &[usize]) -> Result<(), AllocError> {
+        let mut low = cover.lower;
+        for rank in rank_at(ranks, cover.lower).saturating_add(1)..rank_at(ranks, cover.upper) {
             let high = self.slots.len();
             let pass = Slot {
                 rank,
@@ -71,7 +71,7 @@ impl Drawing {
             self.links.push(Link { low, high })?;
             low = high;
         }
-        let high = edge.high;
+        let high = cover.upper;
         self.links.push(Link { low, high })?;
         Ok(())
     }
@@ -153,8 +153,8 @@ impl Drawing {
     fn lay_out(
         &mut self,
         alloc: Global,
-        nodes: &[Node<'_>],
-        edges: &[Edge],
+        nodes: &[Node],
+        covers: &[Cover],
         ranks: &[usize],
     ) -> Result<(), AllocError> {
         let highest = ranks.iter().copied().max().unwrap_or(0);
@@ -162,8 +162,8 @@ impl Drawing {
             self.rows.push(Row { top: 0, height: 0 })?;
         }
         self.add_nodes(nodes, ranks)?;
-        for edge in edges {
-            self.add_line(edge, ranks)?;
+        for cover in covers {
+            self.add_line(cover, ranks)?;
         }
         self.stack();
         self.place_all(alloc)
@@ -172,12 +172,12 @@ impl Drawing {
     /// The drawing of labels.
     pub(crate) fn of(
         alloc: Global,
-        nodes: &[Node<'_>],
-        edges: &[Edge],
+        nodes: &[Node],
+        covers: &[Cover],
     ) -> Result<Drawing, AllocError> {
-        let ranks = ranks(alloc, nodes.len(), edges)?;
+        let ranks = ranks(alloc, nodes.len(), covers)?;
         let mut drawing = Drawing::empty(alloc);
-        let done = drawing.lay_out(alloc, nodes, edges, &ranks);
+        let done = drawing.lay_out(alloc, nodes, covers, &ranks);
         drop(ranks);
         done?;
         Ok(drawing)

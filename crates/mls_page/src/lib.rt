@@ -10,7 +10,6 @@ mod drawing;
 mod escaping;
 mod found;
 mod head;
-mod held;
 mod labels;
 mod lattice;
 mod law;
@@ -24,8 +23,6 @@ mod slot;
 mod spans;
 mod style;
 mod table;
-mod tally;
-mod words;
 
 pub use found::Found;
 pub use law::what_is_escaped_is_no_markup;

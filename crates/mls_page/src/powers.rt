@@ -1,7 +1,10 @@
 //! What subjects may change.
 use crate::page::Page;
 use crate::section::{POWERS, SHOWN};
-use crate::words::{count_lines, cut};
+use mls_lines::Names;
+use mls_review::{Change, push_change};
+use mls_tables::SubjectId;
+use mls_wording::push_subject;
 use std::alloc::AllocError;
 
 /// The table of powers, up to its rows.
@@ -9,39 +12,62 @@ const TABLE: &str = "<table><caption>After the last entry</caption>\n\
     <thead><tr><th scope=\"col\">Subject</th><th scope=\"col\">May</th></tr></thead>\n<tbody>\n";
 
 impl Page {
-    /// A line of powers: one more of the same subject, or the first of another.
-    fn power(&mut self, line: &str, last: Option<&str>) -> Result<(), AllocError> {
-        let (subject, power) = cut(line);
+    /// The heading of a subject's row, and the beginning of its list.
+    fn power_heading(&mut self, names: &Names, subject: SubjectId) -> Result<(), AllocError> {
+        let mut name = String::new(self.alloc());
+        push_subject(&mut name, names, subject)?;
+        let done = self.within("<tr><th scope=\"row\">", &name, "</th><td><ul>");
+        drop(name);
+        done
+    }
+
+    /// What a subject may change.
+    fn power_item(&mut self, names: &Names, change: &Change) -> Result<(), AllocError> {
+        let mut text = String::new(self.alloc());
+        push_change(&mut text, names, change)?;
+        let done = self.within("<li>", &text, "</li>");
+        drop(text);
+        done
+    }
+
+    /// One more change of the same subject, or the first of another.
+    fn power(
+        &mut self,
+        names: &Names,
+        change: &Change,
+        last: Option<SubjectId>,
+    ) -> Result<(), AllocError> {
+        let subject = change.subject();
         if last != Some(subject) {
             if last.is_some() {
                 self.markup("</ul></td></tr>\n")?;
             }
-            self.within("<tr><th scope=\"row\">", subject, "</th><td><ul>")?;
+            self.power_heading(names, subject)?;
         }
-        self.within("<li>", power, "</li>")
+        self.power_item(names, change)
     }
 
     /// The table of powers.
-    fn power_table(&mut self, powers: &str) -> Result<(), AllocError> {
-        if powers.is_empty() {
+    fn power_table(&mut self, names: &Names, changes: &[Change]) -> Result<(), AllocError> {
+        if changes.is_empty() {
             return self.markup("<p>No subject may change anything.</p>\n");
         }
         self.markup(TABLE)?;
         let mut last = None;
-        for line in powers.lines().take(SHOWN) {
-            self.power(line, last)?;
-            last = Some(cut(line).0);
+        for change in changes.iter().take(SHOWN) {
+            self.power(names, change, last)?;
+            last = Some(change.subject());
         }
         self.markup("</ul></td></tr>\n</tbody></table>\n")
     }
 
-    /// Appends what subjects may change, of the text of `mls powers`.
+    /// Appends what subjects may change, as `mls powers` tells it.
     ///
     /// # Errors
     /// `AllocError` where an allocation failed.
-    pub fn add_powers(&mut self, powers: &str) -> Result<(), AllocError> {
+    pub fn add_powers(&mut self, names: &Names, changes: &[Change]) -> Result<(), AllocError> {
         self.section(&POWERS)?;
-        self.power_table(powers)?;
-        self.end_section(&POWERS, count_lines(powers))
+        self.power_table(names, changes)?;
+        self.end_section(&POWERS, changes.len())
     }
 }

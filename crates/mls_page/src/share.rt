@@ -1,58 +1,81 @@
-//! How many requests were granted, denied, or undefined, of a subject or for a reason.
-use crate::colour::Colour;
+//! How many requests of a subject were granted, denied, or undefined.
+use mls_listings::ReplyCount;
+use mls_requests::ReplyWord;
+use mls_tables::SubjectId;
+use std::alloc::{AllocError, Global};
 
-/// How many requests were granted, denied, or undefined, of a subject or for a reason.
+/// How many requests of a subject were granted, denied, or undefined.
 #[derive(Clone, Copy)]
-pub(crate) struct Share<'a> {
-    pub name: &'a str,
+pub(crate) struct Share {
+    pub subject: SubjectId,
     pub granted: u64,
     pub denied: u64,
     pub undefined: u64,
 }
 
-impl<'a> Share<'a> {
-    /// A share of which nothing is counted yet.
-    pub(crate) fn new(name: &'a str) -> Share<'a> {
+impl Share {
+    /// The share of a subject of which nothing is counted yet.
+    fn new(subject: SubjectId) -> Share {
         Share {
-            name,
+            subject,
             granted: 0,
             denied: 0,
             undefined: 0,
         }
     }
 
-    /// The share with so many more replies that begin with a word.
-    pub(crate) fn with(self, word: &str, count: u64) -> Share<'a> {
-        let mut share = self;
+    /// Counts so many more replies of a first word.
+    fn count(&mut self, word: ReplyWord, entries: u64) {
         match word {
-            "no" => share.denied = share.denied.saturating_add(count),
-            "undefined" => share.undefined = share.undefined.saturating_add(count),
-            _ => share.granted = share.granted.saturating_add(count),
-        }
-        share
-    }
-
-    /// The share with the replies of another one.
-    pub(crate) fn and(self, other: &Share<'_>) -> Share<'a> {
-        Share {
-            name: self.name,
-            granted: self.granted.saturating_add(other.granted),
-            denied: self.denied.saturating_add(other.denied),
-            undefined: self.undefined.saturating_add(other.undefined),
-        }
-    }
-
-    /// The number that has a colour.
-    pub(crate) fn of(&self, colour: Colour) -> u64 {
-        match colour {
-            Colour::Granted | Colour::Held => self.granted,
-            Colour::Denied => self.denied,
-            Colour::Undefined => self.undefined,
+            ReplyWord::Yes | ReplyWord::Created => {
+                self.granted = self.granted.saturating_add(entries);
+            }
+            ReplyWord::No => self.denied = self.denied.saturating_add(entries),
+            ReplyWord::Undefined => self.undefined = self.undefined.saturating_add(entries),
         }
     }
 
     /// The greatest of its numbers.
-    pub(crate) fn greatest(&self) -> u64 {
+    fn greatest(&self) -> u64 {
         self.granted.max(self.denied).max(self.undefined)
     }
+}
+
+/// The greatest number of some shares.
+pub(crate) fn greatest_of(shares: &[Share]) -> u64 {
+    shares.iter().fold(0, |most, it| it.greatest().max(most))
+}
+
+/// The sums of some shares: granted, denied, undefined.
+pub(crate) fn sums_of(shares: &[Share]) -> (u64, u64, u64) {
+    let (mut granted, mut denied, mut undefined) = (0u64, 0u64, 0u64);
+    for share in shares {
+        granted = granted.saturating_add(share.granted);
+        denied = denied.saturating_add(share.denied);
+        undefined = undefined.saturating_add(share.undefined);
+    }
+    (granted, denied, undefined)
+}
+
+/// Counts a row of a summary. The rows of a subject stand together.
+fn add(shares: &mut Vec<Share>, row: &ReplyCount) -> Result<(), AllocError> {
+    if let Some(share) = shares.last_mut() {
+        if share.subject == row.subject {
+            share.count(row.word, row.entries);
+            return Ok(());
+        }
+    }
+    let mut share = Share::new(row.subject);
+    share.count(row.word, row.entries);
+    shares.push(share)?;
+    Ok(())
+}
+
+/// The shares of the subjects of a summary, in its order.
+pub(crate) fn shares_of(alloc: Global, replies: &[ReplyCount]) -> Result<Vec<Share>, AllocError> {
+    let mut shares = Vec::new(alloc);
+    for row in replies {
+        add(&mut shares, row)?;
+    }
+    Ok(shares)
 }

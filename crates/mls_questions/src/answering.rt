@@ -3,11 +3,11 @@ use crate::comparison::compare;
 use crate::describing::about;
 use crate::listing::journal;
 use crate::named::Named;
-use crate::one_state::asked_of;
+use crate::one_state::{OfState, listed_as, why};
 use crate::report::report;
 use crate::seeing::answer_state;
 use crate::source_names::source_of;
-use crate::sources::{Bytes, read_source};
+use crate::sources::read_source;
 use crate::spans::{held, usage, who_ever};
 use crate::starts::{lattice, lint};
 use mls_command_line::{Question, Source};
@@ -116,49 +116,15 @@ pub(crate) fn ended(
     }
 }
 
-/// Answers a question over the bytes of its files.
-fn answer_over(
+/// Prints all that there is to tell of a subject or of an object, over its files.
+fn about_files(
     progress: &mut Progress<'_>,
-    question: &Question<'_>,
     source: &Source<'_>,
-    bytes: &Bytes,
+    name: &str,
+    is_object: bool,
 ) -> ExitCode {
-    match question {
-        Question::WhoEver(words) => who_ever(progress, words, bytes),
-        Question::About {
-            name,
-            is_object,
-            ..
-        } => about(progress, source, bytes, name, *is_object),
-        Question::Lint { start } => lint(progress, start, bytes),
-        Question::Lattice { start } => lattice(progress, start, bytes),
-        Question::Journal(words) => journal(progress, words, bytes),
-        Question::Held(words) => held(progress, words, bytes),
-        Question::Usage(words) => usage(progress, words, bytes),
-        Question::Compare {
-            first,
-            second,
-            journal,
-        } => compare(progress, first, bytes, second, *journal),
-        Question::Report(words) => report(progress, words, bytes),
-        // (a question about one state is answered over what is seen, and never comes here)
-        Question::Ask { .. }
-        | Question::Explain { .. }
-        | Question::Who { .. }
-        | Question::Powers { .. }
-        | Question::State { .. } => ExitCode::SUCCESS,
-    }
-}
-
-/// Answers a question, of a journal over all that it holds.
-fn answer_whole(progress: &mut Progress<'_>, question: &Question<'_>) -> ExitCode {
-    let source = source_of(question);
-    match read_source(progress, &source) {
-        Ok(bytes) => {
-            let status = answer_over(progress, question, &source, &bytes);
-            drop(bytes);
-            status
-        }
+    match read_source(progress, source) {
+        Ok(bytes) => about(progress, source, bytes, name, is_object),
         Err(status) => status,
     }
 }
@@ -166,8 +132,45 @@ fn answer_whole(progress: &mut Progress<'_>, question: &Question<'_>) -> ExitCod
 /// Answers a question about start files or journals on standard output. The status is 0 where the answer is a positive
 /// one, and 4 where it is a negative one.
 pub fn answer(progress: &mut Progress<'_>, question: &Question<'_>) -> ExitCode {
-    match asked_of(question) {
-        Some(asked) => answer_state(progress, &source_of(question), asked),
-        None => answer_whole(progress, question),
+    let source = source_of(question);
+    match question {
+        Question::Ask { line, .. } => answer_state(progress, &source, OfState::Line(*line)),
+        Question::Explain { line, .. } => answer_state(progress, &source, why(*line)),
+        Question::Who { object, mode, .. } => {
+            let (object, mode) = (*object, *mode);
+            answer_state(progress, &source, OfState::Who { object, mode })
+        }
+        Question::Powers {
+            subject,
+            downgrades,
+            ..
+        } => {
+            let (subject, downgrades) = (*subject, *downgrades);
+            let asked = OfState::Powers {
+                subject,
+                downgrades,
+            };
+            answer_state(progress, &source, asked)
+        }
+        Question::State { is_start, map, .. } => {
+            answer_state(progress, &source, listed_as(*is_start, *map))
+        }
+        Question::About {
+            name,
+            is_object,
+            ..
+        } => about_files(progress, &source, *name, *is_object),
+        Question::Lint { .. } => lint(progress, &source),
+        Question::Lattice { .. } => lattice(progress, &source),
+        Question::Journal(words) => journal(progress, &source, words),
+        Question::Held(words) => held(progress, &source, words),
+        Question::Usage(words) => usage(progress, &source, words),
+        Question::WhoEver(words) => who_ever(progress, &source, words),
+        Question::Compare {
+            second,
+            journal,
+            ..
+        } => compare(progress, &source, *second, *journal),
+        Question::Report(words) => report(progress, &source, words),
     }
 }

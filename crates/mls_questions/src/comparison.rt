@@ -36,11 +36,44 @@ fn ended(
     }
 }
 
-/// Prints how a second start differs from a first one, whose bytes these are, or from the replies of a journal of it.
-pub(crate) fn compare<'x>(
+/// Prints how a second start differs from a first one, or from the replies of a journal of it, over the bytes of both.
+fn compare_bytes(
+    progress: &mut Progress<'_>,
+    first: &str,
+    others: &Source<'_>,
+    bytes: &Bytes,
+    read: &Bytes,
+) -> ExitCode {
+    progress.begin("comparing");
+    let words = (first, others.start);
+    let form = form_of(progress);
+    let journal = read.journal.as_deref();
+    let alloc = progress.rt().alloc();
+    let done = compared(alloc, form, words, &bytes.start, &read.start, journal);
+    ended(progress, first, others, done)
+}
+
+/// The same, over the files of the second one and of the journal.
+fn compare_with(
     progress: &mut Progress<'_>,
     first: &str,
     bytes: &Bytes,
+    others: &Source<'_>,
+) -> ExitCode {
+    match read_source(progress, others) {
+        Ok(read) => {
+            let status = compare_bytes(progress, first, others, bytes, &read);
+            drop(read);
+            status
+        }
+        Err(status) => status,
+    }
+}
+
+/// Prints how a second start differs from a first one, or from the replies of a journal of it.
+pub(crate) fn compare<'x>(
+    progress: &mut Progress<'_>,
+    source: &Source<'_>,
     second: &'x str,
     journal: Option<&'x str>,
 ) -> ExitCode {
@@ -51,16 +84,11 @@ pub(crate) fn compare<'x>(
         marks: None,
         when: None,
     };
-    match read_source(progress, &others) {
-        Ok(read) => {
-            progress.begin("comparing");
-            let words = (first, second);
-            let form = form_of(progress);
-            let journal = read.journal.as_deref();
-            let alloc = progress.rt().alloc();
-            let done = compared(alloc, form, words, &bytes.start, &read.start, journal);
-            drop(read);
-            ended(progress, first, &others, done)
+    match read_source(progress, source) {
+        Ok(bytes) => {
+            let status = compare_with(progress, source.start, &bytes, &others);
+            drop(bytes);
+            status
         }
         Err(status) => status,
     }

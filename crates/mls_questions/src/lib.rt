@@ -7,6 +7,7 @@ mod describing;
 mod listing;
 mod named;
 mod one_state;
+mod past;
 mod renaming;
 mod report;
 mod report_parts;

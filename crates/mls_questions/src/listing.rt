@@ -1,12 +1,14 @@
-//! The commands that list what a journal has, and the state that it leads to.
+//! The command that lists what a journal has.
 use crate::answering::{name_refused, question_refused, status_of};
 use crate::named::Named;
+use crate::past::{Past, past_refused, replayed};
 use crate::renaming::journal_after;
 use crate::row_answers::listed;
-use crate::sources::Bytes;
-use mls_command_line::JournalWords;
-use mls_explain_text::{Sort, WriteFault, write_explained};
-use mls_listings::{Filter, ListFault, Words, list_journal};
+use crate::sources::{Bytes, read_source};
+use mls_answers::{journal as list_journal, journal_explained as write_explained};
+use mls_command_line::{JournalWords, Source};
+use mls_explain_text::{Sort, WriteFault};
+use mls_listings::{Filter, ListFault, Words};
 use mls_marks::Marks;
 use mls_terminal::{NOT_WRITTEN, Progress, refused};
 use std::io::Write;
@@ -86,63 +88,79 @@ fn marked_filter<'a>(words: &JournalWords<'a>, marks: Option<&Marks>) -> Words<'
     }
 }
 
-/// Prints the entries of a journal that a filter asks for, each with why it has its reply, as they are explained.
+/// Prints the entries of a journal that was replayed that a filter asks for, each with why it has its reply, as they are
+/// explained.
 fn journal_explained(
     progress: &mut Progress<'_>,
     words: &JournalWords<'_>,
-    bytes: &Bytes,
+    past: &Past,
     filter: &Words<'_>,
 ) -> ExitCode {
     progress.end();
     let rt = progress.rt();
-    let journal = bytes.journal();
-    let marks = bytes.marks.as_ref();
+    let history = &past.history;
     let mut output = rt.stdout();
     match write_explained(
         rt.alloc(),
         &mut output,
-        &bytes.start,
-        journal,
-        marks,
+        history,
+        past.marks.as_ref(),
         filter,
     ) {
         Ok(is_any) if output.flush().is_ok() => status_of(is_any),
         Ok(_) | Err(WriteFault::Write) => refused(rt, NOT_WRITTEN, 1),
-        Err(WriteFault::List(fault)) => list_refused(rt, words, &bytes.start, fault),
+        Err(WriteFault::List(fault)) => list_refused(rt, words, history.start_file(), fault),
     }
 }
 
-/// Prints the entries of a journal that a filter asks for, once all are listed.
+/// Prints the entries of a journal that was replayed that a filter asks for, once all are listed.
 fn journal_listed(
     progress: &mut Progress<'_>,
     words: &JournalWords<'_>,
-    bytes: &Bytes,
+    past: &Past,
     filter: &Words<'_>,
 ) -> ExitCode {
-    let journal = bytes.journal();
-    let marks = bytes.marks.as_ref();
-    progress.begin("listing");
     let rt = progress.rt();
-    let done = list_journal(rt.alloc(), &bytes.start, journal, marks, filter, words.form);
+    let history = &past.history;
+    let done = list_journal(rt.alloc(), history, past.marks.as_ref(), filter, words.form);
     progress.end();
     match done {
         Ok(listing) => listed(progress, listing),
-        Err(fault) => list_refused(rt, words, &bytes.start, fault),
+        Err(fault) => list_refused(rt, words, history.start_file(), fault),
+    }
+}
+
+/// Prints the entries of a journal that are asked for, over the bytes of its files.
+fn journal_bytes(progress: &mut Progress<'_>, words: &JournalWords<'_>, bytes: Bytes) -> ExitCode {
+    let filter = marked_filter(words, bytes.marks.as_ref());
+    if let Some(map) = words.after {
+        return journal_after(progress, words, map, bytes, &filter);
+    }
+    if !words.is_explained {
+        progress.begin("listing");
+    }
+    match replayed(progress.rt().alloc(), bytes, None) {
+        Ok(past) => {
+            let status = if words.is_explained {
+                journal_explained(progress, words, &past, &filter)
+            } else {
+                journal_listed(progress, words, &past, &filter)
+            };
+            drop(past);
+            status
+        }
+        Err(fault) => past_refused(progress, Named::files(words.start, words.journal), fault),
     }
 }
 
 /// Prints the entries of a journal that are asked for.
 pub(crate) fn journal(
     progress: &mut Progress<'_>,
+    source: &Source<'_>,
     words: &JournalWords<'_>,
-    bytes: &Bytes,
 ) -> ExitCode {
-    let filter = marked_filter(words, bytes.marks.as_ref());
-    if let Some(map) = words.after {
-        journal_after(progress, words, map, bytes, &filter)
-    } else if words.is_explained {
-        journal_explained(progress, words, bytes, &filter)
-    } else {
-        journal_listed(progress, words, bytes, &filter)
+    match read_source(progress, source) {
+        Ok(bytes) => journal_bytes(progress, words, bytes),
+        Err(status) => status,
     }
 }

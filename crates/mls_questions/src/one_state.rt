@@ -1,6 +1,5 @@
 //! Questions about one state.
 use mls_answers::{ask, explain, powers, state, who};
-use mls_command_line::Question;
 use mls_replay::QuestionFault;
 use mls_requests::read_mode;
 use mls_rows::{Form, Listing};
@@ -35,48 +34,20 @@ pub(crate) enum OfState<'a> {
     },
 }
 
-/// What is asked of one state, where a question is about one.
-pub(crate) fn asked_of<'a>(question: &Question<'a>) -> Option<OfState<'a>> {
-    match question {
-        Question::Ask { line, .. } => Some(OfState::Line(*line)),
-        Question::Explain {
-            line: Some(line),
-            ..
-        } => Some(OfState::Why(*line)),
-        Question::Explain { line: None, .. } => Some(OfState::Next),
-        Question::Who { object, mode, .. } => {
-            let (object, mode) = (*object, *mode);
-            Some(OfState::Who { object, mode })
-        }
-        Question::Powers {
-            subject,
-            downgrades,
-            ..
-        } => {
-            let (subject, downgrades) = (*subject, *downgrades);
-            Some(OfState::Powers {
-                subject,
-                downgrades,
-            })
-        }
-        Question::State {
-            is_start: false,
-            ..
-        } => Some(OfState::List),
-        Question::State {
-            is_start: true,
-            map,
-            ..
-        } => Some(OfState::StartFile { map: *map }),
-        Question::About { .. }
-        | Question::Lint { .. }
-        | Question::Lattice { .. }
-        | Question::Journal(_)
-        | Question::Held(_)
-        | Question::Usage(_)
-        | Question::WhoEver(_)
-        | Question::Compare { .. }
-        | Question::Report(_) => None,
+/// Why a line is answered as it is, or, where there is none, the next entry.
+pub(crate) fn why(line: Option<&str>) -> OfState<'_> {
+    match line {
+        Some(line) => OfState::Why(line),
+        None => OfState::Next,
+    }
+}
+
+/// What there is in a state, as lines or as a start file.
+pub(crate) fn listed_as(is_start: bool, map: Option<&str>) -> OfState<'_> {
+    if is_start {
+        OfState::StartFile { map }
+    } else {
+        OfState::List
     }
 }
 

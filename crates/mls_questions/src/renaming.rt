@@ -1,6 +1,7 @@
 //! Questions about a journal whose start was made of a state, with its objects by the names that they had before.
 use crate::answering::{bare_refused, question_refused};
 use crate::named::Named;
+use crate::past::{Past, past_refused, replayed};
 use crate::row_answers::{form_of, listed};
 use crate::sources::Bytes;
 use mls_command_line::{HeldWords, JournalWords, UsageWords};
@@ -10,11 +11,11 @@ use mls_files::{judge_start, start_file};
 use mls_lines::Names;
 use mls_listings::{Choice, Filter, ListFault, Words, choose, list_chosen};
 use mls_marks::Marks;
-use mls_replay::{QuestionFault, Replay, replay_at};
+use mls_replay::{QuestionFault, Replay};
 use mls_rows::{Form, Listing};
 use mls_spans::{
     Filter as SpanFilter, States, Words as SpanWords, choose as choose_spans, list_spans,
-    list_usages_of,
+    list_usage,
 };
 use mls_terminal::{NO_MEMORY, Progress, file_refused, refused};
 use mls_wording::{Answer, push_number};
@@ -62,6 +63,17 @@ fn read_names(
     let names = names_by(progress, start, path, &map);
     drop(map);
     names
+}
+
+/// The names of a start that was read by the map of this file.
+fn names_of(
+    progress: &mut Progress<'_>,
+    name: &str,
+    bytes: &Bytes,
+    path: &str,
+) -> Result<Names, ExitCode> {
+    let bytes = bytes.start.as_slice();
+    read_names(progress, StartFile { name, bytes }, path)
 }
 
 /// A word that names, by number, the object that another word names by these names; where that names none, one that
@@ -134,24 +146,6 @@ fn list_replayed(
     list_entries(alloc, names, replay, marks, words, &choice)
 }
 
-/// What a journal has of the entries that a filter asks for, by these names of objects.
-fn journal_by(
-    alloc: Global,
-    names: &Names,
-    bytes: &Bytes,
-    words: &JournalWords<'_>,
-    filter: &Words<'_>,
-) -> Result<Listing, ListFault> {
-    match replay_at(alloc, &bytes.start, bytes.journal(), None) {
-        Ok(replay) => {
-            let listed = list_replayed(alloc, names, &replay, bytes.marks.as_ref(), words, filter);
-            drop(replay);
-            listed
-        }
-        Err(fault) => Err(ListFault::Question(fault)),
-    }
-}
-
 /// Tells why there is no answer.
 fn refused_by(
     progress: &mut Progress<'_>,
@@ -198,48 +192,83 @@ fn named<'a>(
     }
 }
 
-/// Prints the entries of a journal that are asked for, with objects by the names of a map.
-pub(crate) fn journal_after(
+/// Prints the entries of a journal that was replayed that are asked for, by these names of objects.
+fn journal_past<'a>(
     progress: &mut Progress<'_>,
-    words: &JournalWords<'_>,
-    map: &str,
-    bytes: &Bytes,
-    filter: &Words<'_>,
+    words: &JournalWords<'a>,
+    names: &Names,
+    past: &Past,
+    filter: &Words<'a>,
 ) -> ExitCode {
-    let file = StartFile {
-        name: words.start,
-        bytes: &bytes.start,
-    };
-    let names = match read_names(progress, file, map) {
-        Ok(names) => names,
-        Err(status) => return status,
-    };
-    progress.begin("listing");
-    let done = journal_by(progress.rt().alloc(), &names, bytes, words, filter);
-    drop(names);
-    let about = named(words.start, words.journal, filter.subject, filter.object);
+    let alloc = progress.rt().alloc();
+    let (replay, marks) = (past.history.replay(), past.marks.as_ref());
+    let done = list_replayed(alloc, names, replay, marks, words, filter);
+    let start = past.history.start_file();
     match done {
         Ok(listing) => {
             progress.end();
             listed(progress, listing)
         }
-        Err(ListFault::Question(fault)) => refused_by(progress, about, &bytes.start, fault),
+        Err(ListFault::Question(fault)) => {
+            let about = named(words.start, words.journal, filter.subject, filter.object);
+            refused_by(progress, about, start, fault)
+        }
         Err(ListFault::By) => {
             let about = named(words.start, words.journal, filter.by, filter.object);
-            refused_by(progress, about, &bytes.start, QuestionFault::Subject)
+            refused_by(progress, about, start, QuestionFault::Subject)
+        }
+    }
+}
+
+/// Prints the entries of a journal that are asked for, by these names of objects.
+fn journal_by<'a>(
+    progress: &mut Progress<'_>,
+    words: &JournalWords<'a>,
+    names: &Names,
+    bytes: Bytes,
+    filter: &Words<'a>,
+) -> ExitCode {
+    progress.begin("listing");
+    match replayed(progress.rt().alloc(), bytes, None) {
+        Ok(past) => {
+            let status = journal_past(progress, words, names, &past, filter);
+            drop(past);
+            status
+        }
+        Err(fault) => past_refused(progress, Named::files(words.start, words.journal), fault),
+    }
+}
+
+/// Prints the entries of a journal that are asked for, with objects by the names of a map.
+pub(crate) fn journal_after<'a>(
+    progress: &mut Progress<'_>,
+    words: &JournalWords<'a>,
+    map: &str,
+    bytes: Bytes,
+    filter: &Words<'a>,
+) -> ExitCode {
+    match names_of(progress, words.start, &bytes, map) {
+        Ok(names) => {
+            let status = journal_by(progress, words, &names, bytes, filter);
+            drop(names);
+            status
+        }
+        Err(status) => {
+            drop(bytes);
+            status
         }
     }
 }
 
 /// Who held what over a journal that was replayed, by these names of objects.
-fn held_over(
+fn held_by(
     alloc: Global,
     form: Form,
     names: &Names,
-    replay: &Replay,
-    marks: Option<&Marks>,
+    past: &Past,
     words: &SpanWords<'_>,
 ) -> Result<Listing, QuestionFault> {
+    let replay = past.history.replay();
     words.states.begin_in(replay.entries())?;
     let object = any_number_word(alloc, names, words.object)?;
     let by_number = SpanFilter {
@@ -255,47 +284,53 @@ fn held_over(
         names,
         replay.start(),
         replay.entries(),
-        marks,
+        past.marks.as_ref(),
         &choice,
     )
 }
 
-/// Who held what over a journal, by these names of objects.
-fn held_by(
-    alloc: Global,
-    form: Form,
+/// Prints who held what over a journal, by these names of objects.
+fn held_named<'a>(
+    progress: &mut Progress<'_>,
+    about: Named<'a>,
     names: &Names,
-    bytes: &Bytes,
-    words: &SpanWords<'_>,
-) -> Result<Listing, QuestionFault> {
-    let replay = replay_at(alloc, &bytes.start, bytes.journal(), None)?;
-    let listed = held_over(alloc, form, names, &replay, bytes.marks.as_ref(), words);
-    drop(replay);
-    listed
+    bytes: Bytes,
+    filter: &SpanWords<'a>,
+) -> ExitCode {
+    progress.begin("listing");
+    let form = form_of(progress);
+    let alloc = progress.rt().alloc();
+    match replayed(alloc, bytes, None) {
+        Ok(past) => {
+            let done = held_by(alloc, form, names, &past, filter);
+            let status = ended_by(progress, about, past.history.start_file(), done);
+            drop(past);
+            status
+        }
+        Err(fault) => past_refused(progress, about, fault),
+    }
 }
 
 /// Prints who held what over a journal, with objects by the names of a map.
-pub(crate) fn held_after(
+pub(crate) fn held_after<'a>(
     progress: &mut Progress<'_>,
-    words: &HeldWords<'_>,
+    words: &HeldWords<'a>,
     map: &str,
-    bytes: &Bytes,
-    filter: &SpanWords<'_>,
+    bytes: Bytes,
+    filter: &SpanWords<'a>,
 ) -> ExitCode {
-    let file = StartFile {
-        name: words.start,
-        bytes: &bytes.start,
-    };
-    let names = match read_names(progress, file, map) {
-        Ok(names) => names,
-        Err(status) => return status,
-    };
-    progress.begin("listing");
-    let form = form_of(progress);
-    let done = held_by(progress.rt().alloc(), form, &names, bytes, filter);
-    drop(names);
     let about = named(words.start, words.journal, filter.subject, filter.object);
-    ended_by(progress, about, &bytes.start, done)
+    match names_of(progress, words.start, &bytes, map) {
+        Ok(names) => {
+            let status = held_named(progress, about, &names, bytes, filter);
+            drop(names);
+            status
+        }
+        Err(status) => {
+            drop(bytes);
+            status
+        }
+    }
 }
 
 /// How the permissions over some states of a journal were used, by these names of objects.
@@ -303,13 +338,33 @@ fn usage_by(
     alloc: Global,
     form: Form,
     names: &Names,
-    bytes: &Bytes,
+    past: &Past,
     states: States,
 ) -> Result<Listing, QuestionFault> {
-    let replay = replay_at(alloc, &bytes.start, bytes.journal(), Some(states.first))?;
-    let listed = list_usages_of(alloc, form, names, bytes.marks.as_ref(), &replay, states);
-    drop(replay);
-    Ok(listed?)
+    let (replay, marks) = (past.history.replay(), past.marks.as_ref());
+    Ok(list_usage(alloc, form, names, replay, marks, states)?)
+}
+
+/// Prints how the permissions over some states of a journal were used, by these names of objects.
+fn usage_named(
+    progress: &mut Progress<'_>,
+    about: Named<'_>,
+    names: &Names,
+    bytes: Bytes,
+    states: States,
+) -> ExitCode {
+    progress.begin("listing");
+    let form = form_of(progress);
+    let alloc = progress.rt().alloc();
+    match replayed(alloc, bytes, Some(states.first)) {
+        Ok(past) => {
+            let done = usage_by(alloc, form, names, &past, states);
+            let status = ended_by(progress, about, past.history.start_file(), done);
+            drop(past);
+            status
+        }
+        Err(fault) => past_refused(progress, about, fault),
+    }
 }
 
 /// Prints how the permissions over some states of a journal were used, with objects by the names of a map.
@@ -317,21 +372,19 @@ pub(crate) fn usage_after(
     progress: &mut Progress<'_>,
     words: &UsageWords<'_>,
     map: &str,
-    bytes: &Bytes,
+    bytes: Bytes,
     states: States,
 ) -> ExitCode {
-    let file = StartFile {
-        name: words.start,
-        bytes: &bytes.start,
-    };
-    let names = match read_names(progress, file, map) {
-        Ok(names) => names,
-        Err(status) => return status,
-    };
-    progress.begin("listing");
-    let form = form_of(progress);
-    let done = usage_by(progress.rt().alloc(), form, &names, bytes, states);
-    drop(names);
-    let about = named(words.start, words.journal, None, None);
-    ended_by(progress, about, &bytes.start, done)
+    let about = Named::files(words.start, words.journal);
+    match names_of(progress, words.start, &bytes, map) {
+        Ok(names) => {
+            let status = usage_named(progress, about, &names, bytes, states);
+            drop(names);
+            status
+        }
+        Err(status) => {
+            drop(bytes);
+            status
+        }
+    }
 }

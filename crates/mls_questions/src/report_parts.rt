@@ -1,43 +1,23 @@
-//! The sections of a page about a journal that was replayed, each of what another question prints.
-use mls_explain_text::explain_chosen;
-use mls_lines::Names;
-use mls_listings::{Choice, Filter, ListFault, ReplyFront, Summary, summarize};
+//! The sections of a page about a journal that was replayed, each of what another question tells.
+use mls_listings::{Choice, Filter, summarize};
 use mls_marks::{Marks, Verified};
-use mls_monitor::Entry;
-use mls_page::{Found, Page, SHOWN};
-use mls_replay::{QuestionFault, Replay};
-use mls_requests::{Reply, ReplyWord};
-use mls_review::{Asked, lattice, push_powers};
-use mls_rows::{Form, Listing, Told};
-use mls_spans::{Choice as HeldChoice, Filter as HeldFilter, States, list_spans, list_usages};
+use mls_page::{Found, Page};
+use mls_replay::Replay;
+use mls_review::{Asked, changes};
+use mls_spans::{Usage, spans_of, usages_over};
 use std::alloc::{AllocError, Global};
 use std::str;
 
-/// The entries that were denied: how many there are, and the number of the last one that is shown.
-#[derive(Clone, Copy)]
-struct Denials {
-    count: usize,
-    last: Option<u64>,
-}
-
-impl Denials {
-    /// Those of these entries, the first of which are shown.
-    fn of(entries: &[Entry]) -> Denials {
-        let mut denials = Denials {
-            count: 0,
-            last: None,
-        };
-        for entry in entries {
-            if let Reply::No(_) = entry.reply {
-                if denials.count < SHOWN {
-                    denials.last = Some(entry.number);
-                }
-                denials.count = denials.count.saturating_add(1);
-            }
-        }
-        denials
-    }
-}
+/// All entries.
+const ALL: Choice = Filter {
+    subject: None,
+    by: None,
+    object: None,
+    session: None,
+    reply: None,
+    from: None,
+    to: None,
+};
 
 /// A text that is ASCII.
 fn ascii(bytes: &[u8]) -> &str {
@@ -59,44 +39,24 @@ fn add_marked(page: &mut Page, entries: u64, verified: &Verified) -> Result<(), 
     page.add_verified(entries, Some(&found))
 }
 
-/// The lines of a summary.
-fn lines_of(alloc: Global, names: &Names, summary: &Summary) -> Result<String, AllocError> {
-    let mut lines = String::new(alloc);
-    match summary.push_line(&mut lines, names, None) {
-        Ok(()) => Ok(lines),
-        Err(fault) => {
-            drop(lines);
-            Err(fault)
-        }
+/// Appends what was verified.
+fn add_verified(
+    page: &mut Page,
+    seen: &Replay,
+    verified: Option<&Verified>,
+) -> Result<(), AllocError> {
+    let entries = seen.entries().len() as u64;
+    match verified {
+        Some(verified) => add_marked(page, entries, verified),
+        None => page.add_verified(entries, None),
     }
 }
 
 /// Appends how many entries there are, by reply.
-fn add_summary(alloc: Global, page: &mut Page, seen: &Replay) -> Result<(), AllocError> {
-    let all: Choice = Filter {
-        subject: None,
-        by: None,
-        object: None,
-        session: None,
-        reply: None,
-        from: None,
-        to: None,
-    };
-    let entries = seen.entries();
-    let summary = summarize(alloc, &all, entries)?;
-    let lines = lines_of(alloc, seen.names(), &summary);
+fn add_counts(alloc: Global, page: &mut Page, seen: &Replay) -> Result<(), AllocError> {
+    let summary = summarize(alloc, &ALL, seen.entries())?;
+    let done = page.add_counts(seen.names(), &summary);
     drop(summary);
-    let lines = lines?;
-    let done = page.add_counts(alloc, entries.len() as u64, &lines);
-    drop(lines);
-    done
-}
-
-/// Appends the labels of the start.
-fn add_lattice(alloc: Global, page: &mut Page, seen: &Replay) -> Result<(), AllocError> {
-    let drawn = lattice(alloc, seen.names(), seen.start())?;
-    let done = page.add_lattice(alloc, &drawn.text);
-    drop(drawn);
     done
 }
 
@@ -106,136 +66,56 @@ fn add_powers(alloc: Global, page: &mut Page, seen: &Replay) -> Result<(), Alloc
         subject: None,
         downgrades: false,
     };
-    let mut text = String::new(alloc);
-    push_powers(alloc, &mut text, seen.names(), seen.state(), all)?;
-    let done = page.add_powers(&text);
-    drop(text);
+    let found = changes(alloc, seen.state(), all)?;
+    let done = page.add_powers(seen.names(), &found);
+    drop(found);
     done
 }
 
-/// Appends what was verified, and what is seen of the entries, of the start, and of the state that they lead to.
-fn add_seen(
-    alloc: Global,
-    page: &mut Page,
-    seen: &Replay,
-    verified: Option<&Verified>,
-) -> Result<(), AllocError> {
-    let entries = seen.entries().len() as u64;
-    match verified {
-        Some(verified) => add_marked(page, entries, verified)?,
-        None => page.add_verified(entries, None)?,
-    }
-    add_summary(alloc, page, seen)?;
-    add_lattice(alloc, page, seen)?;
-    add_powers(alloc, page, seen)
-}
-
-/// Appends the entries that were denied, and why.
-fn add_denials(
-    alloc: Global,
-    page: &mut Page,
-    seen: &Replay,
-    marks: Option<&Marks>,
-) -> Result<(), ListFault> {
-    let start = seen.start();
-    let entries = seen.entries();
-    let denials = Denials::of(entries);
-    let shown: Choice = Filter {
-        subject: None,
-        by: None,
-        object: None,
-        session: None,
-        reply: Some(ReplyFront::Word(ReplyWord::No)),
-        from: None,
-        to: denials.last,
-    };
-    let listed = explain_chosen(alloc, seen.names(), start, entries, marks, &shown)?;
-    let done = page.add_denials(&listed.text, denials.count);
-    drop(listed);
-    Ok(done?)
-}
-
 /// Appends who held what.
-fn add_spans(alloc: Global, page: &mut Page, seen: &Replay) -> Result<(), QuestionFault> {
-    let all: HeldChoice = HeldFilter {
-        subject: None,
-        object: None,
-        mode: None,
-        states: States::between(None, None),
-    };
+fn add_spans(alloc: Global, page: &mut Page, seen: &Replay) -> Result<(), AllocError> {
     let entries = seen.entries();
-    let listed = list_spans(
-        alloc,
-        Form::Text,
-        seen.names(),
-        seen.start(),
-        entries,
-        None,
-        &all,
-    )?;
-    let done = page.add_spans(alloc, ascii(&listed.bytes), entries.len() as u64);
-    drop(listed);
-    Ok(done?)
+    let spans = spans_of(alloc, seen.start(), entries)?;
+    let done = page.add_spans(seen.names(), &spans, entries.len() as u64);
+    drop(spans);
+    done
 }
 
 /// How permissions were used, from the opening of the start on.
-fn usage_of(alloc: Global, seen: &Replay) -> Result<Listing, AllocError> {
+fn usages_of(alloc: Global, seen: &Replay) -> Result<Vec<Usage>, AllocError> {
     let opening = seen.start().opening(alloc)?;
-    let listed = list_usages(
-        alloc,
-        Form::Text,
-        seen.names(),
-        None,
-        &opening,
-        seen.entries(),
-    );
+    let usages = usages_over(alloc, &opening, seen.entries());
     drop(opening);
-    listed
+    usages
 }
 
 /// Appends how permissions were used.
-fn add_usage(alloc: Global, page: &mut Page, seen: &Replay) -> Result<(), QuestionFault> {
-    let listed = usage_of(alloc, seen)?;
-    let done = page.add_usage(ascii(&listed.bytes));
-    drop(listed);
-    Ok(done?)
-}
-
-/// The fault of a listing that asks for no subject.
-fn as_asked(fault: ListFault) -> QuestionFault {
-    match fault {
-        ListFault::Question(fault) => fault,
-        ListFault::By => QuestionFault::Subject,
-    }
-}
-
-/// Appends how permissions were used, and the end of the page.
-fn add_rest(alloc: Global, page: &mut Page, seen: &Replay) -> Result<(), QuestionFault> {
-    match add_usage(alloc, page, seen) {
-        Ok(()) => Ok(page.end()?),
-        Err(fault) => Err(fault),
-    }
-}
-
-/// Appends who held what, and all that stands behind.
-fn add_held(alloc: Global, page: &mut Page, seen: &Replay) -> Result<(), QuestionFault> {
-    match add_spans(alloc, page, seen) {
-        Ok(()) => add_rest(alloc, page, seen),
-        Err(fault) => Err(fault),
-    }
+fn add_usage(alloc: Global, page: &mut Page, seen: &Replay) -> Result<(), AllocError> {
+    let usages = usages_of(alloc, seen)?;
+    let done = page.add_usage(seen.names(), &usages);
+    drop(usages);
+    done
 }
 
 /// Appends all sections about a journal that was replayed.
+///
+/// # Errors
+/// `AllocError` where an allocation failed.
 pub(crate) fn add_sections(
     alloc: Global,
     page: &mut Page,
     seen: &Replay,
     verified: Option<&Verified>,
     marks: Option<&Marks>,
-) -> Result<(), QuestionFault> {
-    add_seen(alloc, page, seen, verified)?;
-    match add_denials(alloc, page, seen, marks) {
-        Ok(()) => add_held(alloc, page, seen),
-        Err(fault) => Err(as_asked(fault)),
-    }
+) -> Result<(), AllocError> {
+    let names = seen.names();
+    let start = seen.start();
+    add_verified(page, seen, verified)?;
+    add_counts(alloc, page, seen)?;
+    page.add_lattice(names, start)?;
+    add_powers(alloc, page, seen)?;
+    page.add_denials(names, start, seen.entries(), marks)?;
+    add_spans(alloc, page, seen)?;
+    add_usage(alloc, page, seen)?;
+    page.end()
 }

@@ -1,6 +1,6 @@
 //! The files of a question, read.
 use mls_command_line::Source;
-use mls_files::{MarksInput, marks_refused, read_journal, read_marks, start_file};
+use mls_files::{MarksInput, marks_refused, read_journal, read_marks, refuse_missing, start_file};
 use mls_marks::{Marks, Verified};
 use mls_terminal::{FileFault, Progress, file_refused};
 use std::process::ExitCode;
@@ -18,21 +18,15 @@ pub(crate) struct Bytes {
     pub at: Option<u64>,
 }
 
-impl Bytes {
-    /// The bytes of the journal, none where there is no journal.
-    pub(crate) fn journal(&self) -> &[u8] {
-        match &self.journal {
-            Some(journal) => journal.as_slice(),
-            None => b"".as_slice(),
-        }
-    }
-}
-
-/// The bytes of a journal, where there is one.
-fn read_any(progress: &mut Progress<'_>, path: Option<&str>) -> Result<Option<Vec<u8>>, FileFault> {
-    match path {
-        Some(path) => Ok(Some(read_journal(progress, path)?)),
-        None => Ok(None),
+/// The bytes of a journal, where there is one, all of whose entries are here.
+fn read_any(progress: &mut Progress<'_>, path: Option<&str>) -> Result<Option<Vec<u8>>, ExitCode> {
+    let Some(path) = path else {
+        return Ok(None);
+    };
+    refuse_missing(progress, path)?;
+    match read_journal(progress, path) {
+        Ok(journal) => Ok(Some(journal)),
+        Err(fault) => Err(file_refused(progress, path, fault)),
     }
 }
 
@@ -134,7 +128,7 @@ fn read_beside(progress: &mut Progress<'_>, source: &Source<'_>) -> Result<Besid
     let input = open_marks(progress, source.marks)?;
     let read = match read_any(progress, source.journal) {
         Ok(journal) => with_marks(progress, source, &input, journal),
-        Err(fault) => Err(file_refused(progress, source.journal.unwrap_or(""), fault)),
+        Err(status) => Err(status),
     };
     drop(input);
     read

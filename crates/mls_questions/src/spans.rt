@@ -1,12 +1,14 @@
 //! The commands that look at all states of a journal.
 use crate::listing::earlier;
 use crate::named::Named;
+use crate::past::{Past, past_refused, replayed};
 use crate::renaming::{held_after, usage_after};
 use crate::row_answers::{form_of, rows_ended};
-use crate::sources::Bytes;
-use mls_command_line::{EverWords, HeldWords, Times, UsageWords};
+use crate::sources::{Bytes, read_source};
+use mls_answers::{held as answer_held, usage as answer_usage, who_ever as answer_who_ever};
+use mls_command_line::{EverWords, HeldWords, Source, Times, UsageWords};
 use mls_marks::{Marks, Time};
-use mls_spans::{Filter, States, Words, list_ever, list_held, list_usage};
+use mls_spans::{Filter, States, Words};
 use mls_terminal::Progress;
 use std::process::ExitCode;
 
@@ -62,17 +64,25 @@ fn timed_filter<'a>(words: &HeldWords<'a>, bytes: &Bytes) -> Words<'a> {
     }
 }
 
-/// Prints who held what over a journal.
-pub(crate) fn held(progress: &mut Progress<'_>, words: &HeldWords<'_>, bytes: &Bytes) -> ExitCode {
-    let filter = timed_filter(words, bytes);
+/// Prints who held what over a journal that was replayed.
+fn held_over<'a>(
+    progress: &mut Progress<'_>,
+    named: Named<'a>,
+    past: &Past,
+    filter: &Words<'a>,
+) -> ExitCode {
+    let alloc = progress.rt().alloc();
+    let form = form_of(progress);
+    let done = answer_held(alloc, form, &past.history, past.marks.as_ref(), filter);
+    rows_ended(progress, named, past.history.start_file(), done)
+}
+
+/// Prints who held what over a journal, over the bytes of its files.
+fn held_bytes(progress: &mut Progress<'_>, words: &HeldWords<'_>, bytes: Bytes) -> ExitCode {
+    let filter = timed_filter(words, &bytes);
     if let Some(map) = words.after {
         return held_after(progress, words, map, bytes, &filter);
     }
-    progress.begin("listing");
-    let alloc = progress.rt().alloc();
-    let marks = bytes.marks.as_ref();
-    let form = form_of(progress);
-    let done = list_held(alloc, form, &bytes.start, bytes.journal(), marks, &filter);
     let named = Named {
         start: words.start,
         journal: words.journal,
@@ -80,46 +90,71 @@ pub(crate) fn held(progress: &mut Progress<'_>, words: &HeldWords<'_>, bytes: &B
         object: filter.object.unwrap_or(""),
         line: "",
     };
-    rows_ended(progress, named, &bytes.start, done)
+    progress.begin("listing");
+    match replayed(progress.rt().alloc(), bytes, None) {
+        Ok(past) => {
+            let status = held_over(progress, named, &past, &filter);
+            drop(past);
+            status
+        }
+        Err(fault) => past_refused(progress, named, fault),
+    }
 }
 
-/// Prints how the permissions over a journal were used.
-pub(crate) fn usage(
+/// Prints how the permissions were used over a journal that was replayed.
+fn usage_over(
     progress: &mut Progress<'_>,
-    words: &UsageWords<'_>,
-    bytes: &Bytes,
+    named: Named<'_>,
+    past: &Past,
+    last: Option<u64>,
 ) -> ExitCode {
-    let states = states_of(words.states, &words.times, bytes);
+    let alloc = progress.rt().alloc();
+    let form = form_of(progress);
+    let done = answer_usage(alloc, form, &past.history, past.marks.as_ref(), last);
+    rows_ended(progress, named, past.history.start_file(), done)
+}
+
+/// Prints how the permissions over a journal were used, over the bytes of its files.
+fn usage_bytes(progress: &mut Progress<'_>, words: &UsageWords<'_>, bytes: Bytes) -> ExitCode {
+    let states = states_of(words.states, &words.times, &bytes);
     if let Some(map) = words.after {
         return usage_after(progress, words, map, bytes, states);
     }
-    progress.begin("listing");
-    let alloc = progress.rt().alloc();
-    let marks = bytes.marks.as_ref();
-    let form = form_of(progress);
-    let done = list_usage(alloc, form, &bytes.start, bytes.journal(), marks, states);
     let named = Named::files(words.start, words.journal);
-    rows_ended(progress, named, &bytes.start, done)
+    progress.begin("listing");
+    match replayed(progress.rt().alloc(), bytes, Some(states.first)) {
+        Ok(past) => {
+            let status = usage_over(progress, named, &past, states.last);
+            drop(past);
+            status
+        }
+        Err(fault) => past_refused(progress, named, fault),
+    }
 }
 
-/// Prints who could ever get an object over a journal.
-pub(crate) fn who_ever(
+/// Prints who could ever get an object over a journal that was replayed.
+fn who_ever_over<'a>(
     progress: &mut Progress<'_>,
-    words: &EverWords<'_>,
-    bytes: &Bytes,
+    named: Named<'a>,
+    words: &EverWords<'a>,
+    past: &Past,
+    last: Option<u64>,
 ) -> ExitCode {
-    let states = states_of(words.states, &words.times, bytes);
-    progress.begin("looking");
-    let done = list_ever(
+    let done = answer_who_ever(
         progress.rt().alloc(),
         form_of(progress),
-        &bytes.start,
-        bytes.journal(),
-        bytes.marks.as_ref(),
-        states,
+        &past.history,
+        past.marks.as_ref(),
+        last,
         words.object,
         words.mode,
     );
+    rows_ended(progress, named, past.history.start_file(), done)
+}
+
+/// Prints who could ever get an object over a journal, over the bytes of its files.
+fn who_ever_bytes(progress: &mut Progress<'_>, words: &EverWords<'_>, bytes: Bytes) -> ExitCode {
+    let states = states_of(words.states, &words.times, &bytes);
     let named = Named {
         start: words.start,
         journal: words.journal,
@@ -127,5 +162,49 @@ pub(crate) fn who_ever(
         object: words.object,
         line: "",
     };
-    rows_ended(progress, named, &bytes.start, done)
+    progress.begin("looking");
+    match replayed(progress.rt().alloc(), bytes, Some(states.first)) {
+        Ok(past) => {
+            let status = who_ever_over(progress, named, words, &past, states.last);
+            drop(past);
+            status
+        }
+        Err(fault) => past_refused(progress, named, fault),
+    }
+}
+
+/// Prints who held what over a journal.
+pub(crate) fn held(
+    progress: &mut Progress<'_>,
+    source: &Source<'_>,
+    words: &HeldWords<'_>,
+) -> ExitCode {
+    match read_source(progress, source) {
+        Ok(bytes) => held_bytes(progress, words, bytes),
+        Err(status) => status,
+    }
+}
+
+/// Prints how the permissions over a journal were used.
+pub(crate) fn usage(
+    progress: &mut Progress<'_>,
+    source: &Source<'_>,
+    words: &UsageWords<'_>,
+) -> ExitCode {
+    match read_source(progress, source) {
+        Ok(bytes) => usage_bytes(progress, words, bytes),
+        Err(status) => status,
+    }
+}
+
+/// Prints who could ever get an object over a journal.
+pub(crate) fn who_ever(
+    progress: &mut Progress<'_>,
+    source: &Source<'_>,
+    words: &EverWords<'_>,
+) -> ExitCode {
+    match read_source(progress, source) {
+        Ok(bytes) => who_ever_bytes(progress, words, bytes),
+        Err(status) => status,
+    }
 }

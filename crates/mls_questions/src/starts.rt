@@ -10,7 +10,8 @@ ghost use Rattle.mls_start_file.specs.Says.{RefusesStart};
 use crate::answering::ended;
 use crate::named::Named;
 use crate::row_answers::{form_of, rows_ended};
-use crate::sources::Bytes;
+use crate::sources::read_source;
+use mls_command_line::Source;
 use mls_files::{command_refused, judge_start};
 use mls_replay::{CommandFault, QuestionFault};
 use mls_review::{lattice as drawn, lint as linted};
@@ -96,18 +97,37 @@ fn lint_bytes(progress: &mut Progress<'_>, path: &str, bytes: &[u8]) -> ExitCode
 }
 
 /// Prints what is suspicious in a start and its file, or where the start file's fault applies.
-pub(crate) fn lint(progress: &mut Progress<'_>, path: &str, bytes: &Bytes) -> ExitCode {
-    progress.end();
-    lint_bytes(progress, path, &bytes.start)
+pub(crate) fn lint(progress: &mut Progress<'_>, source: &Source<'_>) -> ExitCode {
+    match read_source(progress, source) {
+        Ok(bytes) => {
+            progress.end();
+            let status = lint_bytes(progress, source.start, &bytes.start);
+            drop(bytes);
+            status
+        }
+        Err(status) => status,
+    }
 }
 
 /// Prints the order of the labels of a start.
-pub(crate) fn lattice(progress: &mut Progress<'_>, path: &str, bytes: &Bytes) -> ExitCode {
-    match judge_start(progress, path, &bytes.start) {
+fn lattice_of(progress: &mut Progress<'_>, path: &str, bytes: &[u8]) -> ExitCode {
+    match judge_start(progress, path, bytes) {
         Ok(loaded) => {
             let done = asked(drawn(progress.rt().alloc(), loaded.names(), loaded.start()));
             drop(loaded);
             ended(progress, Named::files(path, ""), b"".as_slice(), done)
+        }
+        Err(status) => status,
+    }
+}
+
+/// Prints the order of the labels of the start of a file.
+pub(crate) fn lattice(progress: &mut Progress<'_>, source: &Source<'_>) -> ExitCode {
+    match read_source(progress, source) {
+        Ok(bytes) => {
+            let status = lattice_of(progress, source.start, &bytes.start);
+            drop(bytes);
+            status
         }
         Err(status) => status,
     }

@@ -55,9 +55,13 @@ holder_word (Current s) = codes " current"
 holder_word (Both s) = codes " maximum, current"
 holder_word (Object o) = []
 
--- What is written of one that has a label, after a backslash and an n. (own)
+-- What is written of one that has a label. (own)
 abbrev pub holder_text : Names → Holder → List ℕ
-holder_text names h = codes "\\n" ++ holder_name names h ++ holder_word h
+holder_text names h = holder_name names h ++ holder_word h
+
+-- That, after a backslash and an n. (own)
+abbrev pub holder_line : Names → Holder → List ℕ
+holder_line names h = codes "\\n" ++ holder_text names h
 
 -- What is written of so many more. (own)
 abbrev pub more_text : ℕ → List ℕ
@@ -65,7 +69,7 @@ more_text n = if n == 0 then [] else codes "\\nand " ++ decimal n ++ codes " mor
 
 -- What is written of all that have a label: of the first of them, and how many more there are. (own)
 abbrev pub holders_text : Names → List Holder → List ℕ
-holders_text names all = flat_map (holder_text names) (take SHOWN all) ++ more_text (length all - SHOWN)
+holders_text names all = flat_map (holder_line names) (take SHOWN all) ++ more_text (length all - SHOWN)
 
 -- The line of a label: a node, in which the label and all that have it stand below each other. (own)
 abbrev pub node_text : Names → State → Label → List ℕ

@@ -17,28 +17,35 @@ use Rattle.mls_review.specs.declared.power.Power.TheVariants.{Gives, Creates, De
 use Rattle.mls_review.specs.declared.relabeling.Relabeling.{Relabeling}
 use Rattle.mls_review.specs.declared.relabeling.Relabeling.TheVariants.{Level, Down, Up}
 
--- The words for a power in a line, between who has it and what it is over. (own)
+-- The words for a power in a line, before what it is over. (own)
 abbrev pub power_word : Power → List ℕ
-power_word Gives = codes " gives and rescinds "
-power_word Creates = codes " creates under "
-power_word Deletes = codes " deletes "
+power_word Gives = codes "gives and rescinds "
+power_word Creates = codes "creates under "
+power_word Deletes = codes "deletes "
 
--- What stands in a line before the labels. (own)
-abbrev pub relabeling_front : Names → ℕ → Relabeling → List ℕ
-relabeling_front names s Level = subject_text names s ++ codes " level"
-relabeling_front names s (Down o) =
-    subject_text names s ++ codes " relabels " ++ object_text names o ++ codes " down to"
-relabeling_front names s (Up o) = subject_text names s ++ codes " relabels " ++ object_text names o ++ codes " up to"
+-- What stands in a line between who may take or give labels and these. (own)
+abbrev pub relabeling_front : Names → Relabeling → List ℕ
+relabeling_front names Level = codes "level"
+relabeling_front names (Down o) = codes "relabels " ++ object_text names o ++ codes " down to"
+relabeling_front names (Up o) = codes "relabels " ++ object_text names o ++ codes " up to"
 
 -- A label, after a space. (own)
 abbrev pub one_more_label : Names → Label → List ℕ
 one_more_label names l = 32 ∷ security_text names l
 
+-- Who may change something. (own)
+abbrev pub granted_to : Granted → ℕ
+granted_to (over s power o) = s
+granted_to (relabels s r labels) = s
+
+-- What a subject may change. (own)
+abbrev pub granted_text : Names → Granted → List ℕ
+granted_text names (over s power o) = power_word power ++ object_text names o
+granted_text names (relabels s r labels) = relabeling_front names r ++ flat_map (one_more_label names) labels
+
 -- The line of what a subject may change. (own)
 abbrev pub granted_line : Names → Granted → List ℕ
-granted_line names (over s power o) = subject_text names s ++ power_word power ++ object_text names o ++ 10 ∷ []
-granted_line names (relabels s r labels) =
-    relabeling_front names s r ++ flat_map (one_more_label names) labels ++ 10 ∷ []
+granted_line names g = subject_text names (granted_to g) ++ 32 ∷ granted_text names g ++ 10 ∷ []
 
 -- The word for a power in JSON. (own)
 abbrev pub power_name : Power → List ℕ

@@ -1,68 +1,63 @@
 //! The lines of what subjects may change.
-ghost use Rattle.std.specs.Prelude.{◌≡◌, ◌++◌, ◌∷◌, [], string_bytes, OnOk};
+ghost use Rattle.std.specs.Prelude.{◌≡◌, ◌++◌, codes, string_bytes, OnOk};
 ghost use Rattle.std.specs.List.{flat_map};
-ghost use Rattle.mls_review.specs.Granted.{over, relabels};
-ghost use Rattle.mls_review.specs.PowerRows.{granted_line, one_more_label, power_word, relabeling_front};
+ghost use Rattle.mls_wording.specs.Wording.{object_text};
+ghost use Rattle.mls_review.specs.Granted.{change_view};
+ghost use Rattle.mls_review.specs.PowerRows.{granted_line, granted_text, one_more_label};
+ghost use Rattle.mls_review.specs.PowerRows.{power_word, relabeling_front};
 
+use crate::change::Change;
 use crate::power::Power;
 use crate::relabeling::Relabeling;
 use mls_labels::SecLabel;
 use mls_lines::Names;
-use mls_tables::{ObjectId, SubjectId};
+use mls_tables::ObjectId;
 use mls_wording::{push_object, push_security, push_subject};
 use std::alloc::AllocError;
 
-/// The words between who has a power and what it is over.
+/// The words for a power, before what it is over.
 fn power_word(power: Power) -> &'static str
     ensures { result.now ≡ power_word power }
 {
     match power {
-        Power::Gives => " gives and rescinds ",
-        Power::Creates => " creates under ",
-        Power::Deletes => " deletes ",
+        Power::Gives => "gives and rescinds ",
+        Power::Creates => "creates under ",
+        Power::Deletes => "deletes ",
     }
 }
 
-/// Appends the line of a power over an object.
-pub(crate) fn push_over(
+/// Appends a power over an object.
+fn push_over(text: &mut String, names: &Names, power: Power, o: ObjectId) -> Result<(), AllocError>
+    ensures { OnOk result
+        (string_bytes text.new ≡ string_bytes text.old ++ power_word power ++ object_text names.now o) }
+{
+    text.push_str(power_word(power))?;
+    push_object(text, names, o)
+}
+
+/// Appends an object that is relabelled, and in which direction.
+fn push_direction(
     text: &mut String,
     names: &Names,
-    s: SubjectId,
-    power: Power,
     o: ObjectId,
+    direction: &str,
 ) -> Result<(), AllocError>
-    ensures { OnOk result
-        (string_bytes text.new ≡ string_bytes text.old ++ granted_line names.now (over s power o)) }
+    ensures { OnOk result (string_bytes text.new
+        ≡ string_bytes text.old ++ codes "relabels " ++ object_text names.now o ++ direction.now) }
 {
-    push_subject(text, names, s)?;
-    text.push_str(power_word(power))?;
+    text.push_str("relabels ")?;
     push_object(text, names, o)?;
-    text.push_str("\n")
+    text.push_str(direction)
 }
 
 /// Appends what stands before the labels.
-fn push_front(
-    text: &mut String,
-    names: &Names,
-    s: SubjectId,
-    change: Relabeling,
-) -> Result<(), AllocError>
-    ensures { OnOk result
-        (string_bytes text.new ≡ string_bytes text.old ++ relabeling_front names.now s change) }
+fn push_front(text: &mut String, names: &Names, change: Relabeling) -> Result<(), AllocError>
+    ensures { OnOk result (string_bytes text.new ≡ string_bytes text.old ++ relabeling_front names.now change) }
 {
-    push_subject(text, names, s)?;
     match change {
-        Relabeling::Level => text.push_str(" level"),
-        Relabeling::Down(o) => {
-            text.push_str(" relabels ")?;
-            push_object(text, names, o)?;
-            text.push_str(" down to")
-        }
-        Relabeling::Up(o) => {
-            text.push_str(" relabels ")?;
-            push_object(text, names, o)?;
-            text.push_str(" up to")
-        }
+        Relabeling::Level => text.push_str("level"),
+        Relabeling::Down(o) => push_direction(text, names, o, " down to"),
+        Relabeling::Up(o) => push_direction(text, names, o, " up to"),
     }
 }
 
@@ -78,18 +73,34 @@ fn push_all(text: &mut String, names: &Names, labels: &[SecLabel]) -> Result<(),
     Ok(())
 }
 
-/// Appends the line of labels.
-pub(crate) fn push_labels(
+/// Appends what a subject may change, as a line tells it behind the subject.
+///
+/// # Errors
+/// `AllocError` where an allocation failed. The text may then have a part of it.
+pub fn push_change(text: &mut String, names: &Names, change: &Change) -> Result<(), AllocError>
+    ensures { OnOk result (string_bytes text.new
+        ≡ string_bytes text.old ++ granted_text names.now (change_view change.now)) }
+{
+    match change {
+        Change::Over(_, power, o) => push_over(text, names, *power, *o),
+        Change::Labels(_, change, labels) => {
+            push_front(text, names, *change)?;
+            push_all(text, names, labels)
+        }
+    }
+}
+
+/// Appends the line of what a subject may change.
+pub(crate) fn push_change_line(
     text: &mut String,
     names: &Names,
-    s: SubjectId,
-    change: Relabeling,
-    labels: &[SecLabel],
+    change: &Change,
 ) -> Result<(), AllocError>
-    ensures { OnOk result
-        (string_bytes text.new ≡ string_bytes text.old ++ granted_line names.now (relabels s change labels.now)) }
+    ensures { OnOk result (string_bytes text.new
+        ≡ string_bytes text.old ++ granted_line names.now (change_view change.now)) }
 {
-    push_front(text, names, s, change)?;
-    push_all(text, names, labels)?;
+    push_subject(text, names, change.subject())?;
+    text.push_str(" ")?;
+    push_change(text, names, change)?;
     text.push_str("\n")
 }

@@ -7,7 +7,7 @@ ghost use Rattle.mls_review.specs.Powers.{powers as powers_in};
 
 use crate::authority::{Asked, changes};
 use crate::change::Change;
-use crate::change_lines::{push_labels, push_over};
+use crate::change_lines::push_change_line;
 use crate::change_members::{write_over, write_taken};
 use json::Writer;
 use mls_lines::Names;
@@ -27,10 +27,7 @@ impl Told for Change {
         names: &Names,
         _marks: Option<&Marks>,
     ) -> Result<(), AllocError> {
-        match self {
-            Change::Over(s, power, o) => push_over(text, names, *s, *power, *o),
-            Change::Labels(s, change, labels) => push_labels(text, names, *s, *change, labels),
-        }
+        push_change_line(text, names, self)
     }
 
     fn write_members(

@@ -2,8 +2,8 @@
 ghost use Rattle.std.specs.Prelude.{◌≡◌, ◌++◌, All, length, string_bytes, OnOk};
 ghost use Rattle.std.specs.List.{flat_map};
 ghost use Rattle.mls_review.specs.Covers.{IsWithin};
-ghost use Rattle.mls_review.specs.Drawing.{holder_name, holder_word, holder_text, holders_text, more_text};
-ghost use Rattle.mls_review.specs.Drawing.{node_text, edge_text};
+ghost use Rattle.mls_review.specs.Drawing.{holder_line, holder_name, holder_word, holder_text, holders_text};
+ghost use Rattle.mls_review.specs.Drawing.{edge_text, more_text, node_text};
 
 use crate::cover::Cover;
 use crate::holder::Holder;
@@ -39,13 +39,23 @@ fn holder_word(holder: &Holder) -> &'static str
     }
 }
 
-/// Appends one that has a label, on a line of its own within a node.
-fn push_holder(text: &mut String, names: &Names, holder: &Holder) -> Result<(), AllocError>
+/// Appends one that has a label: its name, and of a subject as what it has it.
+///
+/// # Errors
+/// `AllocError` where an allocation failed. The text may then have a part of it.
+pub fn push_holder(text: &mut String, names: &Names, holder: &Holder) -> Result<(), AllocError>
     ensures { OnOk result (string_bytes text.new ≡ string_bytes text.old ++ holder_text names.now holder.now) }
 {
-    text.push_str("\\n")?;
     push_name(text, names, holder)?;
     text.push_str(holder_word(holder))
+}
+
+/// Appends one that has a label, on a line of its own within a node.
+fn push_holder_line(text: &mut String, names: &Names, holder: &Holder) -> Result<(), AllocError>
+    ensures { OnOk result (string_bytes text.new ≡ string_bytes text.old ++ holder_line names.now holder.now) }
+{
+    text.push_str("\\n")?;
+    push_holder(text, names, holder)
 }
 
 /// Appends how many more there are, where there are any.
@@ -63,10 +73,10 @@ fn push_more(text: &mut String, count: usize) -> Result<(), AllocError>
 /// Appends all of these, each on a line of its own within a node.
 fn push_each(text: &mut String, names: &Names, all: &[Holder]) -> Result<(), AllocError>
     ensures { OnOk result
-        (string_bytes text.new ≡ string_bytes text.old ++ flat_map (holder_text names.now) all.now) }
+        (string_bytes text.new ≡ string_bytes text.old ++ flat_map (holder_line names.now) all.now) }
 {
     for holder in all {
-        push_holder(text, names, holder)?;
+        push_holder_line(text, names, holder)?;
     }
     Ok(())
 }

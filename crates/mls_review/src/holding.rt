@@ -92,11 +92,7 @@ fn push_objects(found: &mut Vec<Holder>, state: &State, label: &SecLabel) -> Res
 }
 
 /// Who and what has the label: subjects, by number, and then objects, by number.
-pub(crate) fn holders(
-    alloc: Global,
-    state: &State,
-    label: &SecLabel,
-) -> Result<Vec<Holder>, AllocError>
+pub fn holders(alloc: Global, state: &State, label: &SecLabel) -> Result<Vec<Holder>, AllocError>
     ensures { IfOk result (λ found. found.items ≡ holders state.now label.now) }
 {
     let mut found = Vec::new(alloc);

@@ -1,4 +1,5 @@
 pub mod Files
+pub mod Histories
 pub mod Opened
 pub mod Refusals
 pub mod Seeing

@@ -1,6 +1,7 @@
 //! What files are seen as that a question is asked over: a start file, and a journal whole or from a cut on.
 #![tactic(auto)]
 
+mod history;
 mod opened;
 mod seeing;
 mod seen;
@@ -8,6 +9,7 @@ mod source;
 mod taking;
 mod theorems;
 
+pub use history::History;
 pub use opened::Opened;
 pub use seeing::Seeing;
 pub use seen::Seen;

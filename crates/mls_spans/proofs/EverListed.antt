@@ -1,22 +1,20 @@
 -- What is listed of the states in which gets would be granted.
-use Rattle.std.proofs.Common.{◌≡◌, ℕ, ◌<◌, Bool, true, false, cond, List, [], Option, Some, Result, Ok, Err, sym, ap, subst, ◌∙◌, inr}
-use Rattle.std.specs.Prelude.{IfOk, IfErr, filter}
+use Rattle.std.proofs.Common.{◌≡◌, ℕ, ◌<◌, Bool, true, false, cond, List, [], Option, Result, Ok, Err, sym, ap, subst, ◌∙◌}
+use Rattle.std.specs.Prelude.{IfOk, filter}
 use Rattle.std.specs.List.{All, flat_map, list_any}
 use Rattle.std.proofs.lemmas.List.Elements.{All-filter, All-nil}
 use Rattle.mls_lines.specs.Names.{Names}
 use Rattle.mls_marks.specs.declared.row.Row.{Row}
 use Rattle.mls_requests.specs.declared.entry.Entry.{Entry}
-use Rattle.mls_replay.specs.Replays.{Replayed, ReplaysAt}
-use Rattle.mls_replay.specs.declared.question_fault.QuestionFault.{QuestionFault}
+use Rattle.mls_replay.specs.Replays.{Replayed}
 use Rattle.mls_rows.specs.declared.form.Form.{Form}
 use Rattle.mls_rows.specs.declared.listing.Listing.{Listing}
 use Rattle.mls_state.specs.State.{State}
 use Rattle.mls_tables.specs.Mode.{ModeSet}
 use Rattle.mls_tables.specs.Triples.{Triple}
-use Rattle.mls_tables.specs.declared.mode.Mode.{Mode}
 use Rattle.mls_spans.specs.Asked.{has_window, is_some_state}
 use Rattle.mls_spans.specs.EverLines.{ever_row}
-use Rattle.mls_spans.specs.EverListings.{IsEver, ListsEver, ListsWord, RefusesEver, RefusesWord, is_seen, permissions_seen, windows_seen}
+use Rattle.mls_spans.specs.EverListings.{IsEver, is_seen, permissions_seen, windows_seen}
 use Rattle.mls_spans.specs.Kept.{IsTally, is_there}
 use Rattle.mls_spans.specs.Permissions.{accesses_to, permissions_to}
 use Rattle.mls_spans.specs.Turning.{AreTurns, found_seen}
@@ -77,16 +75,3 @@ ever_ok form r names rows states asked o m found accesses (Ok listing) same obje
     (bytes ∙ (λ i. flat_map (λ t. ever_row form (same i) rows t (found_seen (at i) states t)) accesses))
     (positive ∙ (λ i. list_any (λ t. is_any (found_seen (at i) states t)) accesses))
 ever_ok form r names rows states asked o m found accesses (Err fault) same object turns at are bytes positive = tt
-
-pub lists_ever : (form : Form) (bytes journal : List ℕ) (rows : Option (List Row)) (states : States) (mode : Option Mode) (word : List ℕ) (r : Replayed)
-    (result : Result Listing QuestionFault) → ReplaysAt bytes journal (Some states.first) r
-    → IfOk result (λ listing. ListsWord form r rows states mode word listing)
-    → IfOk result (λ listing. ListsEver form bytes journal rows states mode word listing)
-lists_ever form bytes journal rows states mode word r (Ok listing) replays listed = (r, replays, listed)
-lists_ever form bytes journal rows states mode word r (Err fault) replays listed = tt
-
-pub refuses_ever : (bytes journal : List ℕ) (states : States) (word : List ℕ) (r : Replayed) (result : Result Listing QuestionFault)
-    → ReplaysAt bytes journal (Some states.first) r → IfErr result (λ fault. RefusesWord r.names word fault)
-    → IfErr result (λ fault. RefusesEver bytes journal states word fault)
-refuses_ever bytes journal states word r (Ok listing) at why = tt
-refuses_ever bytes journal states word r (Err fault) at why = inr (r, at, why)

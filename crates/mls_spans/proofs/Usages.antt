@@ -2,17 +2,9 @@
 use Rattle.std.proofs.Common.{◌≡◌, ℕ, ◌≤◌, true, false, cond, List, [], ◌++◌, sym, ap, ◌∙◌, append-nil, arith}
 use Rattle.std.specs.List.{flat_map, range_with_len}
 use Rattle.mls_requests.specs.declared.entry.Entry.{Entry}
-use Rattle.mls_marks.specs.declared.row.Row.{Row}
 use Rattle.mls_state.specs.State.{State, is_subject}
 use Rattle.mls_tables.specs.declared.limits.TheConstants.{MAX_OBJECTS}
 use Rattle.mls_spans.specs.Uses.{is_permission, usage_by, usage_of, usages, accesses_on, accesses_by, all_accesses}
-use Rattle.mls_replay.specs.Replays.{Replayed, ReplaysAt}
-use Rattle.mls_replay.specs.declared.question_fault.QuestionFault.{QuestionFault}
-use Rattle.mls_rows.specs.declared.form.Form.{Form}
-use Rattle.mls_rows.specs.declared.listing.Listing.{Listing}
-use Rattle.mls_spans.specs.UsageListings.{IsUsage, ListsUsage, usages_seen}
-use Rattle.mls_spans.specs.declared.states.States.{States}
-use Rattle.std.specs.Prelude.{IfOk, Option, Some, Result, Ok, Err}
 use Rattle.mls_spans.specs.Kept.{IsTally, is_there, usage_told, usages_told}
 use Rattle.mls_spans.specs.declared.tally.Tally.{Tally}
 use Rattle.mls_spans.specs.declared.usage.Usage.{Usage}
@@ -40,11 +32,3 @@ pub all_by_known : (v : State) (m : Tally) (s n : ℕ) (rows new : List Usage) �
 unfolding accesses_by
 all_by_known v m s n rows new known all is =
     is ∙ ap (λ k. rows ++ usages_told v m (flat_map (accesses_on s) (range_with_len 0 k))) all ∙ ap (λ b. rows ++ usages_told v m (cond b (flat_map (accesses_on s) (range_with_len 0 MAX_OBJECTS)) [])) (sym known)
-
--- the permissions of a start file and a journal are listed
-pub lists_usage : (form : Form) (bytes journal : List ℕ) (rows : Option (List Row)) (states : States) (r : Replayed)
-    (result : Result Listing QuestionFault) → ReplaysAt bytes journal (Some states.first) r
-    → IfOk result (λ listing. IsUsage form r.names rows (usages_seen r states) listing)
-    → IfOk result (λ listing. ListsUsage form bytes journal rows states listing)
-lists_usage form bytes journal rows states r (Ok listing) replays listed = (r, replays, listed)
-lists_usage form bytes journal rows states r (Err fault) replays listed = tt

@@ -6,7 +6,7 @@ use Rattle.std.specs.List.{flat_map, list_any}
 use Rattle.mls_lines.specs.Names.{Names}
 use Rattle.mls_marks.specs.declared.row.Row.{Row}
 use Rattle.mls_replay.specs.Naming.{object_word}
-use Rattle.mls_replay.specs.Replays.{Replayed, ReplaysAt, RefusesAt}
+use Rattle.mls_replay.specs.Replays.{Replayed}
 use Rattle.mls_replay.specs.declared.command.CommandFault.TheVariants.{Memory}
 use Rattle.mls_replay.specs.declared.question_fault.QuestionFault.{QuestionFault}
 use Rattle.mls_replay.specs.declared.question_fault.QuestionFault.TheVariants.{Files, Object}
@@ -57,23 +57,7 @@ pub record ListsWord (form : Form) (r : Replayed) (rows : Option (List Row)) (st
   pub names : object_word r.names word ≡ Some object
   pub ever : IsEver form r rows states (modes_asked mode) object listing
 
--- A start file and a journal are replayed, and this lists who could ever get the object that a word names. (own)
-abbrev pub ListsEver : Form → List ℕ → List ℕ → Option (List Row) → States → Option Mode → List ℕ → Listing → Type 0
-ListsEver form bytes journal rows states mode word listing =
-    (r : Replayed) × ReplaysAt bytes journal (Some states.first) r × ListsWord form r rows states mode word listing
-
 -- Why the object of a replay isn't looked at: the word names none, or memory ran out. (own)
 abbrev pub RefusesWord : Names → List ℕ → QuestionFault → Type 0
 RefusesWord names word fault =
     ((fault ≡ Object) × (object_word names word ≡ None)) ⊎ (fault ≡ Files Memory)
-
--- A start file and a journal are replayed, and this is why the object isn't looked at. (own)
-abbrev pub RefusesReplayed : List ℕ → List ℕ → States → List ℕ → QuestionFault → Type 0
-RefusesReplayed bytes journal states word fault =
-    (r : Replayed) × ReplaysAt bytes journal (Some states.first) r × RefusesWord r.names word fault
-
--- Why it isn't listed who could ever get an object: as a replay up to the first state that is asked about is refused,
--- or else for its word. (own)
-abbrev pub RefusesEver : List ℕ → List ℕ → States → List ℕ → QuestionFault → Type 0
-RefusesEver bytes journal states word fault =
-    RefusesAt bytes journal (Some states.first) fault ⊎ RefusesReplayed bytes journal states word fault

@@ -24,10 +24,13 @@ abbrev pub end_text : Option (List Row) → Option Ending → List ℕ
 end_text rows None = codes " on"
 end_text rows (Some ending) = codes " to " ++ entry_text rows ending.number ++ codes ", " ++ action_word ending.word
 
+-- From which entry to which a span goes. (own)
+abbrev pub extent_text : Option (List Row) → Span → List ℕ
+extent_text rows span = begin_text rows span.made ++ end_text rows span.ended
+
 -- The line of a span. (own)
 abbrev pub span_line : Names → Option (List Row) → Span → List ℕ
-span_line names rows span =
-    access_text names span.access ++ codes ": " ++ begin_text rows span.made ++ end_text rows span.ended ++ 10 ∷ []
+span_line names rows span = access_text names span.access ++ codes ": " ++ extent_text rows span ++ 10 ∷ []
 
 -- A span in a form: its line, or its object in a line. (own)
 abbrev pub span_row : Form → Names → Option (List Row) → Span → List ℕ

@@ -1,12 +1,12 @@
 -- What is listed of the spans in which accesses are held.
-use Rattle.std.specs.Prelude.{◌≡◌, ◌⊎◌, ℕ, ◌≤◌, List, length, Option, Some}
+use Rattle.std.specs.Prelude.{◌≡◌, ◌⊎◌, ◌≤◌, List, length, Option, Some}
 use Rattle.std.specs.List.{list_any}
 use Rattle.mls_lines.specs.Names.{Names}
 use Rattle.mls_marks.specs.declared.row.Row.{Row}
 use Rattle.mls_requests.specs.declared.entry.Entry.{Entry}
 use Rattle.mls_rows.specs.declared.form.Form.{Form}
 use Rattle.mls_rows.specs.declared.listing.Listing.{Listing}
-use Rattle.mls_replay.specs.Replays.{Replayed, ReplaysAt, RefusesAt}
+use Rattle.mls_replay.specs.Replays.{Replayed}
 use Rattle.mls_replay.specs.declared.command.CommandFault.TheVariants.{Memory}
 use Rattle.mls_replay.specs.declared.question_fault.QuestionFault.{QuestionFault}
 use Rattle.mls_replay.specs.declared.question_fault.QuestionFault.TheVariants.{Files}
@@ -32,16 +32,6 @@ abbrev pub ListsFrom : Form → Replayed → Option (List Row) → Words → Lis
 ListsFrom form r rows words listing =
     (words.states.first ≤ length r.entries) × ListsOver form r rows words listing
 
--- A start file and a journal are replayed, and there is a listing of the spans that a filter asks for. (own)
-abbrev pub ListsHeld : Form → List ℕ → List ℕ → Option (List Row) → Words → Listing → Type 0
-ListsHeld form bytes journal rows words listing =
-    (r : Replayed) × ReplaysAt bytes journal (Some words.states.first) r × ListsOver form r rows words listing
-
--- A start file and a journal are replayed, and a filter's words have this fault. (own)
-abbrev pub HasWrongName : List ℕ → List ℕ → Words → QuestionFault → Type 0
-HasWrongName bytes journal words fault =
-    (r : Replayed) × ReplaysAt bytes journal (Some words.states.first) r × (choice_fault r.names words ≡ Some fault)
-
 -- Why the spans of a replay aren't listed: memory ran out, or a filter's words have this fault. (own)
 abbrev pub RefusesNames : Names → Words → QuestionFault → Type 0
 RefusesNames names words fault = (fault ≡ Files Memory) ⊎ (choice_fault names words ≡ Some fault)
@@ -52,9 +42,3 @@ abbrev pub RefusesFrom : Replayed → Words → QuestionFault → Type 0
 RefusesFrom r words fault =
     IsBehind words.states.first r.entries fault
     ⊎ ((words.states.first ≤ length r.entries) × RefusesNames r.names words fault)
-
--- Why spans aren't listed: as a replay up to the first state that is asked about is refused, or else a filter's words
--- have this fault. (own)
-abbrev pub RefusesHeld : List ℕ → List ℕ → Words → QuestionFault → Type 0
-RefusesHeld bytes journal words fault =
-    RefusesAt bytes journal (Some words.states.first) fault ⊎ HasWrongName bytes journal words fault

@@ -4,7 +4,7 @@ use Rattle.std.specs.Prelude.{◌++◌, if◌then◌else◌}
 use Rattle.mls_lines.specs.Names.{Names}
 use Rattle.mls_marks.specs.declared.row.Row.{Row}
 use Rattle.mls_requests.specs.declared.entry.Entry.{Entry}
-use Rattle.mls_replay.specs.Replays.{Replayed, ReplaysAt}
+use Rattle.mls_replay.specs.Replays.{Replayed}
 use Rattle.mls_rows.specs.declared.form.Form.{Form}
 use Rattle.mls_rows.specs.declared.listing.Listing.{Listing}
 use Rattle.mls_spans.specs.Asked.{is_some_state}
@@ -37,10 +37,3 @@ pub record IsUsage (form : Form) (names : Names) (rows : Option (List Row)) (fou
   pub bytes : listing.bytes.items
       ≡ usages_bytes form names rows found ++ ending_row form (length found) (count_unused found)
   pub positive : listing.is_positive ≡ (count_unused found == 0)
-
--- A start file and a journal are replayed, and this lists the permissions of some states, by the entries between the
--- first and the last of them. (own)
-abbrev pub ListsUsage : Form → List ℕ → List ℕ → Option (List Row) → States → Listing → Type 0
-ListsUsage form bytes journal rows states listing =
-    (r : Replayed) × ReplaysAt bytes journal (Some states.first) r
-    × IsUsage form r.names rows (usages_seen r states) listing

@@ -1,10 +1,10 @@
-//! Who could ever get an object over a journal.
+//! Who could ever get an object over entries.
 ghost use Rattle.std.specs.Prelude.{◌≡◌, ◌<◌, ◌++◌, IfOk, IfErr};
 ghost use Rattle.std.specs.List.{flat_map, list_any};
 ghost use Rattle.mls_rows.specs.Times.{rows_lent};
 ghost use Rattle.mls_rows.specs.Rows.{bytes_of, form_of};
 ghost use Rattle.mls_spans.specs.EverLines.{ever_row};
-ghost use Rattle.mls_spans.specs.EverListings.{IsEver, ListsEver, ListsWord, RefusesEver, RefusesWord};
+ghost use Rattle.mls_spans.specs.EverListings.{IsEver, ListsWord, RefusesWord};
 ghost use Rattle.mls_spans.specs.EverListings.{modes_asked as modes_in, permissions_seen};
 ghost use Rattle.mls_spans.specs.Permissions.{permissions_to};
 ghost use Rattle.mls_spans.specs.Turning.{AreTurns, found_seen};
@@ -22,7 +22,7 @@ use crate::windows::{is_any, windows_of};
 use mls_lines::Names;
 use mls_marks::Marks;
 use mls_monitor::Start;
-use mls_replay::{QuestionFault, Replay, named_object, replay_at};
+use mls_replay::{QuestionFault, Replay, named_object};
 use mls_requests::Entry;
 use mls_rows::{Form, Listing, Output};
 use mls_rules::State;
@@ -175,8 +175,16 @@ fn tell_object(
     listing
 }
 
-/// Who could ever get the object that a word names, over a replay.
-fn tell_word(
+/// Who could ever get an object over a replay, and when: a row in this form for each subject and mode of which one of
+/// some states has the permission on it, with the spans of states in which the get would be granted, as long as they
+/// are, that have one of the states. With the journal's marks the times of their entries are told. The replay looks at
+/// the first of the states. The object is named by a name of the start, or by `#` and its number; without a mode all are
+/// asked for. The answer is a positive one where there is such a span.
+///
+/// # Errors
+/// - `Object` where the word is neither a name of the start's objects nor `#` and a number.
+/// - `Files` with `Memory` as soon as an allocation fails.
+pub fn list_ever(
     alloc: Global,
     form: Form,
     replay: &Replay,
@@ -192,34 +200,4 @@ fn tell_word(
     let o = named_object(replay.names(), word)?;
     let listing = tell_object(alloc, form, replay, marks, states, modes_asked(mode), o)?;
     Ok(listing)
-}
-
-/// Who could ever get an object, and when: a row in this form for each subject and mode of which one of some states has
-/// the permission on it, with the spans of states in which the get would be granted, as long as they are, that have one
-/// of the states. With the journal's marks the times of their entries are told. The object is named by a name of the
-/// start, or by `#` and its number; without a mode all are asked for. The answer is a positive one where there is such a
-/// span.
-///
-/// # Errors
-/// - `Files` as `mls replay` of these files is refused, and with `Memory` where an allocation failed.
-/// - `AtMost` with the number of entries, where the number of the first state that is asked about is above it.
-/// - `Object` where the word is neither a name of the start's objects nor `#` and a number.
-pub fn list_ever(
-    alloc: Global,
-    form: Form,
-    start: &[u8],
-    journal: &[u8],
-    marks: Option<&Marks>,
-    states: States,
-    word: &str,
-    mode: Option<Mode>,
-) -> Result<Listing, QuestionFault>
-    ensures ok { IfOk result
-        (λ listing. ListsEver form start.now journal.now (rows_lent marks.entry) states mode word.now listing) }
-    ensures fault { IfErr result (λ fault. RefusesEver start.now journal.now states word.now fault) }
-{
-    let replay = replay_at(alloc, start, journal, Some(states.first))?;
-    let listing = tell_word(alloc, form, &replay, marks, states, word, mode);
-    drop(replay);
-    listing
 }

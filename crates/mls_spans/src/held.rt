@@ -6,8 +6,7 @@ ghost use Rattle.mls_replay.specs.declared.question_fault.QuestionFault.TheVaria
 ghost use Rattle.mls_spans.specs.Asked.{is_asked as is_asked_for};
 ghost use Rattle.mls_rows.specs.Times.{rows_lent};
 ghost use Rattle.mls_spans.specs.Spans.{spans_over};
-ghost use Rattle.mls_spans.specs.Listings.{IsListing, ListsFrom, ListsHeld, ListsOver, RefusesFrom, RefusesHeld};
-ghost use Rattle.mls_spans.specs.Listings.{RefusesNames};
+ghost use Rattle.mls_spans.specs.Listings.{IsListing, ListsFrom, ListsOver, RefusesFrom, RefusesNames};
 
 use crate::choosing::{Choice, Words, choose, is_asked};
 use crate::following::spans_from;
@@ -16,7 +15,7 @@ use crate::span::Span;
 use mls_lines::Names;
 use mls_marks::Marks;
 use mls_monitor::{Entry, Start};
-use mls_replay::{QuestionFault, Replay, replay_at};
+use mls_replay::{QuestionFault, Replay};
 use mls_rows::{Form, Listing};
 use std::alloc::{AllocError, Global};
 
@@ -32,8 +31,11 @@ fn is_any_asked(choice: &Choice, spans: &[Span]) -> bool
     false
 }
 
-/// The spans over a start and its entries.
-fn spans_of(alloc: Global, start: &Start, entries: &[Entry]) -> Result<Vec<Span>, AllocError>
+/// The spans over a start and its entries, in the order in which they begin.
+///
+/// # Errors
+/// `AllocError` where an allocation failed.
+pub fn spans_of(alloc: Global, start: &Start, entries: &[Entry]) -> Result<Vec<Span>, AllocError>
     ensures { IfOk result (λ spans. spans.items ≡ spans_over start.now entries.now) }
 {
     let mut state = start.opening(alloc)?;
@@ -89,9 +91,16 @@ fn list_replay(
     }
 }
 
-/// The same, where the replay has the first of the states that are asked about.
+/// The spans of states in which an access is held over a replay, as long as they are, a row each in this form: those
+/// that a filter asks for. Where there are marks the times of entries are told. The answer is a positive one where there
+/// is such a span.
+///
+/// # Errors
+/// - `AtMost` with the number of entries, where the number of the first state that is asked about is above it.
+/// - `Subject` where the filter's word for a subject names none, else `Object` where that for an object names none.
+/// - `Files` with `Memory` as soon as an allocation fails.
 #[tactic(auto, using(crate::proofs::Listed::lists_from, crate::proofs::Listed::refuses_from))]
-fn list_from(
+pub fn list_held(
     alloc: Global,
     form: Form,
     replay: &Replay,
@@ -103,37 +112,6 @@ fn list_from(
 {
     match words.states.begin_in(replay.entries()) {
         Ok(()) => list_replay(alloc, form, replay, marks, words),
-        Err(fault) => Err(fault),
-    }
-}
-
-/// The spans of states in which an access is held over a journal, as long as they are, a row each in this form: those
-/// that a filter asks for. Where there are marks the times of entries are told. The answer is a positive one where there
-/// is such a span.
-///
-/// # Errors
-/// - `Files` as `mls replay` of these files is refused, and with `Memory` where an allocation failed.
-/// - `AtMost` with the number of entries, where the number of the first state that is asked about is above it.
-/// - `Subject` where the filter's word for a subject names none, else `Object` where that for an object names none.
-#[tactic(auto, using(crate::proofs::Listed::whole_refuses))]
-pub fn list_held(
-    alloc: Global,
-    form: Form,
-    start: &[u8],
-    journal: &[u8],
-    marks: Option<&Marks>,
-    words: &Words<'_>,
-) -> Result<Listing, QuestionFault>
-    ensures ok { IfOk result
-        (λ listing. ListsHeld form start.now journal.now (rows_lent marks.entry) words.now listing) }
-    ensures fault { IfErr result (λ fault. RefusesHeld start.now journal.now words.now fault) }
-{
-    match replay_at(alloc, start, journal, None) {
-        Ok(replay) => {
-            let listing = list_from(alloc, form, &replay, marks, words);
-            drop(replay);
-            listing
-        }
         Err(fault) => Err(fault),
     }
 }

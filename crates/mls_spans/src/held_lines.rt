@@ -1,7 +1,7 @@
 //! The lines of spans in which an access is held.
 ghost use Rattle.std.specs.Prelude.{◌≡◌, ◌++◌, string_bytes, OnOk};
 ghost use Rattle.mls_rows.specs.Times.{rows_lent};
-ghost use Rattle.mls_spans.specs.Lines.{access_text, end_text, span_line};
+ghost use Rattle.mls_spans.specs.Lines.{access_text, end_text, extent_text, span_line};
 
 use crate::entry_text::{push_begin, push_entry};
 use crate::span::{Ending, Span};
@@ -13,7 +13,10 @@ use mls_wording::{push_object, push_subject};
 use std::alloc::AllocError;
 
 /// Appends an access: `SUBJECT MODE OBJECT`.
-pub(crate) fn push_access(
+///
+/// # Errors
+/// `AllocError` where an allocation failed. The text may then have a part of it.
+pub fn push_access(
     text: &mut String,
     names: &Names,
     access: (SubjectId, ObjectId, Mode),
@@ -50,6 +53,18 @@ fn push_end(
     Ok(())
 }
 
+/// Appends from which entry to which a span goes: `FROM to TO, ACTION`, or `FROM on`.
+///
+/// # Errors
+/// `AllocError` where an allocation failed. The text may then have a part of it.
+pub fn push_extent(text: &mut String, marks: Option<&Marks>, span: &Span) -> Result<(), AllocError>
+    ensures { OnOk result (string_bytes text.new
+        ≡ string_bytes text.old ++ extent_text (rows_lent marks.entry) span.now) }
+{
+    push_begin(text, marks, span.made)?;
+    push_end(text, marks, &span.ended)
+}
+
 /// Appends the line of a span.
 pub(crate) fn push_span(
     text: &mut String,
@@ -62,8 +77,7 @@ pub(crate) fn push_span(
 {
     push_access(text, names, span.access)?;
     text.push_str(": ")?;
-    push_begin(text, marks, span.made)?;
-    push_end(text, marks, &span.ended)?;
+    push_extent(text, marks, span)?;
     text.push_str("\n")?;
     Ok(())
 }

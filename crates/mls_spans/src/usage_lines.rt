@@ -71,7 +71,10 @@ fn permissions_words(count: u64) -> &'static str
 }
 
 /// Appends how many permissions there are, and how many of them were never granted.
-pub(crate) fn push_ending(text: &mut String, count: u64, unused: u64) -> Result<(), AllocError>
+///
+/// # Errors
+/// `AllocError` where an allocation failed. The text may then have a part of it.
+pub fn push_ending(text: &mut String, count: u64, unused: u64) -> Result<(), AllocError>
     ensures { OnOk result (string_bytes text.new ≡ string_bytes text.old ++ ending_text count unused) }
 {
     push_number(text, count)?;

@@ -90,7 +90,7 @@ impl Plain for Counted {
 }
 
 /// How many permissions were never granted.
-pub(crate) fn count_unused(usages: &[Usage]) -> u64
+pub fn count_unused(usages: &[Usage]) -> u64
     ensures { result ≡ length (filter is_unused usages.now) }
 {
     let mut count = 0;

@@ -1,11 +1,8 @@
-//! How the permissions over a journal were used.
-ghost use Rattle.std.specs.Prelude.{◌≡◌, drop as dropped, IfOk, IfErr, Some};
-ghost use Rattle.mls_replay.specs.Replays.{RefusesAt};
-ghost use Rattle.mls_replay.specs.declared.command.CommandFault.TheVariants.{Memory};
-ghost use Rattle.mls_replay.specs.declared.question_fault.QuestionFault.TheVariants.{Files};
+//! How the permissions over entries were used.
+ghost use Rattle.std.specs.Prelude.{◌≡◌, drop as dropped, IfOk};
 ghost use Rattle.mls_rows.specs.Times.{rows_lent};
 ghost use Rattle.mls_spans.specs.Uses.{usages as usages_in};
-ghost use Rattle.mls_spans.specs.UsageListings.{IsUsage, ListsUsage, up_to, usages_seen};
+ghost use Rattle.mls_spans.specs.UsageListings.{IsUsage, up_to, usages_seen};
 ghost use Rattle.mls_spans.specs.UsageListings.{entries_between as between};
 
 use crate::states::States;
@@ -15,7 +12,7 @@ use crate::usage_rows::{count_unused, usages_written};
 use mls_lines::Names;
 use mls_marks::Marks;
 use mls_monitor::Entry;
-use mls_replay::{QuestionFault, Replay, replay_at};
+use mls_replay::Replay;
 use mls_rows::{Form, Listing};
 use mls_rules::State;
 use std::alloc::{AllocError, Global};
@@ -47,8 +44,16 @@ pub(crate) fn entries_between(entries: &[Entry], states: States) -> &[Entry]
     entries_from(entries_up_to(entries, states.last), states.first)
 }
 
-/// How the permissions over entries were used, from a state.
-fn usages_over(alloc: Global, first: &State, entries: &[Entry]) -> Result<Vec<Usage>, AllocError>
+/// How the permissions over entries were used, from a state: each permission of one of the states, by subject, object and
+/// mode.
+///
+/// # Errors
+/// `AllocError` where an allocation failed.
+pub fn usages_over(
+    alloc: Global,
+    first: &State,
+    entries: &[Entry],
+) -> Result<Vec<Usage>, AllocError>
     ensures { IfOk result (λ usages. usages.items ≡ usages_in first.now entries.now) }
 {
     let tally = tally_over(alloc, first, entries)?;
@@ -111,17 +116,20 @@ pub fn list_usages(
     listing
 }
 
-/// The answer that lists the permissions of some states of a replay, by these names; where there are marks, with times.
-/// It is a positive one where each was granted, also where there is none. The replay looks at the first of the states.
+/// How the permissions of some states of a replay were used, by these names, a row each in this form: of each permission
+/// of one of the states, how many of its gets were granted and how many were denied while it was there, and which was
+/// the last; what the first of the states has as a current access counts as one granted. Where there are marks the time
+/// of the last is told. The replay looks at the first of the states. The answer is a positive one where each permission
+/// was granted, also where there is none.
 ///
 /// # Errors
 /// `AllocError` where an allocation failed.
-pub fn list_usages_of(
+pub fn list_usage(
     alloc: Global,
     form: Form,
     names: &Names,
-    marks: Option<&Marks>,
     replay: &Replay,
+    marks: Option<&Marks>,
     states: States,
 ) -> Result<Listing, AllocError>
     ensures { IfOk result
@@ -130,47 +138,5 @@ pub fn list_usages_of(
     let usages = usages_of(alloc, replay, states)?;
     let listing = list_permissions(alloc, form, names, marks, &usages);
     drop(usages);
-    listing
-}
-
-/// The answer that lists the permissions of some states of a replay, by the names of its start.
-fn list_replay(
-    alloc: Global,
-    form: Form,
-    replay: &Replay,
-    marks: Option<&Marks>,
-    states: States,
-) -> Result<Listing, QuestionFault>
-    ensures ok { IfOk result (λ listing.
-        IsUsage form replay.now.names (rows_lent marks.entry) (usages_seen replay.now states) listing) }
-    ensures fault { IfErr result (λ fault. fault ≡ Files Memory) }
-{
-    let listing = list_usages_of(alloc, form, replay.names(), marks, replay, states)?;
-    Ok(listing)
-}
-
-/// How the permissions over a journal were used, a row each in this form: of each permission of one of some states, how
-/// many of its gets were granted and how many were denied while it was there, and which was the last; what the first of
-/// the states has as a current access counts as one granted. Where there are marks the time of the last is told. The
-/// answer is a positive one where each was granted.
-///
-/// # Errors
-/// - `Files` as `mls replay` of these files is refused, and with `Memory` where an allocation failed.
-/// - `AtMost` with the number of entries, where the number of the first state that is asked about is above it.
-pub fn list_usage(
-    alloc: Global,
-    form: Form,
-    start: &[u8],
-    journal: &[u8],
-    marks: Option<&Marks>,
-    states: States,
-) -> Result<Listing, QuestionFault>
-    ensures ok { IfOk result
-        (λ listing. ListsUsage form start.now journal.now (rows_lent marks.entry) states listing) }
-    ensures fault { IfErr result (λ fault. RefusesAt start.now journal.now (Some states.first) fault) }
-{
-    let replay = replay_at(alloc, start, journal, Some(states.first))?;
-    let listing = list_replay(alloc, form, &replay, marks, states);
-    drop(replay);
     listing
 }

@@ -9,11 +9,11 @@
 static int show(fuse_req_t req, struct node *node)
 {
 	struct stat shown;
-	int container, error = file_begin(node->fd, SHOW, &container);
+	int container, error = file_begin(node, SHOW, &container);
 	if (error)
 		return error;
 	error = node_show(node, &shown);
-	if (error == 0 && label_of(node->fd) != container)
+	if (error == 0 && label_now(node) != container)
 		error = EAGAIN;
 	if (error == 0 && fuse_reply_attr(req, &shown, 0) >= 0)
 		error = REPLIED;
@@ -61,7 +61,7 @@ static int set(struct node *node, const struct stat *wanted, int set)
 
 static int change(fuse_req_t req, struct node *node, const struct stat *wanted, int fields)
 {
-	int container, error = file_begin(node->fd, CHANGE, &container);
+	int container, error = file_begin(node, CHANGE, &container);
 	if (error)
 		return error;
 	error = set(node, wanted, fields);
@@ -72,7 +72,7 @@ static int change(fuse_req_t req, struct node *node, const struct stat *wanted, 
 static int read_link(fuse_req_t req, struct node *node)
 {
 	char text[PATH_MAX + 1];
-	int container, error = file_begin(node->fd, READ_LINK, &container);
+	int container, error = file_begin(node, READ_LINK, &container);
 	if (error)
 		return error;
 	ssize_t length = readlinkat(node->fd, "", text, PATH_MAX);

@@ -8,7 +8,7 @@
 /* The label of what has a name; the folder's own where nothing has. */
 static int label_named(struct node *folder, const char *name, struct node **node)
 {
-	return label_of(node_find(folder, name, node) == 0 ? (*node)->fd : folder->fd);
+	return label_now(node_find(folder, name, node) == 0 ? *node : folder);
 }
 
 static int take_away(fuse_ino_t parent, const char *name, int flag)
@@ -16,7 +16,7 @@ static int take_away(fuse_ino_t parent, const char *name, int flag)
 	struct node *folder = node_of(parent), *node;
 	if (is_control(folder, name))
 		return EPERM;
-	int touched[PLACES] = {[FILE_OF] = label_named(folder, name, &node), [FOLDER] = label_of(folder->fd)};
+	int touched[PLACES] = {[FILE_OF] = label_named(folder, name, &node), [FOLDER] = label_now(folder)};
 	int error = rules_begin(REMOVE, touched, &monitor);
 	if (error == 0) {
 		error = unlinkat(folder->fd, name, flag) == 0 ? 0 : errno;
@@ -34,8 +34,8 @@ static int rename_entry(fuse_ino_t parent, const char *name, fuse_ino_t new_pare
 		return EINVAL;
 	if (is_control(folder, name) || is_control(target, new_name))
 		return EPERM;
-	int touched[PLACES] = {[FILE_OF] = label_named(folder, name, &node), [FOLDER] = label_of(folder->fd),
-		[TARGET] = label_of(target->fd), [REPLACED] = label_named(target, new_name, &replaced)};
+	int touched[PLACES] = {[FILE_OF] = label_named(folder, name, &node), [FOLDER] = label_now(folder),
+		[TARGET] = label_now(target), [REPLACED] = label_named(target, new_name, &replaced)};
 	bool is_over = replaced && !(flags & RENAME_NOREPLACE);
 	enum operation operation = flags & RENAME_EXCHANGE ? EXCHANGE : is_over ? RENAME_OVER : RENAME;
 	int error = rules_begin(operation, touched, &monitor);
@@ -56,7 +56,7 @@ static int link_entry(fuse_req_t req, fuse_ino_t number, fuse_ino_t parent, cons
 	char path[PATH_BYTES];
 	if (is_control(folder, name))
 		return EEXIST;
-	int touched[PLACES] = {[FILE_OF] = label_of(node->fd), [TARGET] = label_of(folder->fd)};
+	int touched[PLACES] = {[FILE_OF] = label_now(node), [TARGET] = label_now(folder)};
 	int error = rules_begin(LINK, touched, &monitor);
 	if (error)
 		return error;

@@ -28,11 +28,11 @@ static int read_data(fuse_req_t req, struct handle *handle, size_t size, off_t o
 	int container, error = EIO;
 	char *data = malloc(size);
 	for (bool is_same = false; data && !is_same;) {
-		if ((error = file_begin(handle->fd, READ_DATA, &container)) != 0)
+		if ((error = file_begin(handle->node, READ_DATA, &container)) != 0)
 			break;
 		ssize_t length = pread(handle->fd, data, size, offset);
 		error = length < 0 ? errno : 0;
-		is_same = label_of(handle->fd) == container;
+		is_same = label_now(handle->node) == container;
 		if (is_same && error == 0) {
 			fuse_reply_buf(req, data, (size_t)length);
 			error = REPLIED;
@@ -59,7 +59,7 @@ static ssize_t write_page(int fd, const char *data, size_t size, off_t offset)
 static int write_data(fuse_req_t req, const char *data, size_t size, off_t offset, struct fuse_file_info *info)
 {
 	struct handle *handle = handle_of(info);
-	int container, error = file_begin(handle->fd, WRITE_DATA, &container);
+	int container, error = file_begin(handle->node, WRITE_DATA, &container);
 	if (error)
 		return error;
 	bool is_page = info->writepage && fcntl(handle->fd, F_GETFL) & O_APPEND;
@@ -73,7 +73,7 @@ static int write_data(fuse_req_t req, const char *data, size_t size, off_t offse
 
 static int allocate(struct handle *handle, int mode, off_t offset, off_t length)
 {
-	int container, error = file_begin(handle->fd, WRITE_DATA, &container);
+	int container, error = file_begin(handle->node, WRITE_DATA, &container);
 	if (error)
 		return error;
 	error = fallocate(handle->fd, mode, offset, length) == 0 ? 0 : errno;
@@ -83,7 +83,7 @@ static int allocate(struct handle *handle, int mode, off_t offset, off_t length)
 
 static int seek(fuse_req_t req, struct handle *handle, off_t offset, int whence)
 {
-	int container, error = file_begin(handle->fd, READ_DATA, &container);
+	int container, error = file_begin(handle->node, READ_DATA, &container);
 	if (error)
 		return error;
 	off_t found = lseek(handle->fd, offset, whence);

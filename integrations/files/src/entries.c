@@ -11,7 +11,7 @@ int entry_reply(fuse_req_t req, struct node *node, int container, struct fuse_fi
 {
 	struct fuse_entry_param entry = {.ino = node->number};
 	int error = node_show(node, &entry.attr);
-	if (error == 0 && label_of(node->fd) != container)
+	if (error == 0 && label_now(node) != container)
 		error = ENOENT;
 	if (error || (opened ? fuse_reply_create(req, &entry, opened) : fuse_reply_entry(req, &entry)) != 0) {
 		node_forget(node, 1);
@@ -35,8 +35,8 @@ static int look_up(fuse_req_t req, fuse_ino_t parent, const char *name)
 	struct node *folder = node_of(parent), *node;
 	if (is_control(folder, name))
 		return look_up_control(req);
-	int missing = node_find(folder, name, &node), within = label_of(folder->fd);
-	int touched[PLACES] = {[FOLDER] = within, [FILE_OF] = missing ? within : label_of(node->fd)};
+	int missing = node_find(folder, name, &node), within = label_now(folder);
+	int touched[PLACES] = {[FOLDER] = within, [FILE_OF] = missing ? within : label_now(node)};
 	int error = rules_begin(LOOK_UP, touched, &monitor);
 	if (error == 0)
 		rules_end(LOOK_UP, touched, &monitor);
@@ -102,7 +102,7 @@ static int make_staged(fuse_req_t req, struct node *folder, const char *name, in
 /* Makes an entry, and finds its node. */
 static int make(fuse_req_t req, struct node *folder, const char *name, mode_t mode, const char *to, struct node **node)
 {
-	int touched[PLACES] = {[FOLDER] = label_of(folder->fd)};
+	int touched[PLACES] = {[FOLDER] = label_now(folder)};
 	bool is_data = S_ISREG(mode) || S_ISDIR(mode) || S_ISLNK(mode);
 	enum operation operation = is_data ? MAKE : MAKE_SPECIAL;
 	if (is_control(folder, name))
@@ -120,7 +120,7 @@ static int make_entry(fuse_req_t req, fuse_ino_t parent, const char *name, mode_
 {
 	struct node *node;
 	int error = make(req, node_of(parent), name, mode, to, &node);
-	return error ? error : entry_reply(req, node, label_of(node_of(parent)->fd), NULL);
+	return error ? error : entry_reply(req, node, label_now(node_of(parent)), NULL);
 }
 
 /* The caller saw no such name: where there is one it is hidden from it. */

@@ -12,17 +12,17 @@
 static bool begins(const char *name, const char *with) { return strncmp(name, with, strlen(with)) == 0; }
 static bool is_users(const char *name) { return begins(name, "user."); }
 
-/* The label of the folder that a file stands in. */
+/* The label of the folder that a file stands in; none of a multilevel one, whose folders keep their labels. */
 static int label_above(struct node *node)
 {
-	char path[PATH_BYTES], above[PATH_MAX];
+	char path[PATH_BYTES], above[PATH_MAX], labels[MARK_BYTES];
 	ssize_t length = readlink(path_of(node->fd, path), above, sizeof above - 1);
 	if (length <= 0)
 		return CONTAINER_NONE;
 	above[length] = 0;
 	*strrchr(above, '/') = 0;
 	int fd = open(above, O_PATH | O_DIRECTORY | O_NOFOLLOW | O_CLOEXEC);
-	int container = fd < 0 ? CONTAINER_NONE : label_of(fd);
+	int container = fd < 0 || levels_of(fd, labels) ? CONTAINER_NONE : label_of(fd);
 	if (fd >= 0)
 		close(fd);
 	return container;
@@ -54,7 +54,7 @@ int relabel(struct node *node, const char *text, size_t size)
 	if (size == 0 || size > NAME_BYTES)
 		return EINVAL;
 	snprintf(name, sizeof name, "%.*s", (int)size, text);
-	int before = label_of(node->fd);
+	int before = label_now(node);
 	int touched[PLACES] = {[FILE_OF] = before, [FOLDER] = label_above(node), [NEW_LABEL] = label_number(name)};
 	/* (what copies attributes sets it as it is) */
 	enum operation operation = touched[NEW_LABEL] == before ? CHANGE : RELABEL;
@@ -64,7 +64,7 @@ int relabel(struct node *node, const char *text, size_t size)
 	if (operation == RELABEL && (error = is_single(node)) == 0) {
 		snprintf(deed, sizeof deed, "relabel %s", name);
 		monitor_note(deed, node->fd);
-		error = label_put(node->fd, touched[NEW_LABEL]);
+		error = label_change(node->fd, touched[NEW_LABEL]);
 	}
 	rules_end(operation, touched, &monitor);
 	return error;
@@ -79,7 +79,7 @@ static int set_attribute(struct node *node, const char *name, const char *value,
 		return rules_begin(CHANGE_ACL, NULL, &monitor);
 	if (!is_users(name) || begins(name, SHOWN_LABEL))
 		return EPERM;
-	int container, error = file_begin(node->fd, CHANGE, &container);
+	int container, error = file_begin(node, CHANGE, &container);
 	if (error)
 		return error;
 	error = setxattr(path_of(node->fd, path), name, value, size, flags) == 0 ? 0 : errno;
@@ -92,7 +92,7 @@ static int remove_attribute(struct node *node, const char *name)
 	char path[PATH_BYTES];
 	if (!is_users(name) || begins(name, SHOWN_LABEL))
 		return EPERM;
-	int container, error = file_begin(node->fd, CHANGE, &container);
+	int container, error = file_begin(node, CHANGE, &container);
 	if (error)
 		return error;
 	error = removexattr(path_of(node->fd, path), name) == 0 ? 0 : errno;
@@ -116,13 +116,13 @@ static int get_attribute(fuse_req_t req, struct node *node, const char *name, si
 	char path[PATH_BYTES], value[ATTRIBUTES_MAX];
 	if (!is_users(name))
 		return begins(name, "system.") ? EOPNOTSUPP : ENODATA;
-	int container, error = file_begin(node->fd, SHOW, &container);
+	int container, error = file_begin(node, SHOW, &container);
 	if (error)
 		return error;
 	bool is_label = strcmp(name, SHOWN_LABEL) == 0;
 	ssize_t length = is_label ? snprintf(value, sizeof value, "%s", label_name(container))
 		: getxattr(path_of(node->fd, path), name, value, sizeof value);
-	error = length < 0 ? errno : label_of(node->fd) != container ? EAGAIN : 0;
+	error = length < 0 ? errno : label_now(node) != container ? EAGAIN : 0;
 	file_end(SHOW, container);
 	return error ? error : reply_bytes(req, value, (size_t)length, size);
 }
@@ -131,14 +131,14 @@ static int list_attributes(fuse_req_t req, struct node *node, size_t size)
 {
 	char path[PATH_BYTES], found[ATTRIBUTES_MAX], shown[ATTRIBUTES_MAX + 16] = SHOWN_LABEL;
 	size_t used = sizeof SHOWN_LABEL;
-	int container, error = file_begin(node->fd, SHOW, &container);
+	int container, error = file_begin(node, SHOW, &container);
 	if (error)
 		return error;
 	ssize_t length = listxattr(path_of(node->fd, path), found, sizeof found);
 	for (char *at = found; at < found + length; at += strlen(at) + 1)
 		if (is_users(at))
 			used += (size_t)snprintf(shown + used, sizeof shown - used, "%s", at) + 1;
-	error = length < 0 ? errno : label_of(node->fd) != container ? EAGAIN : 0;
+	error = length < 0 ? errno : label_now(node) != container ? EAGAIN : 0;
 	file_end(SHOW, container);
 	return error ? error : reply_bytes(req, shown, used, size);
 }

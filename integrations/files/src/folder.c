@@ -40,6 +40,25 @@ int folder_make(const char *folder, const char *container)
 	return 0;
 }
 
+/* Of a multilevel folder: whether it has the folders that its mark names. */
+static int check_levels(const char *path, const struct stat *file)
+{
+	char labels[MARK_BYTES], *rest, what[64 + NAME_BYTES];
+	int folder = S_ISDIR(file->st_mode) ? open(path, O_PATH | O_DIRECTORY | O_NOFOLLOW | O_CLOEXEC) : -1;
+	if (folder >= 0 && levels_of(folder, labels))
+		for (char *name = strtok_r(labels, " ", &rest); name; name = strtok_r(NULL, " ", &rest)) {
+			int level = openat(folder, name, O_PATH | O_DIRECTORY | O_NOFOLLOW | O_CLOEXEC);
+			snprintf(what, sizeof what, "has no folder with the label %.*s", NAME_BYTES, name);
+			if (level < 0 || label_of(level) != label_number(name))
+				fault(path, what);
+			if (level >= 0)
+				close(level);
+		}
+	if (folder >= 0)
+		close(folder);
+	return 0;
+}
+
 /* Of a file: whether it is of a kind that has a label, and has one that the monitor knows. */
 static int check_file(const char *path, const struct stat *file, int kind, struct FTW *place)
 {
@@ -53,7 +72,7 @@ static int check_file(const char *path, const struct stat *file, int kind, struc
 	label[length] = 0;
 	if (label_number(label) == CONTAINER_NONE || !monitor_knows(label))
 		return fault(path, "has a label that the monitor has no container for");
-	return 0;
+	return check_levels(path, file);
 }
 
 static int check_staged(const char *path, const struct stat *file, int kind, struct FTW *place)

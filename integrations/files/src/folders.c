@@ -8,12 +8,12 @@
 static int open_folder(fuse_req_t req, fuse_ino_t number, struct fuse_file_info *info)
 {
 	struct node *node = node_of(number);
-	int container, error = file_begin(node->fd, LIST_FOLDER, &container);
+	int container, error = file_begin(node, LIST_FOLDER, &container);
 	if (error)
 		return error;
 	int fd = openat(node->fd, ".", O_RDONLY | O_DIRECTORY | O_CLOEXEC | O_NOATIME);
 	DIR *listing = fd < 0 ? NULL : fdopendir(fd);
-	struct handle *handle = listing ? handle_new(fd, container, LIST_FOLDER) : NULL;
+	struct handle *handle = listing ? handle_new(node, fd, container, LIST_FOLDER) : NULL;
 	if (!handle) {
 		error = errno;
 		file_end(LIST_FOLDER, container);
@@ -26,19 +26,28 @@ static int open_folder(fuse_req_t req, fuse_ino_t number, struct fuse_file_info 
 	return REPLIED;
 }
 
-/* Whether an entry may be seen; 0 or an errno, ENOENT where it isn't there for this session. */
-static int is_seen(int folder, const char *name)
+/* The label of an entry: of a file that the kernel knows of, or read from the disk. */
+static int label_listed(int folder, const struct dirent *entry)
 {
-	int container;
-	if (strcmp(name, ".") == 0 || strcmp(name, "..") == 0)
+	struct stat file;
+	struct node *node = node_known(entry->d_ino);
+	int fd = node ? -1 : entry_open(folder, entry->d_name, &file);
+	int container = node ? label_now(node) : fd < 0 ? CONTAINER_NONE : label_of(fd);
+	node_forget(node, 1);
+	if (fd >= 0)
+		close(fd);
+	return container;
+}
+
+/* Whether an entry may be seen; 0 or an errno, ENOENT where it isn't there for this session. */
+static int is_seen(int folder, const struct dirent *entry)
+{
+	if (strcmp(entry->d_name, ".") == 0 || strcmp(entry->d_name, "..") == 0)
 		return 0;
-	int fd = openat(folder, name, O_PATH | O_NOFOLLOW | O_CLOEXEC);
-	if (fd < 0)
-		return ENOENT;
-	int error = file_begin(fd, LIST, &container);
+	int touched[PLACES] = {[FILE_OF] = label_listed(folder, entry)};
+	int error = rules_begin(LIST, touched, &monitor);
 	if (error == 0)
-		file_end(LIST, container);
-	close(fd);
+		rules_end(LIST, touched, &monitor);
 	return error;
 }
 
@@ -51,7 +60,7 @@ static size_t fill(fuse_req_t req, DIR *listing, char *buffer, size_t size)
 		struct dirent *entry = readdir(listing);
 		if (!entry)
 			return used;
-		if (is_seen(dirfd(listing), entry->d_name) != 0)
+		if (is_seen(dirfd(listing), entry) != 0)
 			continue;
 		struct stat shown = {.st_ino = number_shown(entry->d_ino), .st_mode = DTTOIF(entry->d_type)};
 		size_t length = fuse_add_direntry(req, buffer + used, size - used, entry->d_name, &shown, telldir(listing));
@@ -66,11 +75,11 @@ static size_t fill(fuse_req_t req, DIR *listing, char *buffer, size_t size)
 static int list_folder(fuse_req_t req, struct handle *handle, size_t size, off_t offset)
 {
 	char *buffer = malloc(size);
-	int container, error = buffer ? file_begin(handle->fd, LIST_FOLDER, &container) : ENOMEM;
+	int container, error = buffer ? file_begin(handle->node, LIST_FOLDER, &container) : ENOMEM;
 	if (error == 0) {
 		seekdir(handle->listing, offset);
 		size_t length = fill(req, handle->listing, buffer, size);
-		if (label_of(handle->fd) == container) {
+		if (label_now(handle->node) == container) {
 			fuse_reply_buf(req, buffer, length);
 			error = REPLIED;
 		} else

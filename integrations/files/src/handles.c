@@ -16,11 +16,11 @@ enum operation handle_needs(int flags)
 }
 
 /* A handle of a descriptor whose accesses are taken. */
-struct handle *handle_new(int fd, int container, enum operation operation)
+struct handle *handle_new(struct node *node, int fd, int container, enum operation operation)
 {
 	struct handle *handle = calloc(1, sizeof *handle);
 	if (handle)
-		*handle = (struct handle){.fd = fd, .container = container, .opened = operation};
+		*handle = (struct handle){.node = node, .fd = fd, .container = container, .opened = operation};
 	return handle;
 }
 
@@ -34,15 +34,15 @@ static int opened(struct node *node, int flags)
 /* Opens a file, where that is granted for the label that it has once it is open. */
 struct handle *handle_open(struct node *node, int flags, enum operation operation, int *error)
 {
-	int container = label_of(node->fd), fd;
+	int container = label_now(node), fd;
 	struct handle *handle;
 	if ((*error = rules_begin(operation, (int[PLACES]){container}, &monitor)) != 0)
 		return NULL;
 	fd = opened(node, flags & ~O_TRUNC);
-	*error = fd < 0 ? errno : label_of(fd) != container ? EACCES : 0;
+	*error = fd < 0 ? errno : label_now(node) != container ? EACCES : 0;
 	if (*error == 0 && flags & O_TRUNC && ftruncate(fd, 0) != 0)
 		*error = errno;
-	handle = *error ? NULL : handle_new(fd, container, operation);
+	handle = *error ? NULL : handle_new(node, fd, container, operation);
 	if (handle)
 		return handle;
 	if (fd >= 0)
@@ -73,9 +73,9 @@ void handle_end(struct handle *handle)
 
 /* Takes what an operation on a file needs of the label that it has now, which another session may have changed since it
    was opened or looked up. */
-int file_begin(int fd, enum operation operation, int *container)
+int file_begin(struct node *node, enum operation operation, int *container)
 {
-	*container = label_of(fd);
+	*container = label_now(node);
 	return rules_begin(operation, (int[PLACES]){*container}, &monitor);
 }
 

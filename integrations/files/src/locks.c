@@ -100,7 +100,7 @@ static int begin_wait(fuse_req_t req, int fd, int whole, const struct flock *par
 
 static int may_lock(struct node *node)
 {
-	int container, error = file_begin(node->fd, LOCK, &container);
+	int container, error = file_begin(node, LOCK, &container);
 	if (error == 0)
 		file_end(LOCK, container);
 	return error;

@@ -18,8 +18,10 @@
 #define CONTAINERS 512          /* that a session may meet */
 #define ANSWER_BYTES 256
 #define PATH_BYTES 64           /* of /proc/self/fd/N */
+#define MARK_BYTES 1024         /* of the labels of a multilevel folder */
 #define LABEL "trusted.mls"     /* the attribute of a backing file */
 #define SHOWN_LABEL "user.mls"  /* its name for users */
+#define RUN_FOLDER "/run/mlsfs" /* of what the machine's sessions share until it stops */
 #define CONTROL_NAME ".mls"     /* the file below the mount that tells and sets the level */
 #define CONTROL_NODE ((fuse_ino_t)1 << 62)
 #define REPLIED (-1)            /* an operation has replied by itself */
@@ -27,8 +29,12 @@
 /* labels.c: containers by numbers, and the labels of files */
 extern int label_number(const char *name);
 extern const char *label_name(int container);
-extern int label_of(int fd);
-extern int label_put(int fd, int container);
+struct node;
+extern bool labels_open(void);
+extern int label_of(int fd);                    /* as it is on the disk */
+extern int label_now(struct node *node);        /* the same, which is read anew only after a relabelling */
+extern int label_put(int fd, int container);    /* of a file that has no name yet */
+extern int label_change(int fd, int container);
 extern const char *path_of(int fd, char path[PATH_BYTES]);
 
 /* wire.c: the connection to mlsd. An answer of NULL: it is lost, for good */
@@ -45,6 +51,11 @@ extern void monitor_start(void (*forget)(int container));
 extern void monitor_enter(void);        /* an operation is under way: what it was granted isn't acknowledged as lost */
 extern void monitor_leave(void);
 extern int monitor_level(const char *label);
+extern const char *monitor_subject(void);
+
+/* level.c: the level that the session has */
+extern void level_changed(void);
+extern bool monitor_is_level(int container);
 extern void monitor_describe(char *text, size_t size);
 
 /* notes.c: what mlsd is told, and asked, that is no access */
@@ -61,6 +72,11 @@ extern void session_end(void);
 extern bool numbers_open(int folder);
 extern uint64_t number_shown(uint64_t number);
 
+/* levels.c: multilevel folders, and so what a session has behind a name */
+extern bool levels_of(int folder, char labels[MARK_BYTES]);
+extern int levels_make(const char *path, char *const *labels, int count);
+extern int entry_open(int folder, const char *name, struct stat *file);
+
 /* nodes.c: what the kernel knows of */
 struct owner {                  /* of locks on a file */
 	struct owner *next;
@@ -73,6 +89,7 @@ struct node {
 	uint64_t lookups;
 	int fd;                 /* O_PATH */
 	mode_t type;
+	_Atomic uint64_t label; /* as it was read last, and when */
 	int noted[MODES];       /* of reads and writes: the label with which the last note of one was left, and one */
 	struct owner *owners;
 };
@@ -81,21 +98,24 @@ extern int nodes_staging(void); /* a folder that is not shown, for what has no n
 extern struct node *node_of(fuse_ino_t number);
 extern int node_find(struct node *folder, const char *name, struct node **found);
 extern void node_forget(struct node *node, uint64_t lookups);
+extern struct node *node_known(uint64_t number);
+extern bool node_is_known(uint64_t number);
 extern int node_show(struct node *node, struct stat *shown);
 extern void nodes_each(int container, void (*deed)(struct node *));
 
 /* handles.c: open descriptors */
 struct handle {
+	struct node *node;
 	int fd, container;      /* that of its last decision, which it keeps */
 	enum operation opened;
 	void *listing;          /* of a folder */
 };
 extern struct handle *handle_of(const struct fuse_file_info *info);
 extern struct handle *handle_open(struct node *node, int flags, enum operation operation, int *error);
-extern struct handle *handle_new(int fd, int container, enum operation operation);
+extern struct handle *handle_new(struct node *node, int fd, int container, enum operation operation);
 extern void handle_end(struct handle *handle);
 extern void handle_note(struct node *node, const struct handle *handle);
-extern int file_begin(int fd, enum operation operation, int *container);
+extern int file_begin(struct node *node, enum operation operation, int *container);
 extern void file_end(enum operation operation, int container);
 extern enum operation handle_needs(int flags);
 

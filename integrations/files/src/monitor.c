@@ -17,7 +17,7 @@ struct access {
 
 static struct access accesses[MODES][CONTAINERS];
 static const char *const mode_names[MODES] = {"get-read", "get-append"};
-static char subject[NAME_BYTES + 1], level[64] = "of the start";
+static char subject[NAME_BYTES + 1];
 static void (*forget_data)(int container);
 static pthread_mutex_t lock = PTHREAD_MUTEX_INITIALIZER;
 static pthread_rwlock_t under_way = PTHREAD_RWLOCK_INITIALIZER;
@@ -133,6 +133,8 @@ static void lost(const char *mode, const char *object)
 	forget_data(container);
 }
 
+const char *monitor_subject(void) { return subject; }
+
 bool monitor_open(const char *socket, const char *name)
 {
 	snprintf(subject, sizeof subject, "%s", name);
@@ -178,16 +180,9 @@ int monitor_level(const char *label)
 	if (wire_ask(line, answer))
 		error = strncmp(answer, "bad", 3) == 0 ? EINVAL : error_of(answer);
 	if (error == 0)
-		snprintf(level, sizeof level, "%s", label);
+		level_changed();
 	for (int k = 0; k < MODES * CONTAINERS; k++)
 		accesses[k / CONTAINERS][k % CONTAINERS].is_denied = false;
 	pthread_mutex_unlock(&lock);
 	return error;
-}
-
-void monitor_describe(char *text, size_t size)
-{
-	pthread_mutex_lock(&lock);
-	snprintf(text, size, "%s %s\n", subject, level);
-	pthread_mutex_unlock(&lock);
 }

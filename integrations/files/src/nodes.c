@@ -8,7 +8,7 @@
 #define BUCKETS 4096
 #define REFERENCES 64           /* that are dealt with at a time */
 
-static struct node root, *buckets[BUCKETS];
+static struct node root = {.fd = -1}, *buckets[BUCKETS];
 static int staging = -1;
 static dev_t device;
 static pthread_mutex_t lock = PTHREAD_MUTEX_INITIALIZER;
@@ -20,13 +20,17 @@ bool nodes_open(const char *folder)
 {
 	struct stat found;
 	int top = open(folder, O_PATH | O_DIRECTORY | O_CLOEXEC);
+	close(root.fd);
+	close(staging);
 	root = (struct node){.number = FUSE_ROOT_ID, .lookups = 1, .type = S_IFDIR};
 	root.fd = openat(top, "files", O_PATH | O_DIRECTORY | O_NOFOLLOW | O_CLOEXEC);
 	staging = openat(top, "staging", O_PATH | O_DIRECTORY | O_NOFOLLOW | O_CLOEXEC);
-	if (top < 0 || root.fd < 0 || staging < 0 || fstat(root.fd, &found) != 0 || !numbers_open(top))
-		return false;
-	device = found.st_dev;
-	return true;
+	bool is_made = root.fd >= 0 && staging >= 0 && fstat(root.fd, &found) == 0 && numbers_open(top);
+	if (top >= 0)
+		close(top);
+	if (is_made)
+		device = found.st_dev;
+	return is_made;
 }
 
 static struct node **place_of(fuse_ino_t number)
@@ -71,11 +75,11 @@ int node_find(struct node *folder, const char *name, struct node **found)
 	*found = NULL;
 	if (strcmp(name, ".") == 0 || strcmp(name, "..") == 0)
 		return ENOENT;
-	int fd = openat(folder->fd, name, O_PATH | O_NOFOLLOW | O_CLOEXEC);
+	int fd = entry_open(folder->fd, name, &file);
 	if (fd < 0)
 		return errno;
 	/* (another disk that is mounted among the files has no labels of ours) */
-	if (fstat(fd, &file) != 0 || file.st_dev != device) {
+	if (file.st_dev != device) {
 		close(fd);
 		return ENOENT;
 	}
@@ -100,6 +104,24 @@ void node_forget(struct node *node, uint64_t lookups)
 	}
 }
 
+/* Takes a reference to the node of a backing file's inode, where the kernel knows of it; else NULL. */
+struct node *node_known(uint64_t number)
+{
+	pthread_mutex_lock(&lock);
+	struct node *node = *place_of(number_shown(number));
+	if (node)
+		node->lookups++;
+	pthread_mutex_unlock(&lock);
+	return node;
+}
+
+bool node_is_known(uint64_t number)
+{
+	struct node *node = node_known(number);
+	node_forget(node, 1);
+	return node;
+}
+
 /* What is shown of a file: no time of a read, which would tell of readers above, and no number that counts. */
 int node_show(struct node *node, struct stat *shown)
 {
@@ -118,7 +140,7 @@ static int referenced(int container, int *bucket, struct node *found[REFERENCES]
 	pthread_mutex_lock(&lock);
 	for (; *bucket < BUCKETS && count < REFERENCES / 2; ++*bucket)
 		for (struct node *node = buckets[*bucket]; node && count < REFERENCES; node = node->next)
-			if (S_ISREG(node->type) && label_of(node->fd) == container) {
+			if (S_ISREG(node->type) && label_now(node) == container) {
 				node->lookups++;
 				found[count++] = node;
 			}

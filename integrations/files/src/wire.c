@@ -4,6 +4,7 @@
  */
 #include "mlsfs.h"
 #include <pthread.h>
+#include <stdatomic.h>
 #include <stdlib.h>
 #include <sys/socket.h>
 #include <sys/un.h>
@@ -19,7 +20,8 @@ struct loss {
 
 static int sock = -1;
 static FILE *input;
-static bool is_lost, has_answer;
+static atomic_bool is_lost;
+static bool has_answer;
 static char last[ANSWER_BYTES];
 static struct loss *losses, **losses_end = &losses;
 static pthread_mutex_t lock = PTHREAD_MUTEX_INITIALIZER, asking = PTHREAD_MUTEX_INITIALIZER;
@@ -47,13 +49,7 @@ static void end(void)
 	pthread_mutex_unlock(&lock);
 }
 
-bool wire_is_lost(void)
-{
-	pthread_mutex_lock(&lock);
-	bool lost = is_lost;
-	pthread_mutex_unlock(&lock);
-	return lost;
-}
+bool wire_is_lost(void) { return is_lost; }
 
 static void put_line(const char *line)
 {

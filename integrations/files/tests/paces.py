@@ -1,5 +1,7 @@
-"""How fast files are below the current folder: prints what was timed, as JSON. bench runs it in sessions."""
-import json
+"""How fast files are below the current folder: prints what one deed took. bench runs it in sessions.
+
+    paces.py SECONDS DEED
+"""
 import os
 import subprocess
 import sys
@@ -66,8 +68,7 @@ def git(*words):
                    stdout=subprocess.DEVNULL, env={**os.environ, "HOME": os.getcwd()})
 
 
-def status():
-    """git status of 2,000 files, in milliseconds: the best of five."""
+def make_repository():
     os.mkdir("p/g")
     git("init", "-q")
     for k in range(2000):
@@ -76,21 +77,27 @@ def status():
             file.write(str(k))
     git("add", "-A")
     git("commit", "-qm", "x")
-    time.sleep(1.1)
-    times = []
-    for _ in range(6):
-        begun = time.perf_counter()
-        git("status", "-s")
-        times.append(time.perf_counter() - begun)
-    return min(times[1:]) * 1e3
 
 
-os.mkdir("p")
-for name in FILES:
-    with open(name, "wb") as file:
-        file.write(b"x" * 1000)
-BIG = os.open("p/big", os.O_RDWR | os.O_CREAT)
-found = {"opens": rate(opens), "stats": rate(stats), "creates": rate(creates), "writes": rate(writes),
-         "reads": rate(reads), "small": rate(small_reads), "status": status()}
-subprocess.run(["rm", "-rf", "p"], check=True)
-print(json.dumps(found))
+def status():
+    """git status of 2,000 files, in milliseconds: the second."""
+    git("status", "-s")
+    begun = time.perf_counter()
+    git("status", "-s")
+    return (time.perf_counter() - begun) * 1e3
+
+
+def begin():
+    """Makes the files that are timed."""
+    os.mkdir("p")
+    for name in [*FILES, "p/big"]:
+        with open(name, "wb") as file:
+            file.write(b"x" * 1000)
+    make_repository()
+    return 0
+
+
+RATES = {"opens": opens, "stats": stats, "creates": creates, "writes": writes, "reads": reads, "small": small_reads}
+DEEDS = {"begin": begin, "status": status, **{name: lambda deed=deed: rate(deed) for name, deed in RATES.items()}}
+BIG = os.open("p/big", os.O_RDWR) if os.path.exists("p/big") else None
+print(DEEDS[sys.argv[2]]())

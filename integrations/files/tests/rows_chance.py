@@ -7,8 +7,9 @@ from world import same
 
 SECONDS, SEED = 60, 1
 MARK = "HIGH"
-NAMES = ["a", "b", "c", "d", "d/a", "d/b", "d/s", "d/s/a", "s", "s/a", "s/b", "s/t", "s/t/a", "new"]
-HIGH_NAMES = [*NAMES, f"s/{MARK}", MARK, f"d/{MARK}", f"s/t/{MARK}"]
+NAMES = ["a", "b", "c", "d", "d/a", "d/b", "d/s", "d/s/a", "s", "s/a", "s/b", "s/t", "s/t/a", "new", "m", "m/a", "m/b",
+         "m@public_any", "m@public_any/a", "m@secret_any", "m@secret_any/a"]
+HIGH_NAMES = [*NAMES, f"s/{MARK}", MARK, f"d/{MARK}", f"s/t/{MARK}", f"m/{MARK}", f"m@public_any/{MARK}"]
 LABELS = [b"secret_any", b"public_any", b"top_any"]
 # What is done, how often, and of what it takes: N a name, B bytes, L a label, M a mode, S a size.
 DEEDS = [("put", 6, "NB"), ("get", 2, "N"), ("mkdir", 3, "NM"), ("unlink", 2, "N"), ("rmdir", 1, "N"),
@@ -35,8 +36,9 @@ def do(chance, session, names, mark, counts):
 
 
 def lay(world, low):
-    """Folders at public and at secret, and nothing else."""
+    """Folders at public and at secret, a multilevel one, and nothing else."""
     world.empty()
+    world.levels("m", "public_any", "secret_any")
     for folder in ("s", "d", "d/s"):
         low.mkdir(folder, 0o777)
     same([(low, "setxattr", folder, "user.mls", b"secret_any", None) for folder in ("s", "d/s")])

@@ -1,4 +1,5 @@
 """Open descriptors and mappings: that change hands, that a level or a label changes under, that only name a file."""
+import fcntl
 import os
 
 from rows_names import laid
@@ -76,13 +77,15 @@ def test_descriptors_that_change_hands(world):
 
 def test_what_is_told_of_opens(world):
     """inotify and leases of one session see nothing of another's opens and reads."""
-    high, low, _ = laid(world)
-    fd = low.open("f", os.O_RDONLY)
+    high, low, sys = laid(world)
+    fd, own = low.open("f", os.O_RDONLY), low.open("d/x", os.O_RDONLY)
     leased = low.lease(fd)
     same([(low, "watch", "f", "watches"), (low, "events_seen", 0), (high, "get", "f", b"public"),
           (low, "events_seen", 0)])
     assert leased in (0, "EINVAL", "EAGAIN"), leased
-    same([(low, "leased", fd, low.leased(fd)), (low, "get", "f", b"public")])
+    # (a lease of the same mount's would break where the trusted session opens the file to write)
+    same([(low, "lease", own, 0), (sys, "chmod", "d/x", 0o666, "EPERM"), (low, "chmod", "d/x", 0o666, None),
+          (sys, "put", "d/x", b"more", "put"), (low, "leased", own, fcntl.F_RDLCK), (low, "get", "f", b"public")])
     assert low.events_seen() > 0
 
 

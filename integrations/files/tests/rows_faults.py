@@ -54,6 +54,15 @@ def test_a_killed_mlsfs(world):
     assert all(line.endswith("can be removed") for line in lines), lines
 
 
+def test_a_stop_that_is_asked_for(world):
+    """What ends a service or a login asks all of its processes to end: mlsfs serves until the last of them has."""
+    _, low, _ = laid(world)
+    for number in (signal.SIGTERM, signal.SIGHUP):
+        os.kill(low.server, number)
+        time.sleep(0.1)
+        same([(low, "put", "last", b"words", "put"), (low, "get", "last", b"words")])
+
+
 def test_a_second_mlsfs(world):
     """A session has one, ever: another would have a level of its own."""
     ann = world.session("games", "secret", is_twice=True)

@@ -1,7 +1,8 @@
 """Programs that nobody here wrote, in a folder of a session: at public, and at secret over what is public."""
 import shutil
+import subprocess
 
-from world import same
+from world import Skipped, same
 
 GIT = "git -c user.name=a -c user.email=a@b -c init.defaultBranch=main -c safe.directory=*"
 # At one level: each line must end well.
@@ -56,6 +57,8 @@ def test_programs(world):
 
 def test_pythons_own(world):
     """The tests of Python's library that are of files, but for those of access times, pipes and sockets."""
+    if subprocess.run(["/usr/bin/python3", "-c", "import test.test_posix"], capture_output=True).returncode:
+        raise Skipped("Python's own tests (libpython3.11-testsuite) are not installed")
     ann = world.session("games")
     modules = "test_posix test_pathlib test_tempfile test_mmap test_fileio test_fcntl test_tarfile test_zipfile " \
               "test_glob test_dbm_dumb test_stat test_shutil test_largefile test_mailbox"

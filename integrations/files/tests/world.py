@@ -12,7 +12,7 @@ import time
 
 from session import Session, leave_mounts
 
-SECONDS = 90
+SECONDS = 300
 HERE = os.path.dirname(os.path.realpath(__file__))
 SOURCE = os.path.dirname(HERE)
 TOP = os.path.dirname(os.path.dirname(SOURCE))
@@ -22,6 +22,10 @@ MLSD, MLSFS = f"{TOP}/mlsd/out/mlsd", f"{SOURCE}/out/mlsfs"
 # Who logs in: users that each system has. games may be secret, man may not, sys is trusted; of each pool's subjects.
 POOLS = {"games": 5, "man": 5, "sys": 2}
 MAXIMUM = {"games": "secret", "man": "public", "sys": "secret"}
+
+
+class Skipped(Exception):
+    """A check that needs what isn't installed, by its name."""
 
 
 def why_not():
@@ -52,6 +56,8 @@ def has_audit():
 def build():
     words = ["make", "-s", "-C", SOURCE, "out/mlsfs", "out/undecided", "out/rules_test"]
     subprocess.run(words, check=True, stdin=subprocess.DEVNULL)
+    if os.path.exists("/usr/include/security/pam_ext.h"):
+        subprocess.run([*words[:4], "out/pam_mls.so"], check=True, stdin=subprocess.DEVNULL)
     newest = max(os.stat(it).st_mtime for it in glob.glob(f"{TOP}/mlsd/src/*.rs"))
     if not os.path.exists(MLSD) or os.stat(MLSD).st_mtime < newest:
         subprocess.run([f"{TOP}/bin/build-mlsd", MLSD], check=True, stdin=subprocess.DEVNULL)
@@ -114,6 +120,14 @@ class World:
     def make(self, folder):
         subprocess.run([MLSFS, "--make", folder, "public_any"], check=True)
         os.chmod(f"{folder}/files", 0o777)
+
+    def levels(self, name, *labels):
+        """Makes a multilevel folder, at public."""
+        folder = f"{self.back}/files/{name}"
+        os.mkdir(folder)
+        os.chmod(folder, 0o777)
+        os.setxattr(folder, "trusted.mls", b"public_any")
+        subprocess.run([MLSFS, "--levels", folder, *labels], check=True)
 
     def start(self):
         words = [MLSD, "--socket", self.socket, "--users", f"{self.folder}/users", "--release-on-close", "--", MLS,

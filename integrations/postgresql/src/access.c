@@ -41,6 +41,58 @@ no_answer(const char *answer)
 					errmsg("mls: the monitor says %s to %s", answer, subject_held())));
 }
 
+/* Whether the session could read a container: that question has no entry and no sync. */
+static bool
+is_readable_now(const Container *c)
+{
+	char		answer[ANSWER_MAX];
+
+	ask_about(c, "? ", "get-", MODE_READ, answer);
+	if (strcmp(answer, "? yes") == 0)
+		return true;
+	if (strncmp(answer, "? ", 2) != 0 || !is_denial(answer + 2))
+		no_answer(answer);
+	return false;
+}
+
+static bool
+is_seen(const Container *c)
+{
+	return c->known[MODE_READ] == KNOWN_YES || c->known[MODE_WRITE] == KNOWN_YES;
+}
+
+/* The same of one that it may append to, asked once a transaction. */
+bool
+access_may_read(Container *c)
+{
+	if (is_seen(c) || c->is_readable)
+		return true;
+	return c->is_readable = is_readable_now(c);
+}
+
+static const Container *into;	/* what is written */
+
+/* Errors where the session may remember a container that it could not read now, since its level fell. What is held in
+ * this transaction was decided about, and what goes into the container itself doesn't leave it. */
+static void
+must_be_readable(Container *c)
+{
+	if (c == into || (session_holds() && is_seen(c)) || is_readable_now(c))
+		return;
+	ereport(ERROR, (errcode(ERRCODE_INSUFFICIENT_PRIVILEGE),
+					errmsg("mls: %s may not write %.*s: this session worked with %.*s, above its level now",
+						   subject_held(), NAME_BYTES, into->name, NAME_BYTES, c->name),
+					errhint("Connect anew, or DISCARD ALL, where the session made no setting of a new name.")));
+}
+
+/* Nothing that a session remembers is written below it. The access is held already, so the level can't rise again. */
+static void
+must_not_carry(const Container *c)
+{
+	into = c;
+	containers_each_remembered(must_be_readable);
+}
+
 /* Gets an access. It counts as asked for before its line is sent: a cancel must still release it. */
 static Known
 get(Container *c, AccessMode mode)
@@ -55,6 +107,10 @@ get(Container *c, AccessMode mode)
 	if (strcmp(answer, "yes") != 0)
 		no_answer(answer);
 	c->checked = GetCurrentStatementStartTimestamp();
+	if (mode != MODE_READ)
+		must_not_carry(c);
+	if (mode != MODE_APPEND || (!c->is_remembered && access_may_read(c)))
+		container_remember(c);
 	return c->known[mode] = KNOWN_YES;
 }
 
@@ -71,22 +127,6 @@ is_foreseen(Container *c, AccessMode mode)
 		no_answer(answer);
 	denied(c, mode, answer + 2);
 	return true;
-}
-
-/* Whether the session could read a container that it may append to: that question has no entry and no sync. */
-bool
-access_may_read(Container *c)
-{
-	char		answer[ANSWER_MAX];
-
-	if (c->known[MODE_READ] == KNOWN_YES || c->known[MODE_WRITE] == KNOWN_YES || c->is_readable)
-		return true;
-	ask_about(c, "? ", "get-", MODE_READ, answer);
-	if (strcmp(answer, "? yes") == 0)
-		return c->is_readable = true;
-	if (strncmp(answer, "? ", 2) != 0 || !is_denial(answer + 2))
-		no_answer(answer);
-	return false;
 }
 
 /* Whether a read is held since an earlier transaction. */
@@ -120,6 +160,9 @@ access_ask(AccessMode mode, Container *c, bool is_filter)
 		ereport(ERROR, (errcode(ERRCODE_INVALID_TRANSACTION_STATE),
 						errmsg("mls: the worker of a parallel query asks nothing"),
 						errhint("Is a function PARALLEL SAFE that isn't?")));
+	if (guard_is_with_owner())
+		ereport(ERROR, (errcode(ERRCODE_INSUFFICIENT_PRIVILEGE),
+						errmsg("mls: an owner's function asks nothing where the server runs it")));
 	subject_name();
 	if (known == KNOWN_NO || (known == KNOWN_YES && session_holds()))
 		return known;
@@ -128,6 +171,7 @@ access_ask(AccessMode mode, Container *c, bool is_filter)
 	if (mode == MODE_READ && is_still_kept(c))
 	{
 		container_touch(c);
+		container_remember(c);
 		return c->known[mode] = KNOWN_YES;
 	}
 	if (is_filter && mls_preview && known != KNOWN_ASKED && is_foreseen(c, mode))

@@ -62,6 +62,7 @@ on_run(QueryDesc *query, ScanDirection direction, uint64 count, bool is_once)
 {
 	Run			run = {query, innermost};
 	bool		was_copying = statement_copies(statement_is_copying() || is_held(query));
+	int			context = key_query_begins();
 
 	innermost = &run;
 	PG_TRY();
@@ -77,6 +78,7 @@ on_run(QueryDesc *query, ScanDirection direction, uint64 count, bool is_once)
 		statement_copies(was_copying);
 	}
 	PG_END_TRY();
+	key_query_ends(context);
 }
 
 /* A query WITH an INSERT that nothing reads runs it here. */

@@ -90,20 +90,27 @@ on_scans(bool *value, void **extra, GucSource source)
 	return next_scans == NULL || next_scans(value, extra, source);
 }
 
+struct config_generic **
+all_settings(int *count)
+{
+#if PG_VERSION_NUM >= 160000
+	return get_guc_variables(count);
+#else
+	*count = GetNumConfigOptions();
+	return get_guc_variables();
+#endif
+}
+
 struct config_generic *
 find_setting(const char *name)
 {
-#if PG_VERSION_NUM >= 160000
-	return find_option(name, false, false, ERROR);
-#else
-	struct config_generic **all = get_guc_variables();
-	int			count = GetNumConfigOptions();
+	int			count;
+	struct config_generic **all = all_settings(&count);
 
 	for (int k = 0; k < count; k++)
 		if (strcmp(all[k]->name, name) == 0)
 			return all[k];
 	ereport(ERROR, (errmsg("mls: there is no setting %s", name)));
-#endif
 }
 
 void

@@ -1,6 +1,6 @@
 /*
  * What this backend knows of containers, by their names. Knowledge of a transaction ends with it; a read that is kept
- * is held as long as its connection.
+ * is held as long as its connection, and what the session may remember is known as long as it lasts.
  */
 #include "mls.h"
 #include "utils/hsearch.h"
@@ -13,6 +13,7 @@ static Container *last = NULL;	/* that was found */
 static Container *touched = NULL;
 static int	kept = 0;			/* how many reads are kept over the connection `kept_over` */
 static uint64 kept_over = 0;
+static int	remembered = 0;		/* how many the session may remember */
 
 static void
 make_table(void)
@@ -27,7 +28,7 @@ make_table(void)
 static void
 make_room(void)
 {
-	if (hash_get_num_entries(containers) < CONTAINERS || touched != NULL || containers_any_kept())
+	if (hash_get_num_entries(containers) < CONTAINERS || touched != NULL || containers_any_kept() || remembered > 0)
 		return;
 	hash_destroy(containers);
 	containers = NULL;
@@ -110,17 +111,57 @@ containers_any_kept(void)
 	return wire_connection != 0 && kept_over == wire_connection && kept > 0;
 }
 
-/* Does a deed to each container whose read is kept. It may throw. */
-void
-containers_each_kept(void (*deed) (Container *))
+static bool
+is_remembered(const Container *c)
+{
+	return c->is_remembered;
+}
+
+static void
+each(bool (*is_one) (const Container *), void (*deed) (Container *))
 {
 	HASH_SEQ_STATUS all;
 	Container  *c;
 
-	if (!containers_any_kept())
-		return;
 	hash_seq_init(&all, containers);
 	while ((c = hash_seq_search(&all)) != NULL)
-		if (container_is_kept(c))
+		if (is_one(c))
 			deed(c);
+}
+
+/* Does a deed to each container whose read is kept. It may throw. */
+void
+containers_each_kept(void (*deed) (Container *))
+{
+	if (containers_any_kept())
+		each(container_is_kept, deed);
+}
+
+/* From now on the session may remember what the container holds: in a variable, a setting, a name, a cursor's place. */
+void
+container_remember(Container *c)
+{
+	remembered += c->is_remembered ? 0 : 1;
+	c->is_remembered = true;
+}
+
+/* Does a deed to each container that the session may remember. It may throw. */
+void
+containers_each_remembered(void (*deed) (Container *))
+{
+	if (remembered > 0)
+		each(is_remembered, deed);
+}
+
+static void
+forget(Container *c)
+{
+	c->is_remembered = false;
+}
+
+void
+containers_forget(void)
+{
+	containers_each_remembered(forget);
+	remembered = 0;
 }

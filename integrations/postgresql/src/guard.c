@@ -14,6 +14,15 @@ guard_is_on(void)
 	return IsTransactionState() && !superuser_arg(GetSessionUserId()) && is_created();
 }
 
+/* Whether the server runs what a table's owner wrote, for a superuser or by itself: functions of an index in ANALYZE,
+ * as autovacuum does it, or in REINDEX. It does so as that owner, but the session's user is a superuser. */
+bool
+guard_is_with_owner(void)
+{
+	return InSecurityRestrictedOperation() && !superuser_arg(GetUserId()) && superuser_arg(GetSessionUserId()) &&
+		is_created();
+}
+
 static Container *
 catalog(void)
 {

@@ -82,6 +82,32 @@ key_has_label(Oid index)
 	return has;
 }
 
+/* A foreign key's own query runs as the owner of a table, past its policies. What that calls does not: a trigger of the
+ * row that it deletes, a cast. So while it is planned and runs this is taken back; what it was is returned. */
+int
+key_query_begins(void)
+{
+	Oid			user;
+	int			context;
+
+	GetUserIdAndSecContext(&user, &context);
+	if ((context & SECURITY_NOFORCE_RLS) != 0 && guard_is_on())
+		SetUserIdAndSecContext(user, context & ~SECURITY_NOFORCE_RLS);
+	return context;
+}
+
+void
+key_query_ends(int context)
+{
+	Oid			user;
+	int			now;
+
+	if ((context & SECURITY_NOFORCE_RLS) == 0)
+		return;
+	GetUserIdAndSecContext(&user, &now);
+	SetUserIdAndSecContext(user, now | SECURITY_NOFORCE_RLS);
+}
+
 /* A constraint that may be new in this very command. */
 static ForeignKey
 find_key(Oid constraint)

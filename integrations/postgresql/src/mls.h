@@ -43,6 +43,7 @@ typedef struct Container
 	TimestampTz checked;		/* when that was last asked about */
 	bool		is_touched;		/* by this transaction */
 	bool		is_readable;	/* the monitor said so, in this transaction and at this level */
+	bool		is_remembered;	/* the session may know what it holds: it could read it when it touched it */
 	struct Container *next_touched;
 } Container;
 
@@ -93,6 +94,9 @@ extern void container_keep(Container *c, bool keeps);
 extern bool container_is_kept(const Container *c);
 extern bool containers_any_kept(void);
 extern void containers_each_kept(void (*deed) (Container *));
+extern void container_remember(Container *c);
+extern void containers_each_remembered(void (*deed) (Container *));
+extern void containers_forget(void);
 
 /* access.c: the monitor's answers, once a transaction */
 extern Known access_ask(AccessMode mode, Container *c, bool is_filter);
@@ -105,6 +109,7 @@ extern void session_reach(void);
 extern void session_needs_level(void);
 extern void session_level(const char *label);
 extern void session_begin_anew(void);
+extern void session_discarded(void);
 extern void session_start(void);
 
 /* protected.c: which tables are protected */
@@ -114,6 +119,7 @@ extern bool is_protected_oid(Oid table);
 
 /* guard.c: what has no label counts as the catalog's container */
 extern bool guard_is_on(void);
+extern bool guard_is_with_owner(void);
 extern void guard_must_append(const char *deed);
 extern bool guard_may_append(void);
 
@@ -121,11 +127,17 @@ extern bool guard_may_append(void);
 extern bool key_has_label(Oid index);
 extern bool key_is_kept(Oid constraint);
 extern void key_must_be_kept(Oid constraint);
+extern int	key_query_begins(void);
+extern void key_query_ends(int context);
 
 /* protection.c, objects.c: it stays on */
 extern void protection_stays(Node *statement);
 extern void table_must_stay(Oid table);
 extern void objects_stay(ObjectAccessType access, Oid class, Oid object, int part);
+
+/* faults.c: what a session protects is looked at before it commits */
+extern void faults_wait(Oid table);
+extern void faults_start(void);
 
 /* appends.c: appends that would tell of hidden rows */
 extern bool append_meets_keys(void);
@@ -139,6 +151,7 @@ extern bool option_is_on(List *options, const char *name, bool otherwise);
 extern void statements_start(void);
 extern void tables_start(void);
 extern void calls_start(void);
+extern struct config_generic **all_settings(int *count);
 extern struct config_generic *find_setting(const char *name);
 
 /* estimates.c: what plans are made of */

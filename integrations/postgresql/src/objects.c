@@ -62,13 +62,16 @@ table_of(const struct Part *part, Oid object)
 	return table;
 }
 
-/* Errors where a table is protected, and not of this session alone. */
+/* Errors where a table is protected, and not of this session alone. It may become so by what is done to it now. */
 void
 table_must_stay(Oid table)
 {
-	if (OidIsValid(table) && get_rel_persistence(table) != RELPERSISTENCE_TEMP && is_protected_oid(table))
+	if (!OidIsValid(table) || get_rel_persistence(table) == RELPERSISTENCE_TEMP)
+		return;
+	if (is_protected_oid(table))
 		ereport(ERROR, (errcode(ERRCODE_INSUFFICIENT_PRIVILEGE),
 						errmsg("mls: table %s is protected: only a superuser changes that", get_rel_name(table))));
+	faults_wait(table);
 }
 
 static void

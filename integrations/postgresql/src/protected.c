@@ -119,6 +119,15 @@ has_policy(Relation rel, int k, AttrNumber column)
 	return false;
 }
 
+/* Whether two labels are equal only where they are the same text, in keys too. */
+static bool
+tells_labels_apart(Relation rel, AttrNumber column)
+{
+	Oid			collation = TupleDescAttr(RelationGetDescr(rel), column - 1)->attcollation;
+
+	return !OidIsValid(collation) || get_collation_isdeterministic(collation);
+}
+
 bool
 is_protected(Relation rel)
 {
@@ -130,7 +139,7 @@ is_protected(Relation rel)
 	for (size_t k = 0; k < lengthof(due); k++)
 		if (column == InvalidAttrNumber || !has_policy(rel, (int) k, column))
 			return false;
-	return true;
+	return tells_labels_apart(rel, column);
 }
 
 /* The same of a table that may not be open, nor be there. */

@@ -97,6 +97,14 @@ look_at_domain(AlterDomainStmt *alter)
 						errmsg("mls: only a superuser adds a constraint to a domain: it looks at hidden rows")));
 }
 
+/* A trusted extension is made of functions in C, which leave what they like without being asked. */
+static void
+refuse_extension(void)
+{
+	ereport(ERROR, (errcode(ERRCODE_INSUFFICIENT_PRIVILEGE),
+					errmsg("mls: only a superuser creates an extension: its functions are not asked about")));
+}
+
 void
 protection_stays(Node *statement)
 {
@@ -145,6 +153,13 @@ protection_stays(Node *statement)
 			break;
 		case T_CreateStmt:
 			each(((CreateStmt *) statement)->inhRelations, must_stand_below);
+			break;
+		case T_CreateForeignTableStmt:
+			each(((CreateForeignTableStmt *) statement)->base.inhRelations, must_stand_below);
+			break;
+		case T_CreateExtensionStmt:
+		case T_AlterExtensionStmt:
+			refuse_extension();
 			break;
 		case T_AlterDomainStmt:
 			look_at_domain((AlterDomainStmt *) statement);

@@ -4,6 +4,9 @@
  */
 #include "mls.h"
 #include "access/xact.h"
+#include "utils/fmgrprotos.h"
+#include "utils/guc.h"
+#include "utils/guc_tables.h"
 
 static uint64 asked_over = 0;	/* the connection over which this transaction asked */
 static bool is_level_set = false;	/* by this session, at some time */
@@ -87,12 +90,39 @@ session_level(const char *label)
 	is_level_lost = false;
 }
 
-/* The session is as a new one: it has no level of its own, and holds nothing. It throws nothing. */
+/* The session has no level of its own, and holds nothing. It throws nothing. */
 void
 session_begin_anew(void)
 {
 	wire_end();
 	is_level_set = is_level_lost = false;
+}
+
+/* Whether the session made a setting of its own: its name outlives RESET ALL. */
+static bool
+has_made_setting(void)
+{
+	int			count;
+	struct config_generic **all = all_settings(&count);
+
+	for (int k = 0; k < count; k++)
+		if ((all[k]->flags & GUC_CUSTOM_PLACEHOLDER) != 0 && all[k]->reset_source == PGC_S_DEFAULT)
+			return true;
+	return false;
+}
+
+/* After DISCARD ALL it is as a new one, and remembers nothing, unless by names of settings: that leaves them, and the
+ * seed of random(). */
+void
+session_discarded(void)
+{
+	uint32		seed;
+
+	session_begin_anew();
+	if (has_made_setting() || !pg_strong_random(&seed, sizeof seed))
+		return;
+	DirectFunctionCall1(setseed, Float8GetDatum((double) seed / PG_UINT32_MAX));
+	containers_forget();
 }
 
 /* The end of a transaction for one container: what it holds is kept or released. */

@@ -84,4 +84,5 @@ _PG_init(void)
 	appends_start();
 	estimates_start();
 	isolation_start();
+	faults_start();
 }

@@ -3,11 +3,14 @@
  * the catalog's container.
  */
 #include "mls.h"
+#include "catalog/namespace.h"
+#include "catalog/pg_class.h"
 #include "commands/defrem.h"
 #include "nodes/parsenodes.h"
 #include "storage/lockdefs.h"
 #include "tcop/cmdtag.h"
 #include "tcop/utility.h"
+#include "utils/lsyscache.h"
 
 static ProcessUtility_hook_type next_utility = NULL;
 static bool is_copying = false;
@@ -126,16 +129,46 @@ option_is_on(List *options, const char *name, bool otherwise)
 	return otherwise;
 }
 
-/* How many pages of any table a plan found in the cache tells which ones others have read. */
+/* How many pages of any table a plan found in the cache, or put into the log whole, tells which ones others read. */
 static void
 look_at_explained(ExplainStmt *explain)
 {
 	bool		counts = PG_VERSION_NUM >= 180000 && option_is_on(explain->options, "analyze", false);
+	bool		buffers = option_is_on(explain->options, "buffers", counts);
 
-	if (option_is_on(explain->options, "buffers", counts) && !mls_explain && guard_is_on())
+	if ((buffers || option_is_on(explain->options, "wal", false)) && !mls_explain && guard_is_on())
 		ereport(ERROR, (errcode(ERRCODE_INSUFFICIENT_PRIVILEGE),
-						errmsg("mls: EXPLAIN (BUFFERS) would tell what other sessions read"),
+						errmsg("mls: EXPLAIN (%s) would tell what other sessions read", buffers ? "BUFFERS" : "WAL"),
 						errhint("A superuser may set mls.explain.")));
+}
+
+static bool
+is_temporary(RangeVar *table)
+{
+	Oid			found = RangeVarGetRelid(table, NoLock, true);
+
+	return OidIsValid(found) && get_rel_persistence(found) == RELPERSISTENCE_TEMP;
+}
+
+static bool
+drops_temporary(DropStmt *drop)
+{
+	ListCell   *cell;
+
+	if (drop->removeType != OBJECT_TABLE)
+		return false;
+	foreach(cell, drop->objects)
+		if (!is_temporary(makeRangeVarFromNameList(lfirst(cell))))
+			return false;
+	return true;
+}
+
+/* Whether it is what REFRESH .. CONCURRENTLY does by statements of its own, to tables that are the session's alone. */
+static bool
+is_of_refresh(Node *statement)
+{
+	return IsA(statement, VacuumStmt) || (IsA(statement, DropStmt) && drops_temporary((DropStmt *) statement)) ||
+		(IsA(statement, AlterTableStmt) && is_temporary(((AlterTableStmt *) statement)->relation));
 }
 
 static void
@@ -143,7 +176,13 @@ look_at(Node *statement)
 {
 	if (IsA(statement, ExplainStmt))
 		look_at_explained((ExplainStmt *) statement);
-	if (leaves_nothing(statement) || !guard_is_on())
+	if (leaves_nothing(statement))
+		return;
+	if (guard_is_with_owner() && !is_of_refresh(statement))
+		ereport(ERROR, (errcode(ERRCODE_INSUFFICIENT_PRIVILEGE),
+						errmsg("mls: no %s where the server runs an owner's function",
+							   GetCommandTagName(CreateCommandTag(statement)))));
+	if (!guard_is_on())
 		return;
 	guard_must_append(GetCommandTagName(CreateCommandTag(statement)));
 	protection_stays(statement);
@@ -162,7 +201,7 @@ on_utility(PlannedStmt *statement, const char *text, bool is_read_only, ProcessU
 	{
 		next(statement, text, is_read_only, context, params, environment, dest, done);
 		if (discards_all(statement->utilityStmt))
-			session_begin_anew();
+			session_discarded();
 		return;
 	}
 	is_copying |= copies(statement->utilityStmt);

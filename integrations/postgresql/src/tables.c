@@ -188,11 +188,13 @@ on_plan(Query *query, const char *text, int options, ParamListInfo params)
 {
 	planner_hook_type next = next_planner != NULL ? next_planner : standard_planner;
 	PlannedStmt *plan;
+	int			context = key_query_begins();
 
 	/* (how many workers are free tells what others do) */
 	if (!mls_parallel && (options & CURSOR_OPT_PARALLEL_OK) != 0 && guard_is_on())
 		options &= ~CURSOR_OPT_PARALLEL_OK;
 	plan = next(query, text, options, params);
+	key_query_ends(context);
 	if (Debug_print_plan && !mls_explain && guard_is_on())
 		look_at_explained(plan);
 	return plan;

@@ -213,7 +213,8 @@ def test_the_audit_names_all(world):
                      "SELECT finding, name FROM mls.audit() WHERE name NOT LIKE '%pkey%' AND name <> 'd.scratch'AND "
                      "finding !~ '^(activity|function|other|setting)';",
          "WARNING:  wal_level is insufficient to publish logical changes\nforeign table|d.f\nmaterialized view|d.m\n"
-         "owner that logs in|d.hers: ann\npublication|p\ntable without protection|d.part1\n"),
+         "owner that logs in|d.hers: ann\npublication|p\ntable without protection|d.part1\n"
+         "table without protection below it|d.part1 below d.parts\n"),
         ("postgres", "DROP TABLE parts; DROP MATERIALIZED VIEW m; DROP PUBLICATION p; DROP FOREIGN TABLE f; "
                      "DROP SERVER s; DROP FOREIGN DATA WRAPPER w; DROP TABLE hers;", ""),
     ])
