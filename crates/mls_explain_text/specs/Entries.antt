@@ -4,6 +4,7 @@ use Rattle.std.specs.Prelude.{Option}
 use Rattle.std.specs.Io.KnownBytes.{Appends}
 use Rattle.std.specs.List.{list_any}
 use Rattle.mls_requests.specs.declared.ask.Ask.TheVariants.{Submit}
+use Rattle.mls_requests.specs.declared.request.Request.{Request}
 use Rattle.mls_requests.specs.declared.entry.Entry.{Entry}
 use Rattle.mls_lines.specs.Names.{Names}
 use Rattle.mls_marks.specs.declared.row.Row.{Row}
@@ -14,9 +15,9 @@ use Rattle.mls_listings.specs.Listings.{stamped_line}
 use Rattle.mls_listings.specs.Matching.{Choice, matches}
 use Rattle.mls_listings.specs.declared.list_fault.ListFault.{ListFault}
 use Rattle.mls_state.specs.State.{State}
-use Rattle.mls_explain_text.specs.Explained.{Explains}
+use Rattle.mls_explain_text.specs.Explained.{Explains, ExplainsRequest}
 use Rattle.mls_explain_text.specs.Files.{ExplainsEntry}
-use Rattle.mls_explain_text.specs.Under.{under_text}
+use Rattle.mls_explain_text.specs.Under.{behind_first, told_lines, under_text}
 use Rattle.mls_explain_text.specs.declared.write_fault.WriteFault.{WriteFault}
 use Rattle.mls_explain_text.specs.declared.write_fault.WriteFault.TheVariants as faults
 
