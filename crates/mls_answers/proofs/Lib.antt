@@ -1,3 +1,4 @@
+mod Checked
 mod Describing
 mod Explaining
 mod Histories

@@ -47,16 +47,24 @@ fn push_last(text: &mut String, digest: &Digest) -> Result<(), AllocError>
     text.push_str("\n")
 }
 
+/// Appends a word and a time.
+fn push_time(text: &mut String, word: &str, time: &Time) -> Result<(), AllocError>
+    ensures { OnOk result (string_bytes text.new ≡ string_bytes text.old ++ word.now ++ time.now) }
+{
+    text.push_str(word)?;
+    push_ascii(text, time.text())?;
+    Ok(())
+}
+
 /// Appends the line of two times.
 fn push_two_times(text: &mut String, first: &Time, last: &Time) -> Result<(), AllocError>
     ensures { OnOk result (string_bytes text.new ≡ string_bytes text.old
         ++ (codes "from " ++ first.now ++ codes " to " ++ last.now ++ codes "\n")) }
 {
-    text.push_str("from ")?;
-    push_ascii(text, first.text())?;
-    text.push_str(" to ")?;
-    push_ascii(text, last.text())?;
-    text.push_str("\n")
+    push_time(text, "from ", first)?;
+    push_time(text, " to ", last)?;
+    text.push_str("\n")?;
+    Ok(())
 }
 
 /// Appends the line of the times of the first mark and of the last, where there are marks.
@@ -101,13 +109,27 @@ fn write_entries(writer: &mut Writer, count: u64) -> Result<(), AllocError>
     write_number(writer, "entries", count)
 }
 
+/// Writes the time of the first mark.
+fn write_from(writer: &mut Writer, time: &Time) -> Result<(), AllocError>
+    ensures { Adds result writer.old writer.new (text_member (codes "from") time.now) }
+{
+    write_ascii(writer, "from", time.text())
+}
+
+/// Writes the time of the last mark.
+fn write_to(writer: &mut Writer, time: &Time) -> Result<(), AllocError>
+    ensures { Adds result writer.old writer.new (text_member (codes "to") time.now) }
+{
+    write_ascii(writer, "to", time.text())
+}
+
 /// Writes the times of two marks.
 fn write_two_times(writer: &mut Writer, first: &Time, last: &Time) -> Result<(), AllocError>
     ensures { Adds result writer.old writer.new
         (text_member (codes "from") first.now ++ text_member (codes "to") last.now) }
 {
-    write_ascii(writer, "from", first.text())?;
-    write_ascii(writer, "to", last.text())
+    write_from(writer, first)?;
+    write_to(writer, last)
 }
 
 /// Writes the times of the first mark and of the last, where there are marks.

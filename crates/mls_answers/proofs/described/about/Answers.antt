@@ -8,7 +8,7 @@ use Rattle.mls_answers.proofs.described.about.Goals as goal
 pub returns-clause-ok : goal.returns-clause-ok
 returns-clause-ok c =
     told_ok c.args.history.now c.replay.ensures.of_files c.replay.result.now c.replay.ensures.replayed c.args.form c.args.has_journal
-    c.number.result (rows_lent c.args.marks) c.args.word.now c.args.is_object c.list_about.result c.number.ensures.number c.list_about.ensures.ok
+    c.number_told-number.result (rows_lent c.args.marks) c.args.word.now c.args.is_object c.list_about.result c.number_told-number.ensures.number c.list_about.ensures.ok
 
 pub returns-clause-fault : goal.returns-clause-fault
 returns-clause-fault c =
