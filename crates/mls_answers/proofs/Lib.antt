@@ -1,6 +1,6 @@
-mod Checked
 mod Describing
 mod Explaining
 mod Histories
+mod SaidOfStarts
 mod Seen
 mod Starts

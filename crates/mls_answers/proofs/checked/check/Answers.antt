@@ -1,4 +1,4 @@
-use Rattle.mls_answers.proofs.Checked.{checks_ok}
+use Rattle.mls_answers.proofs.SaidOfStarts.{checks_ok}
 use Rattle.mls_answers.proofs.checked.check.Goals as goal
 
 pub returns : goal.returns
