@@ -172,8 +172,8 @@ fn run_words<R: Threads + Wait + Clock + Sync>(
     words: &[String],
 ) -> ExitCode {
     match read_words(rt, words) {
-        Ok(Asked { job, objects }) => {
-            let mut progress = Progress::new(rt, objects);
+        Ok(Asked { job, is_json }) => {
+            let mut progress = Progress::new(rt, is_json);
             let status = run_job(threads, &mut progress, job);
             drop(progress);
             status

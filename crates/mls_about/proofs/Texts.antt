@@ -2,12 +2,13 @@
 use Rattle.std.proofs.Common.{◌≡◌, ℕ, ◌+◌, Bool, true, false, List, [], ◌∷◌, ◌++◌}
 use Rattle.std.proofs.Common.{refl, sym, ap, ◌∙◌, append-nil, cond, filter}
 use Rattle.std.proofs.lemmas.List.{append_assoc}
-use Rattle.mls_facts.proofs.Gathered.{range_flat_more}
+use Rattle.mls_facts.proofs.Gathered.{grows, range_flat_more}
 use Rattle.mls_lines.specs.Names.{Names}
+use Rattle.mls_rows.specs.declared.form.Form.{Form}
 use Rattle.mls_state.specs.State.{State}
 use Rattle.mls_tables.specs.Once.{accesses_at}
 use Rattle.mls_tables.specs.Triples.{Triple, TripleSet}
-use Rattle.mls_about.specs.Objects.{child_line, children_text, access_lines, column_text}
+use Rattle.mls_about.specs.Objects.{child_bytes, children_bytes, access_bytes, column_bytes}
 use Rattle.mls_about.specs.Permissions.{where_so, permitted}
 
 -- a list to which nothing is added yet
@@ -22,23 +23,29 @@ pub permitted_more : (v : State) (s n : ℕ) → permitted v s (n + 1) ≡ permi
 unfolding permitted
 permitted_more v s n = range_flat_more (accesses_at v.matrix s) n
 
-pub children_none : (names : Names) (v : State) (o : ℕ) → children_text names v o 0 ≡ []
-unfolding children_text
-children_none names v o = refl
+pub children_none : (form : Form) (names : Names) (v : State) (o : ℕ) → children_bytes form names v o 0 ≡ []
+unfolding children_bytes
+children_none form names v o = refl
 
-pub children_more : (names : Names) (v : State) (o n : ℕ)
-    → children_text names v o (n + 1) ≡ children_text names v o n ++ child_line names v o n
-unfolding children_text
-children_more names v o n = range_flat_more (child_line names v o) n
+pub children_more : (form : Form) (names : Names) (v : State) (o n : ℕ)
+    → children_bytes form names v o (n + 1) ≡ children_bytes form names v o n ++ child_bytes form names v o n
+unfolding children_bytes
+children_more form names v o n = range_flat_more (child_bytes form names v o) n
 
-pub column_none : (names : Names) (b : TripleSet) (o : ℕ) → column_text names b o 0 ≡ []
-unfolding column_text
-column_none names b o = refl
+pub column_none : (form : Form) (names : Names) (b : TripleSet) (o : ℕ) → column_bytes form names b o 0 ≡ []
+unfolding column_bytes
+column_none form names b o = refl
 
-pub column_more : (names : Names) (b : TripleSet) (o n : ℕ)
-    → column_text names b o (n + 1) ≡ column_text names b o n ++ access_lines names b o n
-unfolding column_text
-column_more names b o n = range_flat_more (access_lines names b o) n
+pub column_more : (form : Form) (names : Names) (b : TripleSet) (o n : ℕ)
+    → column_bytes form names b o (n + 1) ≡ column_bytes form names b o n ++ access_bytes form names b o n
+unfolding column_bytes
+column_more form names b o n = range_flat_more (access_bytes form names b o) n
+
+-- rows of one part more, in the form of what was there
+pub grows_in : (line : Form → List ℕ) (old now new part longer : List ℕ) (f g : Form) → f ≡ g → now ≡ old ++ part
+    → new ≡ now ++ line f → longer ≡ part ++ line g → new ≡ old ++ longer
+grows_in line old now new part longer f g same so_far added more =
+    grows old now new part longer (line g) so_far (added ∙ ap (λ h. now ++ line h) same) more
 
 module _ (p : Triple → Bool) where
   -- the first item, where it passes, and the others

@@ -2,10 +2,15 @@
 use Rattle.std.specs.Prelude.{ℕ, ◌==◌, ◌&&◌, Bool, true, false, List, [], ◌∷◌, ◌++◌, codes, length, filter}
 use Rattle.std.specs.Prelude.{Option, Some, None, if◌then◌else◌}
 use Rattle.std.specs.Fmt.{decimal}
+use Rattle.json.specs.Token.{Token}
 use Rattle.mls_marks.specs.declared.row.Row.{Row}
 use Rattle.mls_requests.specs.declared.entry.Entry.{Entry}
 use Rattle.mls_requests.specs.declared.reply.Reply.{Reply}
 use Rattle.mls_requests.specs.declared.reply.Reply.TheVariants.{Yes, Created, No, Undefined}
+use Rattle.mls_rows.specs.Members.{two_members}
+use Rattle.mls_rows.specs.Times.{entry_members}
+use Rattle.mls_rows.specs.declared.form.Form.{Form}
+use Rattle.mls_shared_rows.specs.Kinds.{kind_bytes}
 use Rattle.mls_spans.specs.EntryText.{entry_text}
 
 -- A subject asked an entry. (own)
@@ -42,8 +47,19 @@ abbrev pub counts_line : Option (List Row) → ℕ → ℕ → Option ℕ → Li
 counts_line rows asked denied last =
     decimal asked ++ entries_words asked ++ decimal denied ++ codes " denied" ++ last_text rows last ++ 10 ∷ []
 
--- The line of what a subject asked. (own)
-abbrev pub asked_line : Option (List Row) → ℕ → List Entry → List ℕ
-asked_line rows s entries =
-    counts_line rows (length (filter (is_asked s) entries)) (length (filter (is_denied s) entries))
+-- The members of how many entries there are and how many of them denied, and of which was the last. (own)
+abbrev pub counts_members : Option (List Row) → ℕ → ℕ → Option ℕ → List Token
+counts_members rows asked denied last =
+    two_members (codes "entries") (codes "denied") asked denied
+    ++ entry_members (codes "last") (codes "last_time") rows last
+
+-- The row of how many entries there are and how many of them denied, and of which was the last, in a form. (own)
+abbrev pub counts_bytes : Form → Option (List Row) → ℕ → ℕ → Option ℕ → List ℕ
+counts_bytes form rows asked denied last =
+    kind_bytes form (codes "asked") (counts_line rows asked denied last) (counts_members rows asked denied last)
+
+-- The row of what a subject asked, in a form. (own)
+abbrev pub asked_bytes : Form → Option (List Row) → ℕ → List Entry → List ℕ
+asked_bytes form rows s entries =
+    counts_bytes form rows (length (filter (is_asked s) entries)) (length (filter (is_denied s) entries))
     (last_of s None entries)

@@ -1,10 +1,15 @@
 -- What is written of the permissions of a subject.
 use Rattle.std.specs.Prelude.{◌≡◌, ℕ, Bool, List, [], ◌∷◌, ◌++◌, codes, map, All, if◌then◌else◌}
 use Rattle.std.specs.List.{flat_map, range_with_len}
+use Rattle.json.specs.Token.{Token}
 use Rattle.mls_explain.specs.Prospects.{IsProspect}
 use Rattle.mls_explain_text.specs.Who.{outcome_text}
+use Rattle.mls_explain_text.specs.WhoMembers.{outcome_members}
 use Rattle.mls_lines.specs.Names.{Names}
 use Rattle.mls_requests.specs.ModeWords.{mode_word}
+use Rattle.mls_rows.specs.Members.{access_members}
+use Rattle.mls_rows.specs.declared.form.Form.{Form}
+use Rattle.mls_shared_rows.specs.Kinds.{kind_bytes}
 use Rattle.mls_state.specs.State.{State}
 use Rattle.mls_tables.specs.Once.{accesses_at}
 use Rattle.mls_tables.specs.Triples.{Triple}
@@ -30,13 +35,25 @@ permission_line names p =
     codes "permit " ++ subject_text names p.prospect.subject ++ codes " " ++ mode_word p.prospect.mode ++ codes " "
     ++ object_text names p.object ++ codes ": " ++ outcome_text names p.prospect
 
+-- The members of a permission: those of an access, and what becomes of its get. (own)
+abbrev pub permission_members : Names → Permission → List Token
+permission_members names p =
+    access_members names (triple_of p) ++ outcome_members names p.prospect.reply p.prospect.remedy
+
+-- The row of a permission, in a form. (own)
+abbrev pub permission_bytes : Form → Names → Permission → List ℕ
+permission_bytes form names p =
+    kind_bytes form (codes "permit") (permission_line names p) (permission_members names p)
+
+-- The rows of permissions, in a form. (own)
+abbrev pub permit_bytes : Form → Names → List Permission → List ℕ
+permit_bytes form names found = flat_map (permission_bytes form names) found
+
 -- The permissions of a subject on the objects below a number, by object, then in the order of modes. (own)
 unfoldable pub permitted : State → ℕ → ℕ → List Triple
 permitted v s n = flat_map (accesses_at v.matrix s) (range_with_len 0 n)
 
--- A text tells of just the permissions of a subject, of each the reply to its get, and the remedy. (own)
-pub record TellsPermissions (names : Names) (v : State) (s : ℕ) (told : List ℕ) : Type 0 where
-  pub found : List Permission
+-- These are just the permissions of a subject, each with the reply to its get, and the remedy. (own)
+pub record ArePermissions (v : State) (s : ℕ) (found : List Permission) : Type 0 where
   pub triples : map triple_of found ≡ permitted v s MAX_OBJECTS
   pub each : All (IsTold v) found
-  pub text : told ≡ flat_map (permission_line names) found

@@ -1,14 +1,17 @@
 //! How many entries a subject asked.
-ghost use Rattle.std.specs.Prelude.{◌≡◌, ◌++◌, length, filter, string_bytes, None, OnOk};
-ghost use Rattle.mls_listings.specs.Stamps.{rows_lent};
+ghost use Rattle.std.specs.Prelude.{◌≡◌, ◌++◌, length, filter, None, IfOk};
+ghost use Rattle.mls_rows.specs.Rows.{bytes_of, form_of};
+ghost use Rattle.mls_rows.specs.Times.{rows_lent};
 ghost use Rattle.mls_about.specs.Counting.{is_asked as is_asked_by, is_denial, is_denied as is_denied_to, last_of};
-ghost use Rattle.mls_about.specs.Counting.{entries_words, last_text, counts_line, asked_line};
+ghost use Rattle.mls_about.specs.Counting.{asked_bytes};
 
+use crate::asked_row::AskedRow;
+use mls_lines::Names;
 use mls_marks::Marks;
 use mls_requests::{Entry, Reply};
-use mls_spans::push_entry;
+use mls_rows::Output;
+use mls_shared_rows::with_kind;
 use mls_tables::SubjectId;
-use mls_wording::push_number;
 use std::alloc::AllocError;
 
 /// Whether a subject asked an entry.
@@ -74,55 +77,22 @@ fn last_asked(s: SubjectId, entries: &[Entry]) -> Option<u64>
     last
 }
 
-/// The words behind a number of entries.
-fn entries_words(count: u64) -> &'static str
-    ensures { result.now ≡ entries_words count }
-{
-    if count == 1 { " entry, " } else { " entries, " }
-}
-
-/// Appends the last entry, where there is one.
-fn push_last(text: &mut String, marks: Option<&Marks>, last: Option<u64>) -> Result<(), AllocError>
-    ensures { OnOk result
-        (string_bytes text.new ≡ string_bytes text.old ++ last_text (rows_lent marks.entry) last) }
-{
-    let Some(number) = last else {
-        return Ok(());
-    };
-    text.push_str(", last ")?;
-    push_entry(text, marks, number)
-}
-
-/// Appends how many entries there are and how many of them denied, and which was the last.
-fn push_counts(
-    text: &mut String,
-    marks: Option<&Marks>,
-    asked: u64,
-    denied: u64,
-    last: Option<u64>,
-) -> Result<(), AllocError>
-    ensures { OnOk result (string_bytes text.new
-        ≡ string_bytes text.old ++ counts_line (rows_lent marks.entry) asked denied last) }
-{
-    push_number(text, asked)?;
-    text.push_str(entries_words(asked))?;
-    push_number(text, denied)?;
-    text.push_str(" denied")?;
-    push_last(text, marks, last)?;
-    text.push_str("\n")
-}
-
-/// Appends the line of what a subject asked: `N entries, M denied, last K`.
-pub(crate) fn push_asked(
-    text: &mut String,
+/// Adds the row of what a subject asked: how many entries, how many of them denied, and the last.
+pub(crate) fn with_asked(
+    output: Output,
+    names: &Names,
     marks: Option<&Marks>,
     s: SubjectId,
     entries: &[Entry],
-) -> Result<(), AllocError>
-    ensures { OnOk result (string_bytes text.new
-        ≡ string_bytes text.old ++ asked_line (rows_lent marks.entry) s entries.now) }
+) -> Result<Output, AllocError>
+    ensures form { IfOk result (λ new. form_of new ≡ form_of output) }
+    ensures bytes { IfOk result (λ new. bytes_of new
+        ≡ bytes_of output ++ asked_bytes (form_of output) (rows_lent marks.entry) s entries.now) }
 {
-    let asked = count_asked(s, entries);
-    let denied = count_denied(s, entries);
-    push_counts(text, marks, asked, denied, last_asked(s, entries))
+    let row = AskedRow {
+        asked: count_asked(s, entries),
+        denied: count_denied(s, entries),
+        last: last_asked(s, entries),
+    };
+    with_kind(output, names, marks, "asked", &row)
 }

@@ -1,15 +1,17 @@
 //! The entries that changed an object.
-ghost use Rattle.std.specs.Prelude.{◌≡◌, ◌++◌, string_bytes, OnOk};
-ghost use Rattle.mls_listings.specs.Stamps.{rows_lent};
+ghost use Rattle.std.specs.Prelude.{◌≡◌, ◌++◌, IfOk, OnOk};
+ghost use Rattle.mls_rows.specs.Rows.{bytes_of, form_of};
+ghost use Rattle.mls_rows.specs.Times.{rows_lent};
 ghost use Rattle.mls_rules.specs.Rules.{after};
-ghost use Rattle.mls_about.specs.Entries.{is_on as is_on_object, differ, changed_line, changed_lines};
+ghost use Rattle.mls_about.specs.Entries.{is_on as is_on_object, differ, changed_bytes, changed_entry};
 
+use crate::entry_row::with_entry;
 use mls_explain_text::is_granted;
 use mls_lines::Names;
-use mls_listings::{Stamp, push_line};
 use mls_marks::Marks;
 use mls_monitor::Start;
 use mls_requests::{Action, Entry};
+use mls_rows::Output;
 use mls_rules::{State, apply};
 use mls_tables::ObjectId;
 use std::alloc::{AllocError, Global};
@@ -37,61 +39,67 @@ fn differ(a: bool, b: bool) -> bool
     if a { !b } else { b }
 }
 
-/// Appends the line of an entry where it changed an object, and goes on to the state after it.
-fn push_change(
-    text: &mut String,
+/// Adds the row of an entry where it changed an object, and goes on to the state after it.
+fn with_change(
+    alloc: Global,
+    output: Output,
     names: &Names,
     marks: Option<&Marks>,
     state: &mut State,
     o: ObjectId,
     entry: &Entry,
-) -> Result<(), AllocError>
+) -> Result<Output, AllocError>
     ensures state { OnOk result (state.new ≡ after state.old entry.now.request) }
-    ensures text { OnOk result (string_bytes text.new ≡ string_bytes text.old
-        ++ changed_line names.now (rows_lent marks.entry) state.old o entry.now) }
+    ensures form { IfOk result (λ new. form_of new ≡ form_of output) }
+    ensures bytes { IfOk result (λ new. bytes_of new ≡ bytes_of output
+        ++ changed_entry (form_of output) names.now (rows_lent marks.entry) state.old o entry.now) }
 {
     let was_active = state.is_active(o);
     apply(state, &entry.request)?;
     let began_or_ended = differ(was_active, state.is_active(o));
     if is_granted(entry.reply) && is_on(o, &entry.request.action) || began_or_ended {
-        push_line(text, names, Stamp::of(marks, entry.number), entry)?;
+        return with_entry(alloc, output, names, marks, entry);
     }
-    Ok(())
+    Ok(output)
 }
 
-/// Appends the lines of the entries behind a state that changed an object. The state goes on to the last.
-fn push_changes(
-    text: &mut String,
+/// Adds the rows of the entries behind a state that changed an object. The state goes on to the last.
+fn with_changes(
+    alloc: Global,
+    output: Output,
     names: &Names,
     marks: Option<&Marks>,
     state: &mut State,
     o: ObjectId,
     entries: &[Entry],
-) -> Result<(), AllocError>
-    ensures { OnOk result (string_bytes text.new ≡ string_bytes text.old
-        ++ changed_lines names.now (rows_lent marks.entry) state.old o entries.now) }
+) -> Result<Output, AllocError>
+    ensures form { IfOk result (λ new. form_of new ≡ form_of output) }
+    ensures bytes { IfOk result (λ new. bytes_of new ≡ bytes_of output
+        ++ changed_bytes (form_of output) names.now (rows_lent marks.entry) state.old o entries.now) }
 {
+    let mut written = output;
     for entry in entries {
-        push_change(text, names, marks, state, o, entry)?;
+        written = with_change(alloc, written, names, marks, state, o, entry)?;
     }
-    Ok(())
+    Ok(written)
 }
 
-/// Appends the lines of the entries of a start that changed an object.
-pub(crate) fn push_all_changes(
+/// Adds the rows of the entries of a start that changed an object.
+pub(crate) fn with_all_changes(
     alloc: Global,
-    text: &mut String,
+    output: Output,
     names: &Names,
     marks: Option<&Marks>,
     start: &Start,
     o: ObjectId,
     entries: &[Entry],
-) -> Result<(), AllocError>
-    ensures { OnOk result (string_bytes text.new ≡ string_bytes text.old
-        ++ changed_lines names.now (rows_lent marks.entry) start.now o entries.now) }
+) -> Result<Output, AllocError>
+    ensures form { IfOk result (λ new. form_of new ≡ form_of output) }
+    ensures bytes { IfOk result (λ new. bytes_of new ≡ bytes_of output
+        ++ changed_bytes (form_of output) names.now (rows_lent marks.entry) start.now o entries.now) }
 {
     let mut state = start.opening(alloc)?;
-    let pushed = push_changes(text, names, marks, &mut state, o, entries);
+    let written = with_changes(alloc, output, names, marks, &mut state, o, entries);
     drop(state);
-    pushed
+    written
 }

@@ -1,22 +1,25 @@
 //! What is told of an object.
-ghost use Rattle.std.specs.Prelude.{◌≡◌, ◌++◌, None, string_bytes, option_map, IfOk, OnOk};
-ghost use Rattle.mls_explain_text.specs.Files.{modes_asked};
-ghost use Rattle.mls_listings.specs.Stamps.{rows_lent};
-ghost use Rattle.mls_snapshots.specs.States.{object_line};
+ghost use Rattle.std.specs.Prelude.{◌≡◌, ◌++◌, option_map, IfOk};
+ghost use Rattle.mls_rows.specs.Rows.{bytes_of, form_of};
+ghost use Rattle.mls_rows.specs.Times.{rows_lent};
+ghost use Rattle.mls_shared_rows.specs.StateRows.{object_bytes};
 ghost use Rattle.mls_tables.specs.declared.limits.TheConstants.{MAX_SUBJECTS, MAX_OBJECTS};
-ghost use Rattle.mls_about.specs.Objects.{is_this, is_child, child_line, children_text, access_lines, column_text};
+ghost use Rattle.mls_about.specs.Gets.{gets_bytes};
+ghost use Rattle.mls_about.specs.Objects.{is_this, is_child, child_bytes, children_bytes, column_bytes};
 ghost use Rattle.mls_about.specs.Objects.{object_history, ShowsObject, TellsObject};
 
-use crate::changing::push_all_changes;
-use mls_explain_text::{modes_asked, who_in};
+use crate::changing::with_all_changes;
+use crate::child_row::ChildRow;
+use crate::getting::{gets, with_gets};
+use mls_explain::Prospect;
 use mls_lines::Names;
 use mls_marks::Marks;
 use mls_monitor::Start;
 use mls_requests::Entry;
-use mls_snapshots::{push_cell, push_object_line};
+use mls_rows::{Form, Output};
+use mls_shared_rows::{with_cell, with_kind, with_object};
 use mls_state::{State, Table};
 use mls_tables::{MAX_OBJECTS, MAX_SUBJECTS, ObjectId, SubjectId};
-use mls_wording::push_object;
 use std::alloc::{AllocError, Global};
 
 /// Whether an object is the parent that there is.
@@ -36,126 +39,134 @@ fn is_child(state: &State, o: ObjectId, child: ObjectId) -> bool
     state.is_active(child) && is_this(state.parent(child), o)
 }
 
-/// Appends the line of a child, of no other object.
-fn push_child(
-    text: &mut String,
+/// Adds the row of a child, of no other object.
+fn with_child(
+    output: Output,
     names: &Names,
     state: &State,
     o: ObjectId,
     child: ObjectId,
-) -> Result<(), AllocError>
-    ensures { OnOk result
-        (string_bytes text.new ≡ string_bytes text.old ++ child_line names.now state.now o child) }
+) -> Result<Output, AllocError>
+    ensures form { IfOk result (λ new. form_of new ≡ form_of output) }
+    ensures bytes { IfOk result (λ new. bytes_of new
+        ≡ bytes_of output ++ child_bytes (form_of output) names.now state.now o child) }
 {
     if !is_child(state, o, child) {
-        return Ok(());
+        return Ok(output);
     }
-    text.push_str("child ")?;
-    push_object(text, names, child)?;
-    text.push_str("\n")
+    with_kind(output, names, None, "child", &ChildRow { object: child })
 }
 
-/// Appends the lines of the children of an object, by number.
-fn push_children(
-    text: &mut String,
+/// Adds the rows of the children of an object, by number.
+fn with_children(
+    output: Output,
     names: &Names,
     state: &State,
     o: ObjectId,
-) -> Result<(), AllocError>
-    ensures { OnOk result
-        (string_bytes text.new ≡ string_bytes text.old ++ children_text names.now state.now o MAX_OBJECTS) }
+) -> Result<Output, AllocError>
+    ensures form { IfOk result (λ new. form_of new ≡ form_of output) }
+    ensures bytes { IfOk result (λ new. bytes_of new
+        ≡ bytes_of output ++ children_bytes (form_of output) names.now state.now o MAX_OBJECTS) }
 {
+    let mut written = output;
     for child in 0..MAX_OBJECTS {
-        push_child(text, names, state, o, ObjectId(child))?;
+        written = with_child(written, names, state, o, ObjectId(child))?;
     }
-    Ok(())
+    Ok(written)
 }
 
-/// Appends the lines of the accesses to an object, by subject, then by mode.
-fn push_column(
-    text: &mut String,
+/// Adds the rows of the accesses to an object, by subject, then by mode.
+fn with_column(
+    output: Output,
     names: &Names,
     state: &State,
     o: ObjectId,
-) -> Result<(), AllocError>
-    ensures { OnOk result
-        (string_bytes text.new ≡ string_bytes text.old ++ column_text names.now state.now.accesses o MAX_SUBJECTS) }
+) -> Result<Output, AllocError>
+    ensures form { IfOk result (λ new. form_of new ≡ form_of output) }
+    ensures bytes { IfOk result (λ new. bytes_of new
+        ≡ bytes_of output ++ column_bytes (form_of output) names.now state.now.accesses o MAX_SUBJECTS) }
 {
+    let mut written = output;
     for s in 0..MAX_SUBJECTS {
-        push_cell(text, names, state, Table::Accesses, SubjectId(s), o)?;
+        written = with_cell(written, names, state, Table::Accesses, SubjectId(s), o)?;
     }
-    Ok(())
+    Ok(written)
 }
 
-/// Appends the lines of the entries that changed an object, where there is a journal.
-fn push_history(
+/// Adds the rows of the entries that changed an object, where there is a journal.
+fn with_history(
     alloc: Global,
-    text: &mut String,
+    output: Output,
     names: &Names,
     marks: Option<&Marks>,
     start: &Start,
     o: ObjectId,
     entries: Option<&[Entry]>,
-) -> Result<(), AllocError>
-    ensures { OnOk result (string_bytes text.new ≡ string_bytes text.old
-        ++ object_history names.now (rows_lent marks.entry) start.now o
+) -> Result<Output, AllocError>
+    ensures { IfOk result (λ new. bytes_of new ≡ bytes_of output
+        ++ object_history (form_of output) names.now (rows_lent marks.entry) start.now o
         (option_map (λ lent. lent.now) entries.entry)) }
 {
     match entries {
-        Some(entries) => push_all_changes(alloc, text, names, marks, start, o, entries),
-        None => Ok(()),
+        Some(entries) => with_all_changes(alloc, output, names, marks, start, o, entries),
+        None => Ok(output),
     }
 }
 
-/// Appends what there is of an object in a state, with this text of who may get it.
-fn push_now(
-    text: &mut String,
+/// Adds what there is of an object in a state, with these rows of who may get it.
+fn with_now(
+    alloc: Global,
+    output: Output,
     names: &Names,
     state: &State,
     o: ObjectId,
-    gets: &str,
-) -> Result<(), AllocError>
-    ensures { OnOk result (string_bytes text.new ≡ string_bytes text.old
-        ++ (object_line names.now state.now o ++ (children_text names.now state.now o MAX_OBJECTS
-        ++ (gets.now ++ column_text names.now state.now.accesses o MAX_SUBJECTS)))) }
+    found: &[Prospect],
+) -> Result<Output, AllocError>
+    ensures form { IfOk result (λ new. form_of new ≡ form_of output) }
+    ensures bytes { IfOk result (λ new. bytes_of new ≡ bytes_of output
+        ++ (object_bytes (form_of output) names.now state.now o
+        ++ (children_bytes (form_of output) names.now state.now o MAX_OBJECTS
+        ++ (gets_bytes (form_of output) names.now found.now
+        ++ column_bytes (form_of output) names.now state.now.accesses o MAX_SUBJECTS)))) }
 {
-    push_object_line(text, names, state, o)?;
-    push_children(text, names, state, o)?;
-    text.push_str(gets)?;
-    push_column(text, names, state, o)
+    let output = with_object(alloc, output, names, state, o)?;
+    let output = with_children(output, names, state, o)?;
+    let output = with_gets(alloc, output, names, found)?;
+    with_column(output, names, state, o)
 }
 
 /// What there is of an object in a state.
 fn object_now(
     alloc: Global,
+    form: Form,
     names: &Names,
     state: &State,
     o: ObjectId,
-) -> Result<String, AllocError>
-    ensures { IfOk result (λ text. ShowsObject names.now state.now o (string_bytes text)) }
+) -> Result<Output, AllocError>
+    ensures form { IfOk result (λ output. form_of output ≡ form) }
+    ensures shows { IfOk result (λ output. ShowsObject form names.now state.now o (bytes_of output)) }
 {
-    let gets = who_in(alloc, names, state, o, modes_asked(None))?;
-    let mut text = String::new(alloc);
-    let pushed = push_now(&mut text, names, state, o, gets.text.as_str());
-    drop(gets);
-    pushed?;
-    Ok(text)
+    let found = gets(alloc, state, o)?;
+    let output = with_now(alloc, Output::new(alloc, form), names, state, o, &found);
+    drop(found);
+    output
 }
 
 /// What is told of an object: what there is of it in a state, and where there is a journal the entries that changed it.
-pub(crate) fn object_text(
+pub(crate) fn object_rows(
     alloc: Global,
+    form: Form,
     names: &Names,
     start: &Start,
     state: &State,
     o: ObjectId,
     marks: Option<&Marks>,
     entries: Option<&[Entry]>,
-) -> Result<String, AllocError>
-    ensures { IfOk result (λ text. TellsObject names.now start.now state.now o (rows_lent marks.entry)
-        (option_map (λ lent. lent.now) entries.entry) (string_bytes text)) }
+) -> Result<Vec<u8>, AllocError>
+    ensures { IfOk result (λ bytes. TellsObject form names.now start.now state.now o (rows_lent marks.entry)
+        (option_map (λ lent. lent.now) entries.entry) bytes.items) }
 {
-    let mut text = object_now(alloc, names, state, o)?;
-    push_history(alloc, &mut text, names, marks, start, o, entries)?;
-    Ok(text)
+    let output = object_now(alloc, form, names, state, o)?;
+    let output = with_history(alloc, output, names, marks, start, o, entries)?;
+    Ok(output.into_bytes())
 }

@@ -1,18 +1,12 @@
 //! The permissions of a subject, each with what its get would be answered.
-ghost use Rattle.std.specs.Prelude.{◌≡◌, ◌++◌, All, map, string_bytes, IfOk, OnOk};
-ghost use Rattle.std.specs.List.{flat_map};
+ghost use Rattle.std.specs.Prelude.{◌≡◌, ◌++◌, All, map, IfOk, OnOk};
 ghost use Rattle.mls_tables.specs.Once.{accesses_at};
 ghost use Rattle.mls_tables.specs.declared.limits.TheConstants.{MAX_OBJECTS};
-ghost use Rattle.mls_about.specs.Permissions.{triple_of, where_so, IsTold, permission_line, permitted};
-ghost use Rattle.mls_about.specs.Permissions.{TellsPermissions};
+ghost use Rattle.mls_about.specs.Permissions.{triple_of, where_so, IsTold, permitted};
 
 use mls_explain::{Prospect, prospect_of};
-use mls_explain_text::push_outcome;
-use mls_lines::Names;
-use mls_requests::mode_word;
 use mls_state::{State, Table};
 use mls_tables::{MAX_OBJECTS, Mode, ObjectId, SubjectId};
-use mls_wording::{push_object, push_subject};
 use std::alloc::{AllocError, Global};
 
 /// A permission on an object, with what its get would be answered.
@@ -66,7 +60,11 @@ fn push_object_modes(
 }
 
 /// The permissions of a subject, by object.
-fn permissions(alloc: Global, state: &State, s: SubjectId) -> Result<Vec<Permission>, AllocError>
+pub(crate) fn permissions(
+    alloc: Global,
+    state: &State,
+    s: SubjectId,
+) -> Result<Vec<Permission>, AllocError>
     ensures triples { IfOk result (λ found. map triple_of found.items ≡ permitted state.now s MAX_OBJECTS) }
     ensures each { IfOk result (λ found. All (IsTold state.now) found.items) }
 {
@@ -75,45 +73,4 @@ fn permissions(alloc: Global, state: &State, s: SubjectId) -> Result<Vec<Permiss
         push_object_modes(&mut found, state, s, ObjectId(o))?;
     }
     Ok(found)
-}
-
-/// Appends the line of a permission: `permit SUBJECT MODE OBJECT: ` and what `who` says of it.
-fn push_line(text: &mut String, names: &Names, permission: &Permission) -> Result<(), AllocError>
-    ensures { OnOk result
-        (string_bytes text.new ≡ string_bytes text.old ++ permission_line names.now permission.now) }
-{
-    text.push_str("permit ")?;
-    push_subject(text, names, permission.prospect.subject)?;
-    text.push_str(" ")?;
-    text.push_str(mode_word(permission.prospect.mode))?;
-    text.push_str(" ")?;
-    push_object(text, names, permission.object)?;
-    text.push_str(": ")?;
-    push_outcome(text, names, &permission.prospect)
-}
-
-/// The lines of some permissions.
-fn lines(alloc: Global, names: &Names, found: &[Permission]) -> Result<String, AllocError>
-    ensures { IfOk result (λ text. string_bytes text ≡ flat_map (permission_line names.now) found.now) }
-{
-    let mut text = String::new(alloc);
-    for permission in found {
-        push_line(&mut text, names, permission)?;
-    }
-    Ok(text)
-}
-
-/// The lines of the permissions of a subject, each with what its get would be answered.
-pub(crate) fn permission_lines(
-    alloc: Global,
-    names: &Names,
-    state: &State,
-    s: SubjectId,
-) -> Result<String, AllocError>
-    ensures { IfOk result (λ text. TellsPermissions names.now state.now s (string_bytes text)) }
-{
-    let found = permissions(alloc, state, s)?;
-    let text = lines(alloc, names, &found);
-    drop(found);
-    text
 }

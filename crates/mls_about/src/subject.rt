@@ -1,118 +1,125 @@
 //! What is told of a subject.
-ghost use Rattle.std.specs.Prelude.{◌≡◌, ◌++◌, codes, string_bytes, option_map, IfOk, OnOk};
-ghost use Rattle.mls_listings.specs.Stamps.{rows_lent};
-ghost use Rattle.mls_review.specs.PowerRows.{powers_text};
-ghost use Rattle.mls_snapshots.specs.States.{subject_line, row_text};
+ghost use Rattle.std.specs.Prelude.{◌≡◌, ◌++◌, codes, map, option_map, IfOk};
+ghost use Rattle.mls_review.specs.Granted.{change_view};
+ghost use Rattle.mls_review.specs.Powers.{powers as powers_in};
+ghost use Rattle.mls_rows.specs.Rows.{bytes_of, form_of};
+ghost use Rattle.mls_rows.specs.Times.{rows_lent};
+ghost use Rattle.mls_shared_rows.specs.StateRows.{cells_bytes, subject_bytes};
 ghost use Rattle.mls_tables.specs.declared.limits.TheConstants.{MAX_OBJECTS};
-ghost use Rattle.mls_about.specs.Subjects.{all_of, subject_history, ShowsSubject, TellsSubject};
+ghost use Rattle.mls_about.specs.Permissions.{permit_bytes};
+ghost use Rattle.mls_about.specs.Subjects.{all_of, changes_bytes, subject_history, ShowsSubject, TellsSubject};
 
-use crate::asked::push_asked;
-use crate::giving::push_all_given;
-use crate::permission::permission_lines;
+use crate::asked::with_asked;
+use crate::giving::with_all_given;
+use crate::permission::{Permission, permissions};
+use crate::permit_row::with_permissions;
 use mls_lines::Names;
 use mls_marks::Marks;
 use mls_requests::Entry;
-use mls_review::{Asked, push_powers};
-use mls_snapshots::{push_row, push_subject_line};
+use mls_review::{Asked, Change, changes};
+use mls_rows::{Form, Output};
+use mls_shared_rows::{with_kinds, with_row, with_subject};
 use mls_state::{State, Table};
 use mls_tables::SubjectId;
 use std::alloc::{AllocError, Global};
 
 /// What a subject may change.
-fn powers_of(
-    alloc: Global,
-    names: &Names,
-    state: &State,
-    s: SubjectId,
-) -> Result<String, AllocError>
-    ensures { IfOk result (λ text. string_bytes text ≡ powers_text names.now state.now (all_of s)) }
+fn powers_of(alloc: Global, state: &State, s: SubjectId) -> Result<Vec<Change>, AllocError>
+    ensures { IfOk result (λ found. map change_view found.items ≡ powers_in state.now (all_of s)) }
 {
     let asked = Asked {
         subject: Some(s),
         downgrades: false,
     };
-    let mut text = String::new(alloc);
-    push_powers(alloc, &mut text, names, state, asked)?;
-    Ok(text)
+    changes(alloc, state, asked)
 }
 
-/// Appends what there is of a subject in a state, with these texts of its permissions and of what it may change.
-fn push_now(
-    text: &mut String,
+/// Adds the rows of what a subject may change.
+fn with_powers(output: Output, names: &Names, found: &[Change]) -> Result<Output, AllocError>
+    ensures form { IfOk result (λ new. form_of new ≡ form_of output) }
+    ensures bytes { IfOk result (λ new. bytes_of new
+        ≡ bytes_of output ++ changes_bytes (form_of output) names.now (map change_view found.now)) }
+{
+    with_kinds(output, names, None, "power", found)
+}
+
+/// Adds what there is of a subject in a state, with these permissions and what it may change.
+fn with_now(
+    alloc: Global,
+    output: Output,
     names: &Names,
     state: &State,
     s: SubjectId,
-    permissions: &str,
-    powers: &str,
-) -> Result<(), AllocError>
-    ensures { OnOk result (string_bytes text.new ≡ string_bytes text.old
-        ++ (subject_line names.now state.now s ++ (permissions.now
-        ++ (row_text (codes "access") names.now state.now.accesses s MAX_OBJECTS ++ powers.now)))) }
+    found: (&[Permission], &[Change]),
+) -> Result<Output, AllocError>
+    ensures form { IfOk result (λ new. form_of new ≡ form_of output) }
+    ensures bytes { IfOk result (λ new. bytes_of new ≡ bytes_of output
+        ++ (subject_bytes (form_of output) names.now state.now s
+        ++ (permit_bytes (form_of output) names.now found.entry.0.now
+        ++ (cells_bytes (form_of output) (codes "access") names.now state.now.accesses s MAX_OBJECTS
+        ++ changes_bytes (form_of output) names.now (map change_view found.entry.1.now))))) }
 {
-    push_subject_line(text, names, state, s)?;
-    text.push_str(permissions)?;
-    push_row(text, names, state, Table::Accesses, s)?;
-    text.push_str(powers)
+    let output = with_subject(alloc, output, names, state, s)?;
+    let output = with_permissions(alloc, output, names, found.0)?;
+    let output = with_row(output, names, state, Table::Accesses, s)?;
+    with_powers(output, names, found.1)
 }
 
 /// What there is of a subject in a state.
 fn subject_now(
     alloc: Global,
+    form: Form,
     names: &Names,
     state: &State,
     s: SubjectId,
-) -> Result<String, AllocError>
-    ensures { IfOk result (λ text. ShowsSubject names.now state.now s (string_bytes text)) }
+) -> Result<Output, AllocError>
+    ensures form { IfOk result (λ output. form_of output ≡ form) }
+    ensures shows { IfOk result (λ output. ShowsSubject form names.now state.now s (bytes_of output)) }
 {
-    let permissions = permission_lines(alloc, names, state, s)?;
-    let powers = powers_of(alloc, names, state, s)?;
-    let mut text = String::new(alloc);
-    let pushed = push_now(
-        &mut text,
-        names,
-        state,
-        s,
-        permissions.as_str(),
-        powers.as_str(),
-    );
+    let permitted = permissions(alloc, state, s)?;
+    let powers = powers_of(alloc, state, s)?;
+    let found = (permitted.as_slice(), powers.as_slice());
+    let output = with_now(alloc, Output::new(alloc, form), names, state, s, found);
     drop(powers);
-    drop(permissions);
-    pushed?;
-    Ok(text)
+    drop(permitted);
+    output
 }
 
-/// Appends what a subject asked, and the lines of the entries about its permissions, where there is a journal.
-fn push_history(
-    text: &mut String,
+/// Adds what a subject asked, and the rows of the entries about its permissions, where there is a journal.
+fn with_history(
+    alloc: Global,
+    output: Output,
     names: &Names,
     marks: Option<&Marks>,
     s: SubjectId,
     entries: Option<&[Entry]>,
-) -> Result<(), AllocError>
-    ensures { OnOk result (string_bytes text.new ≡ string_bytes text.old
-        ++ subject_history names.now (rows_lent marks.entry) s (option_map (λ lent. lent.now) entries.entry)) }
+) -> Result<Output, AllocError>
+    ensures { IfOk result (λ new. bytes_of new ≡ bytes_of output
+        ++ subject_history (form_of output) names.now (rows_lent marks.entry) s
+        (option_map (λ lent. lent.now) entries.entry)) }
 {
     let Some(entries) = entries else {
-        return Ok(());
+        return Ok(output);
     };
-    push_asked(text, marks, s, entries)?;
-    push_all_given(text, names, marks, s, entries)
+    let output = with_asked(output, names, marks, s, entries)?;
+    with_all_given(alloc, output, names, marks, s, entries)
 }
 
 /// What is told of a subject: what there is of it in a state, and where there is a journal what it asked, and the
 /// entries about its permissions.
-pub(crate) fn subject_text(
+pub(crate) fn subject_rows(
     alloc: Global,
+    form: Form,
     names: &Names,
     state: &State,
     s: SubjectId,
     marks: Option<&Marks>,
     entries: Option<&[Entry]>,
-) -> Result<String, AllocError>
-    ensures { IfOk result (λ text. TellsSubject names.now state.now s (rows_lent marks.entry)
-        (option_map (λ lent. lent.now) entries.entry) (string_bytes text)) }
+) -> Result<Vec<u8>, AllocError>
+    ensures { IfOk result (λ bytes. TellsSubject form names.now state.now s (rows_lent marks.entry)
+        (option_map (λ lent. lent.now) entries.entry) bytes.items) }
 {
-    let mut text = subject_now(alloc, names, state, s)?;
-    push_history(&mut text, names, marks, s, entries)?;
-    Ok(text)
+    let output = subject_now(alloc, form, names, state, s)?;
+    let output = with_history(alloc, output, names, marks, s, entries)?;
+    Ok(output.into_bytes())
 }

@@ -1,123 +1,88 @@
-//! What is told of a subject or of an object, over a start file and a journal.
-ghost use Rattle.std.specs.Prelude.{◌≡◌, is_some, option_map, string_bytes, IfErr, IfOk};
-ghost use Rattle.mls_explain_text.specs.Files.{SeesThat, RefusesThat};
-ghost use Rattle.mls_replay.specs.Replays.{IsWithin, before};
-ghost use Rattle.mls_listings.specs.Stamps.{rows_lent};
+//! What is told of a subject or of an object, over a start file and a journal that were replayed.
+ghost use Rattle.std.specs.Prelude.{◌≡◌, ◌≤◌, length, option_map, take, IfErr, IfOk};
+ghost use Rattle.mls_replay.specs.Replays.{IsWithin};
+ghost use Rattle.mls_rows.specs.Times.{rows_lent};
 ghost use Rattle.mls_about.specs.About.{told_entries, TellsThing, TellsNamed, RefusesNamed};
 
-use crate::object::object_text;
-use crate::subject::subject_text;
+use crate::object::object_rows;
+use crate::subject::subject_rows;
 use crate::thing::Thing;
-use mls_explain_text::journal_bytes;
 use mls_marks::Marks;
-use mls_replay::{QuestionFault, Replay, replay_at};
+use mls_replay::{QuestionFault, Replay};
 use mls_requests::Entry;
-use mls_wording::Answer;
+use mls_rows::{Form, Listing};
 use std::alloc::{AllocError, Global};
 
-/// The entries before the state that is seen.
-fn entries_before(entries: &[Entry], at: Option<u64>) -> &[Entry]
-    requires { IsWithin at entries.now }
-    ensures { result.now ≡ before at entries.now }
+/// The first entries, so many of them.
+fn first_entries(entries: &[Entry], number: u64) -> &[Entry]
+    requires { number ≤ length entries.now }
+    ensures { result.now ≡ take number entries.now }
 {
-    match at {
-        Some(at) => &entries[..at as usize],
-        None => entries,
-    }
+    &entries[..number as usize]
 }
 
-/// The entries that are told of, where there is a journal.
-fn told_entries(entries: &[Entry], at: Option<u64>, has_journal: bool) -> Option<&[Entry]>
-    requires { IsWithin at entries.now }
-    ensures { option_map (λ lent. lent.now) result ≡ told_entries has_journal at entries.now }
+/// The entries that are told of, where some are.
+fn told_entries(entries: &[Entry], number: Option<u64>) -> Option<&[Entry]>
+    requires { IsWithin number entries.now }
+    ensures { option_map (λ lent. lent.now) result ≡ told_entries number entries.now }
 {
-    if has_journal {
-        Some(entries_before(entries, at))
-    } else {
-        None
+    match number {
+        Some(number) => Some(first_entries(entries, number)),
+        None => None,
     }
 }
 
 /// What is told of a subject or of an object, in the state that is seen.
-fn thing_text(
+fn thing_rows(
     alloc: Global,
+    form: Form,
     seen: &Replay,
     thing: Thing,
     marks: Option<&Marks>,
     entries: Option<&[Entry]>,
-) -> Result<String, AllocError>
-    ensures { IfOk result (λ text. TellsThing seen.now (rows_lent marks.entry)
-        (option_map (λ lent. lent.now) entries.entry) thing (string_bytes text)) }
+) -> Result<Vec<u8>, AllocError>
+    ensures { IfOk result (λ bytes. TellsThing form seen.now (rows_lent marks.entry)
+        (option_map (λ lent. lent.now) entries.entry) thing bytes.items) }
 {
+    let (names, state) = (seen.names(), seen.state());
     match thing {
-        Thing::Subject(s) => subject_text(alloc, seen.names(), seen.state(), s, marks, entries),
-        Thing::Object(o) => object_text(
-            alloc,
-            seen.names(),
-            seen.start(),
-            seen.state(),
-            o,
-            marks,
-            entries,
-        ),
+        Thing::Subject(s) => subject_rows(alloc, form, names, state, s, marks, entries),
+        Thing::Object(o) => {
+            let start = seen.start();
+            object_rows(alloc, form, names, start, state, o, marks, entries)
+        }
     }
 }
 
-/// What is told of what a word names, in the state that is seen.
-fn tell_named(
-    alloc: Global,
-    seen: &Replay,
-    has_journal: bool,
-    at: Option<u64>,
-    marks: Option<&Marks>,
-    word: &str,
-    is_object: bool,
-) -> Result<Answer, QuestionFault>
-    requires { IsWithin at seen.now.entries }
-    ensures ok { IfOk result
-        (λ answer. TellsNamed seen.now has_journal at (rows_lent marks.entry) word.now is_object
-        (string_bytes answer.text) answer.is_positive) }
-    ensures fault { IfErr result (λ fault. RefusesNamed seen.now word.now is_object fault) }
-{
-    let thing = Thing::named(seen.names(), word, is_object)?;
-    let entries = told_entries(seen.entries(), at, has_journal);
-    let text = thing_text(alloc, seen, thing, marks, entries)?;
-    let is_positive = text.len() != 0;
-    Ok(Answer { text, is_positive })
-}
-
-/// All that there is to tell of a subject or of an object, which a word names, in the state that a start file and all
-/// entries of a journal lead to, or in the one before the entry of a number; without a journal in the one that the
-/// start opens with. Of a subject: its line, its permissions with what their gets would be answered, what it holds,
-/// what it may change; and where there is a journal how many of the entries before that state it asked and how many of
-/// these were denied, and the entries that ask for a permission for it or that one be rescinded. Of an object: its
-/// line, its children, who may get it, who holds it, and the entries before that changed it. With the journal's marks
-/// the times of entries are told. The answer is positive where there is a line.
+/// All that there is to tell of a subject or of an object, which a word names, in the state that a replay looks at. It
+/// is a row each in a form. Of a subject: itself, its permissions with what their gets would be answered, what it holds,
+/// what it may change; and where entries are told of, how many of the first so many it asked and how many of these were
+/// denied, and those that ask for a permission for it or that one be rescinded. Of an object: itself, its children, who
+/// may get it, who holds it, and those of the first entries that changed it. With marks the times of entries are told.
+/// The answer is positive where there is a row.
 ///
 /// # Errors
-/// - The faults of [`replay_at`](mls_replay::replay_at).
 /// - `Object` where the word is to name an object, and is neither a name of the start's objects nor `#` and a number;
 ///   else `Subject` where it is neither such a word nor a name of the start's subjects.
 /// - `Files` with `Memory` as soon as an allocation fails.
-pub fn about(
+pub fn list_about(
     alloc: Global,
-    start: &[u8],
-    journal: Option<&[u8]>,
-    at: Option<u64>,
+    form: Form,
+    replay: &Replay,
+    number: Option<u64>,
     marks: Option<&Marks>,
     word: &str,
     is_object: bool,
-) -> Result<Answer, QuestionFault>
+) -> Result<Listing, QuestionFault>
+    requires { IsWithin number replay.now.entries }
     ensures ok { IfOk result
-        (λ answer. SeesThat start.now (option_map (λ bytes. bytes.now) journal.entry) at
-        (λ seen. TellsNamed seen (is_some journal.entry) at (rows_lent marks.entry) word.now is_object
-        (string_bytes answer.text) answer.is_positive)) }
-    ensures fault { IfErr result
-        (λ fault. RefusesThat start.now (option_map (λ bytes. bytes.now) journal.entry) at
-        (λ seen. RefusesNamed seen word.now is_object) fault) }
+        (λ answer. TellsNamed form replay.now number (rows_lent marks.entry) word.now is_object
+        answer.bytes.items answer.is_positive) }
+    ensures fault { IfErr result (λ fault. RefusesNamed replay.now.names word.now is_object fault) }
 {
-    let seen = replay_at(alloc, start, journal_bytes(journal), at)?;
-    let told = tell_named(alloc, &seen, journal.is_some(), at, marks, word, is_object);
-    drop(seen);
-    told
+    let thing = Thing::named(replay.names(), word, is_object)?;
+    let entries = told_entries(replay.entries(), number);
+    let bytes = thing_rows(alloc, form, replay, thing, marks, entries)?;
+    let is_positive = bytes.len() != 0;
+    Ok(Listing { bytes, is_positive })
 }

@@ -1,4 +1,6 @@
+mod Describing
 mod Explaining
 mod Histories
+mod SaidOfStarts
 mod Seen
 mod Starts

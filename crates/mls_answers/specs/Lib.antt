@@ -1,3 +1,7 @@
 pub mod Answers
+pub mod Checking
+pub mod Describing
 pub mod Histories
 pub mod Starts
+pub mod States
+pub mod Verified

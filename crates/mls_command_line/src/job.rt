@@ -2,7 +2,6 @@
 
 use crate::question::Question;
 use mls_marks::Digest;
-use mls_terminal::Objects;
 
 /// What a run of scripts is asked for.
 #[derive(Drop)]
@@ -77,6 +76,6 @@ pub enum Job<'a> {
 #[derive(Drop)]
 pub struct Asked<'a> {
     pub job: Job<'a>,
-    /// Which JSON objects are printed, where they are asked for.
-    pub objects: Option<Objects>,
+    /// Whether JSON objects are asked for.
+    pub is_json: bool,
 }

@@ -2,8 +2,6 @@
 use crate::argument::{Argument, Kind};
 use crate::command_rows::CommandName;
 use clap::ArgMatches;
-use mls_json::Lines;
-use mls_terminal::Objects;
 
 /// The option, with an object for each line.
 const EACH: Argument = Argument {
@@ -26,46 +24,23 @@ const ONE: Argument = Argument {
     help: "Prints one JSON object, in a line",
 };
 
-/// Which lines tell a command's JSON objects, where lines do.
-fn lines_of(command: CommandName) -> Option<Lines> {
+/// The option of a command, where it has it: but of `journal`, whose entries have their own objects.
+pub(crate) fn json_argument(command: CommandName) -> Option<Argument> {
     match command {
-        CommandName::Check => Some(Lines::Check),
-        CommandName::Verify => Some(Lines::Verify),
-        CommandName::About => Some(Lines::About),
-        CommandName::State => Some(Lines::State),
+        CommandName::Ask | CommandName::Explain => Some(ONE),
+        CommandName::Check | CommandName::Verify => Some(ONE),
+        CommandName::State => Some(STATE),
+        CommandName::Who | CommandName::Powers | CommandName::About => Some(EACH),
+        CommandName::Held | CommandName::Usage => Some(EACH),
+        CommandName::Lint | CommandName::Compare => Some(EACH),
         _ => None,
     }
 }
 
-/// Which JSON objects a command prints, where they may be asked for.
-fn objects_of(command: CommandName) -> Option<Objects> {
+/// Whether JSON objects are asked for.
+pub(crate) fn asks_json(command: CommandName, matches: &ArgMatches<'_>) -> bool {
     match command {
-        CommandName::Ask | CommandName::Explain | CommandName::Who => Some(Objects::Rows),
-        CommandName::Powers | CommandName::Lint | CommandName::Compare => Some(Objects::Rows),
-        CommandName::Held | CommandName::Usage => Some(Objects::Rows),
-        _ => Some(Objects::Lines(lines_of(command)?)),
-    }
-}
-
-/// The option of a command, but of `journal`, whose entries have their own objects.
-pub(crate) fn json_argument(command: CommandName) -> Option<Argument> {
-    match (command, objects_of(command)?) {
-        (CommandName::Ask | CommandName::Explain, _) => Some(ONE),
-        (_, Objects::Lines(Lines::State)) => Some(STATE),
-        (_, Objects::Lines(lines)) if lines.is_whole() => Some(ONE),
-        _ => Some(EACH),
-    }
-}
-
-/// The JSON objects that are asked for.
-pub(crate) fn asked_objects(command: CommandName, matches: &ArgMatches<'_>) -> Option<Objects> {
-    let objects = match command {
-        CommandName::Journal if matches.get_flag("summary") => Objects::Rows,
-        _ => objects_of(command)?,
-    };
-    if matches.get_flag("json") {
-        Some(objects)
-    } else {
-        None
+        CommandName::Journal => matches.get_flag("json"),
+        _ => json_argument(command).is_some() && matches.get_flag("json"),
     }
 }

@@ -2,7 +2,7 @@
 use crate::command_line::command;
 use crate::command_rows::{COMMANDS, CommandName, CommandRow};
 use crate::job::{Asked, Job, RunWords, ServeWords};
-use crate::json_words::asked_objects;
+use crate::json_words::asks_json;
 use crate::question::Question;
 use crate::question_words::{
     about_words, ask_words, compare_words, explain_words, held_words, journal_words, operand,
@@ -119,13 +119,13 @@ fn asked<'a>(
     let Some((name, words)) = matches.subcommand() else {
         return Ok(Asked {
             job: Job::Answer,
-            objects: None,
+            is_json: false,
         });
     };
     let command = command_named(rows, name)?;
-    let objects = asked_objects(command, words);
+    let is_json = asks_json(command, words);
     let job = command_job(alloc, command, words)?;
-    Ok(Asked { job, objects })
+    Ok(Asked { job, is_json })
 }
 
 /// The words of a command line by the arguments that they are.

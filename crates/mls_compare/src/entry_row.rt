@@ -4,12 +4,12 @@ ghost use Rattle.mls_rows.specs.Members.{Adds, number_member};
 ghost use Rattle.mls_compare.specs.Entries.{entry_line, entry_members, entry_text};
 ghost use Rattle.mls_differences.specs.Things.{difference_member};
 
-use crate::asked::write_asked;
 use json::Writer;
 use mls_differences::{Compared, push_replies, write_difference, write_replies};
 use mls_lines::Names;
 use mls_requests::{Entry, Reply};
 use mls_rows::write_number;
+use mls_shared_rows::write_asked;
 use mls_wording::{push_number, push_request};
 use std::alloc::{AllocError, Global};
 

@@ -3,7 +3,6 @@
 #![tactic(auto)]
 
 mod actions;
-mod asked;
 mod carried;
 mod carrier;
 mod compare_fault;

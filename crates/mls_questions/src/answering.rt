@@ -124,11 +124,7 @@ fn about_files(
     is_object: bool,
 ) -> ExitCode {
     match read_source(progress, source) {
-        Ok(bytes) => {
-            let status = about(progress, source, &bytes, name, is_object);
-            drop(bytes);
-            status
-        }
+        Ok(bytes) => about(progress, source, bytes, name, is_object),
         Err(status) => status,
     }
 }

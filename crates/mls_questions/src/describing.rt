@@ -1,27 +1,64 @@
 //! The command that tells all of a subject or of an object.
-use crate::answering::{ended, thing_refused};
+use crate::answering::thing_refused;
 use crate::named::Named;
+use crate::past::{Past, past_refused, replayed};
+use crate::row_answers::{form_of, rows_ended};
 use crate::sources::Bytes;
-use mls_about::about as told;
+use mls_answers::about as told;
 use mls_command_line::Source;
 use mls_replay::QuestionFault;
+use mls_rows::Listing;
 use mls_terminal::Progress;
-use mls_wording::Answer;
 use std::process::ExitCode;
 
 /// Ends the command over the bytes of a start file: prints the answer, or tells why there is none.
 fn ended_about(
     progress: &mut Progress<'_>,
-    source: &Source<'_>,
-    name: &str,
+    named: Named<'_>,
     start: &[u8],
-    done: Result<Answer, QuestionFault>,
+    done: Result<Listing, QuestionFault>,
 ) -> ExitCode {
     if let Err(QuestionFault::Subject) = &done {
         progress.end();
         drop(done);
-        return thing_refused(progress.rt(), start, name);
+        return thing_refused(progress.rt(), start, named.object);
     }
+    rows_ended(progress, named, start, done)
+}
+
+/// Prints all that there is to tell over a journal that was replayed, or over a start alone.
+fn about_past(
+    progress: &mut Progress<'_>,
+    named: Named<'_>,
+    past: &Past,
+    has_journal: bool,
+    is_object: bool,
+) -> ExitCode {
+    let (alloc, form) = (progress.rt().alloc(), form_of(progress));
+    let marks = past.marks.as_ref();
+    let name = named.object;
+    let done = told(
+        alloc,
+        form,
+        &past.history,
+        has_journal,
+        marks,
+        name,
+        is_object,
+    );
+    ended_about(progress, named, past.history.start_file(), done)
+}
+
+/// Prints all that there is to tell of a subject or of an object.
+pub(crate) fn about(
+    progress: &mut Progress<'_>,
+    source: &Source<'_>,
+    bytes: Bytes,
+    name: &str,
+    is_object: bool,
+) -> ExitCode {
+    progress.begin("looking");
+    let (has_journal, at) = (bytes.journal.is_some(), bytes.at);
     let named = Named {
         start: source.start,
         journal: source.journal.unwrap_or(""),
@@ -29,26 +66,12 @@ fn ended_about(
         object: name,
         line: "",
     };
-    ended(progress, named, start, done)
-}
-
-/// Prints all that there is to tell of a subject or of an object.
-pub(crate) fn about(
-    progress: &mut Progress<'_>,
-    source: &Source<'_>,
-    bytes: &Bytes,
-    name: &str,
-    is_object: bool,
-) -> ExitCode {
-    progress.begin("looking");
-    let done = told(
-        progress.rt().alloc(),
-        &bytes.start,
-        bytes.journal.as_deref(),
-        bytes.at,
-        bytes.marks.as_ref(),
-        name,
-        is_object,
-    );
-    ended_about(progress, source, name, &bytes.start, done)
+    match replayed(progress.rt().alloc(), bytes, at) {
+        Ok(past) => {
+            let status = about_past(progress, named, &past, has_journal, is_object);
+            drop(past);
+            status
+        }
+        Err(fault) => past_refused(progress, named, fault),
+    }
 }

@@ -20,3 +20,4 @@ mod spans;
 mod starts;
 
 pub use answering::answer;
+pub use row_answers::form_of;

@@ -5,7 +5,6 @@ use mls_requests::read_mode;
 use mls_rows::{Form, Listing};
 use mls_seen::Seen;
 use mls_tables::Mode;
-use mls_wording::Answer;
 use std::alloc::Global;
 
 /// What is asked of one state.
@@ -73,15 +72,6 @@ fn mode_of(word: Option<&str>) -> Option<Mode> {
     }
 }
 
-/// An answer in lines.
-fn in_lines(done: Result<Answer, QuestionFault>) -> Result<Listing, QuestionFault> {
-    let Answer { text, is_positive } = done?;
-    Ok(Listing {
-        bytes: text.into_bytes(),
-        is_positive,
-    })
-}
-
 /// What is answered in the state that is seen, in a form, but for a start file.
 ///
 /// # Errors
@@ -101,6 +91,6 @@ pub(crate) fn answer_seen(
             subject,
             downgrades,
         } => powers(alloc, form, seen, subject, downgrades),
-        OfState::List | OfState::StartFile { .. } => in_lines(state(alloc, seen)),
+        OfState::List | OfState::StartFile { .. } => state(alloc, form, seen),
     }
 }

@@ -7,7 +7,7 @@ use mls_terminal::Progress;
 use std::process::ExitCode;
 
 /// The form in which an answer is asked for.
-pub(crate) fn form_of(progress: &Progress<'_>) -> Form {
+pub fn form_of(progress: &Progress<'_>) -> Form {
     if progress.is_json() {
         Form::Json
     } else {

@@ -4,12 +4,10 @@
 
 mod files;
 mod held;
-mod objects;
 mod output;
 mod progress;
 
 pub use files::{FileFault, Input, make_file, write_file};
 pub use held::Held;
-pub use objects::Objects;
 pub use output::{NO_MEMORY, NOT_WRITTEN, file_refused, is_taken, print, refused, write_bytes};
 pub use progress::Progress;

@@ -1,12 +1,9 @@
 //! What a person at a terminal is told while a command works for more than a second, and how its answer is printed.
 ghost use Rattle.std.specs.Prelude.{◌≡◌};
 
-use crate::objects::Objects;
-use crate::output::{NO_MEMORY, print, refused};
-use mls_json::{Lines, objects};
+use crate::output::print;
 use std::io::IsTerminal;
 use std::process::ExitCode;
-use std::str;
 use std::time::Instant;
 
 /// Work on so many bytes takes more than a second.
@@ -18,7 +15,7 @@ const STEP: usize = 8_388_608;
 /// How many seconds a command works before it says what it does.
 const PATIENCE: u64 = 1;
 
-/// What a command tells of its work, where standard error is a terminal, and in which form it prints its answer.
+/// What a command tells of its work, where standard error is a terminal, and in which form its answer is asked for.
 #[derive(Drop)]
 pub struct Progress<'a> {
     rt: &'a HostRuntime,
@@ -28,13 +25,13 @@ pub struct Progress<'a> {
     read: usize,
     /// Whether a line stands on the terminal.
     is_shown: bool,
-    /// Which JSON objects are printed, where they are asked for.
-    objects: Option<Objects>,
+    /// Whether JSON objects are asked for.
+    is_json: bool,
 }
 
 impl<'a> Progress<'a> {
-    /// The progress of work that begins now, which prints JSON objects where they are named.
-    pub fn new(rt: &'a HostRuntime, objects: Option<Objects>) -> Progress<'a> {
+    /// The progress of work that begins now, whose answer may be asked for as JSON objects.
+    pub fn new(rt: &'a HostRuntime, is_json: bool) -> Progress<'a> {
         let begun = if rt.stderr().is_terminal() {
             Instant::now(rt).ok()
         } else {
@@ -45,7 +42,7 @@ impl<'a> Progress<'a> {
             begun,
             read: 0,
             is_shown: false,
-            objects,
+            is_json,
         }
     }
 
@@ -94,37 +91,14 @@ impl<'a> Progress<'a> {
         }
     }
 
-    /// Whether JSON objects are printed.
+    /// Whether JSON objects are asked for.
     pub fn is_json(&self) -> bool {
-        self.objects.is_some()
+        self.is_json
     }
 
-    /// Ends the work, and prints the answer that it came to, or the JSON objects that tell its lines.
-    pub fn print(&mut self, text: &[u8]) -> ExitCode {
+    /// Ends the work, and prints the answer that it came to.
+    pub fn print(&mut self, answer: &[u8]) -> ExitCode {
         self.end();
-        match self.objects {
-            Some(objects) => print_objects(self.rt, objects, text),
-            None => print(self.rt, text),
-        }
-    }
-}
-
-/// Prints an answer as JSON objects.
-fn print_objects(rt: &HostRuntime, objects: Objects, answer: &[u8]) -> ExitCode {
-    match (objects, str::from_utf8(answer)) {
-        (Objects::Lines(lines), Ok(text)) => print_told(rt, lines, text),
-        _ => print(rt, answer),
-    }
-}
-
-/// Prints the JSON objects that tell the lines of a text.
-fn print_told(rt: &HostRuntime, lines: Lines, text: &str) -> ExitCode {
-    match objects(rt.alloc(), lines.table(text), text) {
-        Ok(found) => {
-            let status = print(rt, &found);
-            drop(found);
-            status
-        }
-        Err(_) => refused(rt, NO_MEMORY, 1),
+        print(self.rt, answer)
     }
 }

@@ -1,26 +1,30 @@
 //! The commands over files.
+use mls_answers::check as said_of;
 use mls_files::{
     Goal, Wanted, command_refused, fault_file, open_start, read_journal, seek, segments_of,
     start_file,
 };
-use mls_replay::{CommandFault, check_start, ending, replay_journal};
+use mls_questions::form_of;
+use mls_replay::{CommandFault, ending, replay_journal};
+use mls_rows::Form;
 use mls_seen::Opened;
 use mls_terminal::{NO_MEMORY, Progress, file_refused, print, refused};
+use std::alloc::Global;
 use std::io::IsTerminal;
 use std::process::ExitCode;
 
 /// Ends a command: writes its output, or tells why it was refused.
 fn ended(
     progress: &mut Progress<'_>,
-    done: Result<String, CommandFault>,
+    done: Result<Vec<u8>, CommandFault>,
     start: &str,
     journal: &str,
 ) -> ExitCode {
     progress.end();
     match done {
-        Ok(text) => {
-            let status = progress.print(text.as_bytes());
-            drop(text);
+        Ok(bytes) => {
+            let status = progress.print(&bytes);
+            drop(bytes);
             status
         }
         Err(fault) => command_refused(progress.rt(), fault_file(&fault, start, journal), &fault),
@@ -34,6 +38,14 @@ fn point_to_lint(rt: &HostRuntime, start: &str) {
     }
 }
 
+/// What is said of a start file that is checked.
+fn checked(alloc: Global, form: Form, bytes: Vec<u8>) -> Result<Vec<u8>, CommandFault> {
+    let opened = Opened::read(alloc, bytes)?;
+    let said = said_of(alloc, form, &opened);
+    drop(opened);
+    Ok(said?)
+}
+
 /// Checks a start file.
 pub fn check(progress: &mut Progress<'_>, start: &str) -> ExitCode {
     let bytes = match start_file(start).read(progress) {
@@ -41,10 +53,9 @@ pub fn check(progress: &mut Progress<'_>, start: &str) -> ExitCode {
         Err(fault) => return file_refused(progress, start, fault),
     };
     progress.begin("checking");
-    let checked = check_start(progress.rt().alloc(), &bytes);
-    drop(bytes);
-    let is_refused = matches!(&checked, Err(CommandFault::Load(_)));
-    let status = ended(progress, checked, start, start);
+    let done = checked(progress.rt().alloc(), form_of(progress), bytes);
+    let is_refused = matches!(&done, Err(CommandFault::Load(_)));
+    let status = ended(progress, done, start, start);
     if is_refused {
         point_to_lint(progress.rt(), start);
     }
@@ -90,6 +101,11 @@ fn replay_segments(
     replay_all(progress, wanted, opened)
 }
 
+/// What is said of a journal that is replayed.
+fn replayed(alloc: Global, start: &[u8], journal: &[u8]) -> Result<Vec<u8>, CommandFault> {
+    Ok(replay_journal(alloc, start, journal)?.into_bytes())
+}
+
 /// Replays a journal whose start file was read.
 fn replay_over(progress: &mut Progress<'_>, bytes: &[u8], start: &str, journal: &str) -> ExitCode {
     let entries = match read_journal(progress, journal) {
@@ -97,7 +113,7 @@ fn replay_over(progress: &mut Progress<'_>, bytes: &[u8], start: &str, journal: 
         Err(fault) => return file_refused(progress, journal, fault),
     };
     progress.begin("replaying");
-    let replayed = replay_journal(progress.rt().alloc(), bytes, &entries);
+    let replayed = replayed(progress.rt().alloc(), bytes, &entries);
     drop(entries);
     ended(progress, replayed, start, journal)
 }

@@ -1,4 +1,0 @@
-use Rattle.mls_compare.proofs.asked.write_integrity_word.Goals as goal
-
-pub returns : goal.returns
-returns c = c.write_text.ensures

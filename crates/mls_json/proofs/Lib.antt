@@ -1,5 +1,0 @@
-mod Kept
-mod Signs
-mod Joining
-mod Digits
-mod Pushing

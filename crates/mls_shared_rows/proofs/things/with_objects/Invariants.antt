@@ -1,0 +1,10 @@
+use Rattle.std.proofs.Common.{◌≡◌, ◌++◌}
+use Rattle.mls_rows.specs.Rows.{bytes_of, form_of}
+use Rattle.mls_shared_rows.specs.StateRows.{objects_bytes}
+use Rattle.mls_shared_rows.proofs.things.with_objects.Given as goal
+
+-- the rows of the numbers so far are added, in the form of what was there
+abbrev pub invariant-loop-o : goal.invariant-loop-o
+invariant-loop-o l =
+    (form_of l.written ≡ form_of l.fn.output)
+    × (bytes_of l.written ≡ bytes_of l.fn.output ++ objects_bytes (form_of l.fn.output) l.names l.state l.o)

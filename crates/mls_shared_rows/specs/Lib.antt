@@ -1,0 +1,3 @@
+pub mod Kinds
+pub mod Requests
+pub mod StateRows
