@@ -132,6 +132,10 @@ POWERS = [
     ([STANDARD], "ann level C U\nbob level C\n" + SEC + "aud gives and rescinds root\naud level S:A C\n"
      + RELABELED.format("aud"), 0), ([STANDARD, "sec"], SEC, 0), ([STANDARD, "#2"], SEC, 0),
     (["--down", STANDARD], DOWN.format("sec") + DOWN.format("aud"), 0), (["--down", STANDARD, "bob"], "", 4),
+    (["--down", OFFICE, "desk"],
+     "desk relabels staff down to unclassified\ndesk relabels staff aside to secret:finance confidential:finance\n"
+     "desk relabels ledger down to unclassified\ndesk relabels ledger aside to secret:personnel confidential:personnel\n"
+     "desk relabels salaries down to secret:personnel confidential:personnel\n", 0),
     ([STANDARD, "#9"], "", 4),
     # sec writes the root: permissions on what is below it, and the objects themselves, are sec's
     (["--journal", "root.journal", STANDARD, "sec"], "".join(f"sec gives and rescinds {it}\n" for it in ("root",

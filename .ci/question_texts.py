@@ -197,6 +197,8 @@ def powers(state, subject=None, down=False):
             row("level", taken(state.current[s], "level"))
         for o in objects:
             found = taken(state.label[o], "relabel", o)
-            row(f"relabels {state.object(o)} down to", [it for it in found if not dominates(it, state.label[o])])
-            row(f"relabels {state.object(o)} up to", [it for it in found if dominates(it, state.label[o]) and not down])
+            is_below, is_above = lambda it: dominates(state.label[o], it), lambda it: dominates(it, state.label[o])
+            row(f"relabels {state.object(o)} down to", [it for it in found if is_below(it)])
+            row(f"relabels {state.object(o)} aside to", [it for it in found if not is_below(it) and not is_above(it)])
+            row(f"relabels {state.object(o)} up to", [it for it in found if is_above(it) and not down])
     return "".join(lines), 0 if lines else 4
