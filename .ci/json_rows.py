@@ -70,7 +70,9 @@ def explain_lines(row, subject):
     """The subject that asks is told by the words alone."""
     lines = [ask_lines(row), *map(condition_lines, row.get("conditions", [])), *map(missing_line, row.get("missing", []))]
     if "remedy" in row:
-        lines.append("remedy: none by level\n" if row["remedy"] is None else f"remedy: {subject} level {row['remedy']}\n")
+        asked = [f"{subject} release {it['mode']} {named(it, 'object')}" for it in row.get("releases", [])]
+        asked.append("none by level" if row["remedy"] is None else f"{subject} level {row['remedy']}")
+        lines += [f"remedy: {it}\n" for it in asked]
     return "".join(lines)
 
 
@@ -78,7 +80,9 @@ def get_words(row):
     """What is told of a permission: whether its get would be granted."""
     if row["granted"]:
         return "yes"
-    return f"no {row['reason']}, " + ("never" if row["remedy"] is None else f"level {row['remedy']}")
+    releases = ", ".join(f"{it['mode']} {named(it, 'object')}" for it in row.get("releases", []))
+    level = "never" if row["remedy"] is None else f"level {row['remedy']}" + (f" after releasing {releases}" if releases else "")
+    return f"no {row['reason']}, {level}"
 
 
 def who_line(row):
