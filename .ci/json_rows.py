@@ -350,6 +350,7 @@ def files_of_the_documents():
     put("held.journal", OPENED)
     put("ever.journal", OPENED + b"5 0 1 level 1 yes\n")
     put("level.journal", b"0 0 0 get-read 1 yes\n")
+    put("staff.journal", b"0 0 0 get-read 1 yes\n")
     put("given.journal", b"0 0 2 get-write 0 yes\n1 0 2 give read 2 1 yes\n")
     put("j", b"0 0 0 get-read 1 yes\n1 0 1 get-read 2 no star\n")
     put("m", b"1 2026-11-27T11:12:26.736512Z 765eb9d97a9b040bee356c47e7004317d02df95214218903b329cc21a3edec2d\n")
