@@ -70,7 +70,9 @@ def explain_lines(row, subject):
     """The subject that asks is told by the words alone."""
     lines = [ask_lines(row), *map(condition_lines, row.get("conditions", [])), *map(missing_line, row.get("missing", []))]
     if "remedy" in row:
-        lines.append("remedy: none by level\n" if row["remedy"] is None else f"remedy: {subject} level {row['remedy']}\n")
+        asked = [f"{subject} release {it['mode']} {named(it, 'object')}" for it in row.get("releases", [])]
+        asked.append("none by level" if row["remedy"] is None else f"{subject} level {row['remedy']}")
+        lines += [f"remedy: {it}\n" for it in asked]
     return "".join(lines)
 
 
@@ -78,7 +80,9 @@ def get_words(row):
     """What is told of a permission: whether its get would be granted."""
     if row["granted"]:
         return "yes"
-    return f"no {row['reason']}, " + ("never" if row["remedy"] is None else f"level {row['remedy']}")
+    releases = ", ".join(f"{it['mode']} {named(it, 'object')}" for it in row.get("releases", []))
+    level = "never" if row["remedy"] is None else f"level {row['remedy']}" + (f" after releasing {releases}" if releases else "")
+    return f"no {row['reason']}, {level}"
 
 
 def who_line(row):
@@ -346,6 +350,7 @@ def files_of_the_documents():
     put("held.journal", OPENED)
     put("ever.journal", OPENED + b"5 0 1 level 1 yes\n")
     put("level.journal", b"0 0 0 get-read 1 yes\n")
+    put("staff.journal", b"0 0 0 get-read 1 yes\n")
     put("given.journal", b"0 0 2 get-write 0 yes\n1 0 2 give read 2 1 yes\n")
     put("j", b"0 0 0 get-read 1 yes\n1 0 1 get-read 2 no star\n")
     put("m", b"1 2026-11-27T11:12:26.736512Z 765eb9d97a9b040bee356c47e7004317d02df95214218903b329cc21a3edec2d\n")

@@ -1,5 +1,6 @@
 """The policy, written in Python from docs/POLICY.md alone: what answers of the program are compared with. Labels are pairs of a level and a
 frozen set of categories, all by number."""
+import copy
 import json
 from typing import NamedTuple
 
@@ -45,6 +46,19 @@ def dominates(one, other):
 
 def join(one, other):
     return max(one[0], other[0]), one[1] | other[1]
+
+
+def meet(one, other):
+    return min(one[0], other[0]), one[1] & other[1]
+
+
+def below(label):
+    """All labels that a label dominates."""
+    level, categories = label
+    sets = [frozenset()]
+    for it in sorted(categories):
+        sets += [other | {it} for other in sets]
+    return [(height, it) for height in range(level + 1) for it in sets]
 
 
 class State:
@@ -296,6 +310,25 @@ class State:
             found |= {join(it, label) for it in found}
         return found
 
+    def way(self, s, mode, o):
+        """What a get takes of its subject alone: releases, and the label to take behind them; None where nothing helps. A release only widens
+        what labels can be taken, so nothing helps where with nothing held none of all labels below the maximum does."""
+        least = self.remedy(s, mode, o)
+        if least is not None:
+            return [], least
+        if s not in self.maximum or o not in self.label:
+            return None
+        held, free = [it for it in sorted(self.accesses) if it[0] == s], copy.copy(self)
+        free.accesses = self.accesses - {*held}
+        if not any(free.helps(s, mode, o, it) for it in below(self.maximum[s])):
+            return None
+        label = meet(self.label[o], self.maximum[s]) if mode == 2 else self.label[o]
+        releases = [it for it in held if not self.star(s, label, self.label[it[1]], it[2])]
+        for kept in [None, *releases]:
+            free.accesses = self.accesses - {it for it in releases if it != kept}
+            assert free.helps(s, mode, o, label) == (kept is None), "just the releases that are named are needed, and they are enough"
+        return releases, label
+
     def helps(self, s, mode, o, label):
         if self.decide(s, ("level", label)) != "yes":
             return False
@@ -362,9 +395,24 @@ def explained(state, s, action):
             lines.append(f"{reason} {'holds' if holds else 'fails'}: {basis}")
             lines += [] if holds else [f"  {it}" for it in failing]
         if action[0].startswith("get-") and reply != "yes":
-            least = state.remedy(s, action[1], action[2])
-            lines.append("remedy: none by level" if least is None else f"remedy: {state.subject(s)} level {state.security.text(least)}")
+            lines += remedies(state, s, state.way(s, action[1], action[2]))
     return "".join(f"{it}\n" for it in lines), 0 if reply == "yes" or reply.startswith("created") else 4
+
+
+def remedies(state, s, way):
+    """The lines of what a get that is denied takes of its subject."""
+    if way is None:
+        return ["remedy: none by level"]
+    asked = [f"release {MODES[x]} {state.object(o)}" for _, o, x in way[0]] + [f"level {state.security.text(way[1])}"]
+    return [f"remedy: {state.subject(s)} {it}" for it in asked]
+
+
+def way_text(state, way):
+    """The same in a line of `mls who`."""
+    if way is None:
+        return ", never"
+    releases = ", ".join(f"{MODES[x]} {state.object(o)}" for _, o, x in way[0])
+    return f", level {state.security.text(way[1])}" + (f" after releasing {releases}" if releases else "")
 
 
 def unknowns(state, s, action):
@@ -387,7 +435,6 @@ def who(state, o, modes=range(4)):
             if (s, o, x) not in state.matrix:
                 continue
             reply = state.decide(s, (f"get-{MODES[x]}", x, o))
-            least = state.remedy(s, x, o)
-            tail = "" if reply == "yes" else ", never" if least is None else f", level {state.security.text(least)}"
+            tail = "" if reply == "yes" else way_text(state, state.way(s, x, o))
             lines.append(f"{state.subject(s)} {MODES[x]} {reply}{tail}\n")
     return "".join(lines), 0 if any(it.endswith(" yes\n") for it in lines) else 4

@@ -81,6 +81,23 @@ HELD_EXPLAINED = [
     ("ann check read plans", "held\n", 0),
 ]
 
+# over examples/office.json, where petra has read staff and holds it: no label lets her keep that and add to the inbox
+STAFF = b"0 0 0 get-read 1 yes\n"
+STAFF_EXPLAINED = [
+    ("petra get-append inbox",
+     "no star\ndiscretionary holds: petra is permitted append of inbox\nsimple holds: append does not observe\n"
+     "star fails: unclassified of inbox does not dominate current confidential:personnel\n"
+     "integrity holds: final of petra dominates draft of inbox\n"
+     "remedy: petra release read staff\nremedy: petra level unclassified\n", 4),
+    ("petra get-read inbox",
+     "no integrity\ndiscretionary holds: petra is permitted read of inbox\n"
+     "simple holds: maximum secret:personnel dominates unclassified of inbox\n"
+     "star holds: current confidential:personnel dominates unclassified of inbox\n"
+     "integrity fails: draft of inbox does not dominate final of petra\nremedy: none by level\n", 4),
+]
+STAFF_WHO = ("petra read no integrity, never\npetra append no star, level unclassified after releasing read staff\nintern read yes\n"
+             "intern write yes\n")
+
 BAD_LINES = [("", "form"), ("   ", "form"), ("; ann get-read plans", "form"), ("ann get-read", "form"),
              ("ann get-read plans\n", "form"), ("ann get-read plans\nbob get-read memo", "form"),
              ("ann get-read $x", "form"), ("$x = sec create root U hi", "form"), ("ann frob plans", "form"),
@@ -132,6 +149,10 @@ POWERS = [
     ([STANDARD], "ann level C U\nbob level C\n" + SEC + "aud gives and rescinds root\naud level S:A C\n"
      + RELABELED.format("aud"), 0), ([STANDARD, "sec"], SEC, 0), ([STANDARD, "#2"], SEC, 0),
     (["--down", STANDARD], DOWN.format("sec") + DOWN.format("aud"), 0), (["--down", STANDARD, "bob"], "", 4),
+    (["--down", OFFICE, "desk"],
+     "desk relabels staff down to unclassified\ndesk relabels staff aside to secret:finance confidential:finance\n"
+     "desk relabels ledger down to unclassified\ndesk relabels ledger aside to secret:personnel confidential:personnel\n"
+     "desk relabels salaries down to secret:personnel confidential:personnel\n", 0),
     ([STANDARD, "#9"], "", 4),
     # sec writes the root: permissions on what is below it, and the objects themselves, are sec's
     (["--journal", "root.journal", STANDARD, "sec"], "".join(f"sec gives and rescinds {it}\n" for it in ("root",
@@ -246,6 +267,13 @@ def lines_that_are_explained():
     for start, rows in ((STANDARD, EXPLAINED), (HELD, HELD_EXPLAINED)):
         for line, text, status in rows:
             answered(["explain", start, line], text, status)
+
+
+def releases_before_a_level():
+    put("staff.journal", STAFF)
+    for line, text, status in STAFF_EXPLAINED:
+        answered(["explain", "--journal", "staff.journal", OFFICE, line], text, status)
+    answered(["who", "--journal", "staff.journal", OFFICE, "inbox"], STAFF_WHO, 0)
 
 
 def lines_that_ask_nothing():
@@ -395,7 +423,7 @@ def one_repeat_and_nothing_else():
         answered(["lint", "once.json"], text, status)
 
 
-CHECKS = [lines_that_are_asked, lines_that_are_explained, lines_that_ask_nothing, words_that_name_nothing,
+CHECKS = [lines_that_are_asked, lines_that_are_explained, releases_before_a_level, lines_that_ask_nothing, words_that_name_nothing,
           where_a_check_points, subjects_who_may, entries_that_are_explained, states_before_entries,
           faults_in_their_order, words_that_no_question_has, listed_entries, states_of_a_journal, suspicious_examples,
           powers_of_subjects, drawing_of_the_standard_start, entries_about_a_subject, words_that_begin_no_reply,

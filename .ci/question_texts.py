@@ -3,7 +3,7 @@ import copy
 
 import json
 
-from policy import KINDS, MODES, REASONS, dominates, explained, number_label, words_of
+from policy import KINDS, MODES, REASONS, below, dominates, explained, number_label, words_of
 
 REPLIES = ("yes", "created", "no", "undefined")
 
@@ -122,21 +122,12 @@ def state_lines(state):
     return "".join(lines), 0
 
 
-def below(state, label):
-    """All labels that a label dominates."""
-    level, categories = label
-    sets = [frozenset()]
-    for it in sorted(categories):
-        sets += [other | {it} for other in sets]
-    return [(height, it) for height in range(level + 1) for it in sets]
-
-
 def dead(state, s, mode, o):
     """The reason of a permission that is dead, found by trying all labels; None where it isn't."""
     free = copy.copy(state)
     free.accesses, free.current = set(), dict(state.current)
     tests = []
-    for label in below(state, state.maximum[s]):
+    for label in below(state.maximum[s]):
         free.current[s] = label
         tests.append([(reason, holds) for reason, holds, _, _ in free.conditions(s, (f"get-{MODES[mode]}", mode, o))])
     if any(all(holds for _, holds in test) for test in tests):
@@ -192,11 +183,13 @@ def powers(state, subject=None, down=False):
             assert all(len(it) == 1 for it in tried.values()), "the rules of a give and a rescind look at more than who asks and the object"
             lines += [f"{state.subject(s)} gives and rescinds {state.object(o)}\n" for o in objects if True in tried[o]]
             lines += [f"{state.subject(s)} creates under {state.object(o)}\n" for o in objects
-                      if any(may("create", o, l, i) for l in below(state, top) for i in below(state, high))]
+                      if any(may("create", o, l, i) for l in below(top) for i in below(high))]
             lines += [f"{state.subject(s)} deletes {state.object(o)}\n" for o in objects if may("delete", o)]
             row("level", taken(state.current[s], "level"))
         for o in objects:
             found = taken(state.label[o], "relabel", o)
-            row(f"relabels {state.object(o)} down to", [it for it in found if not dominates(it, state.label[o])])
-            row(f"relabels {state.object(o)} up to", [it for it in found if dominates(it, state.label[o]) and not down])
+            is_below, is_above = lambda it: dominates(state.label[o], it), lambda it: dominates(it, state.label[o])
+            row(f"relabels {state.object(o)} down to", [it for it in found if is_below(it)])
+            row(f"relabels {state.object(o)} aside to", [it for it in found if not is_below(it) and not is_above(it)])
+            row(f"relabels {state.object(o)} up to", [it for it in found if is_above(it) and not down])
     return "".join(lines), 0 if lines else 4

@@ -4,15 +4,15 @@ use Rattle.std.specs.List.{flat_map}
 use Rattle.mls_explain.specs.Prospects.{permitted_pairs, pairs_of, IsProspect}
 use Rattle.mls_explain.specs.declared.prospect.Prospect.{Prospect}
 use Rattle.mls_explain_text.specs.Files.{modes_asked}
-use Rattle.mls_explain_text.specs.Who.{prospect_line}
+use Rattle.mls_explain_text.specs.Who.{prospect_line, releases_of}
 use Rattle.mls_explain_text.specs.WhoMembers.{prospect_members}
 use Rattle.mls_lines.specs.Names.{Names}
 use Rattle.mls_rows.specs.declared.form.Form.{Form}
 use Rattle.mls_shared_rows.specs.Kinds.{kind_bytes}
 use Rattle.mls_state.specs.State.{State, is_subject, is_active}
 
--- These are just the gets of an active object that the matrix permits, in their order, each with the reply and the
--- remedy. (own)
+-- These are just the gets of an active object that the matrix permits, in their order, each with the reply and
+-- what it would take. (own)
 pub record AreGets (v : State) (o : ℕ) (found : List Prospect) : Type 0 where
   pub subjects : ℕ
   pub known : (s : ℕ) → is_subject v s ≡ nat_lt s subjects
@@ -28,10 +28,11 @@ GetsWhether false v o found = found ≡ []
 abbrev pub GetsOf : State → ℕ → List Prospect → Type 0
 GetsOf v o found = GetsWhether (is_active v o) v o found
 
--- The row of what a subject may get, in a form: the line that `who` has for it, or its object. (own)
-abbrev pub get_bytes : Form → Names → Prospect → List ℕ
-get_bytes form names p = kind_bytes form (codes "who") (prospect_line names p) (prospect_members names p)
+-- The row of what a subject may get in a state, in a form: the line that `who` has for it, or its object. (own)
+abbrev pub get_bytes : Form → Names → State → Prospect → List ℕ
+get_bytes form names v p =
+    kind_bytes form (codes "who") (prospect_line names p (releases_of v p)) (prospect_members names p (releases_of v p))
 
--- The rows of what subjects may get, in a form. (own)
-abbrev pub gets_bytes : Form → Names → List Prospect → List ℕ
-gets_bytes form names found = flat_map (get_bytes form names) found
+-- The rows of what subjects may get in a state, in a form. (own)
+abbrev pub gets_bytes : Form → Names → State → List Prospect → List ℕ
+gets_bytes form names v found = flat_map (get_bytes form names v) found

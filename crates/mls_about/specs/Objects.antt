@@ -64,7 +64,7 @@ pub record ShowsObject (form : Form) (names : Names) (v : State) (o : ℕ) (told
   pub found : List Prospect
   pub gets : GetsOf v o found
   pub bytes : told ≡ object_bytes form names v o ++ (children_bytes form names v o MAX_OBJECTS
-      ++ (gets_bytes form names found ++ column_bytes form names v.accesses o MAX_SUBJECTS))
+      ++ (gets_bytes form names v found ++ column_bytes form names v.accesses o MAX_SUBJECTS))
 
 -- Bytes tell of an object in a form: what there is of it in a state, and where there is a journal the entries that
 -- changed it. (own)

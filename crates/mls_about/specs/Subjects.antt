@@ -42,7 +42,7 @@ subject_history form names rows s (Some entries) =
 pub record ShowsSubject (form : Form) (names : Names) (v : State) (s : ℕ) (told : List ℕ) : Type 0 where
   pub found : List Permission
   pub are : ArePermissions v s found
-  pub bytes : told ≡ subject_bytes form names v s ++ (permit_bytes form names found
+  pub bytes : told ≡ subject_bytes form names v s ++ (permit_bytes form names v found
       ++ (cells_bytes form (codes "access") names v.accesses s MAX_OBJECTS
       ++ changes_bytes form names (powers v (all_of s))))
 

@@ -126,12 +126,12 @@ fn with_now(
     ensures bytes { IfOk result (λ new. bytes_of new ≡ bytes_of output
         ++ (object_bytes (form_of output) names.now state.now o
         ++ (children_bytes (form_of output) names.now state.now o MAX_OBJECTS
-        ++ (gets_bytes (form_of output) names.now found.now
+        ++ (gets_bytes (form_of output) names.now state.now found.now
         ++ column_bytes (form_of output) names.now state.now.accesses o MAX_SUBJECTS)))) }
 {
     let output = with_object(alloc, output, names, state, o)?;
     let output = with_children(output, names, state, o)?;
-    let output = with_gets(alloc, output, names, found)?;
+    let output = with_gets(alloc, output, names, state, found)?;
     with_column(output, names, state, o)
 }
 

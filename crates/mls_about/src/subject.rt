@@ -55,12 +55,12 @@ fn with_now(
     ensures form { IfOk result (λ new. form_of new ≡ form_of output) }
     ensures bytes { IfOk result (λ new. bytes_of new ≡ bytes_of output
         ++ (subject_bytes (form_of output) names.now state.now s
-        ++ (permit_bytes (form_of output) names.now found.entry.0.now
+        ++ (permit_bytes (form_of output) names.now state.now found.entry.0.now
         ++ (cells_bytes (form_of output) (codes "access") names.now state.now.accesses s MAX_OBJECTS
         ++ changes_bytes (form_of output) names.now (map change_view found.entry.1.now))))) }
 {
     let output = with_subject(alloc, output, names, state, s)?;
-    let output = with_permissions(alloc, output, names, found.0)?;
+    let output = with_permissions(alloc, output, names, state, found.0)?;
     let output = with_row(output, names, state, Table::Accesses, s)?;
     with_powers(output, names, found.1)
 }

@@ -102,10 +102,10 @@ pub(crate) const COMMANDS: [CommandRow; 18] = [
         command: CommandName::Explain,
         name: "explain",
         about: "Prints the answer to LINE, or without LINE to entry N of a journal; each condition of its rule, \
-            with the labels that it compares; and for a get that is denied the lowest current label that the \
-            subject can take, with all that it holds, with which it is granted, or none by level: none helps as \
-            long as the subject holds what it holds, which mls who calls never. The status is 0 for yes, created \
-            and held, else 4",
+            with the labels that it compares; and for a get that is denied what the subject can ask itself so that \
+            it is granted: the lowest current label that helps with all that it holds; or releases, and then a \
+            label; or none by level: no releases and labels of its own help, which mls who calls never. The status \
+            is 0 for yes, created and held, else 4",
         example: "Examples: mls explain examples/standard.json 'bob get-read memo'; mls explain --journal \
             office.journal --at 1 examples/office.json, of the entry that mls journal --from 1 --to 1 \
             examples/office.json office.journal prints",
@@ -115,10 +115,10 @@ pub(crate) const COMMANDS: [CommandRow; 18] = [
         command: CommandName::Who,
         name: "who",
         about: "Prints which subjects are permitted OBJ and in which modes, and for each whether a get would be \
-            granted now, or else why not and with which current label it would be, or never: none helps as long as \
-            the subject holds what it holds. It prints nothing for #N where there is no object N. With --ever, for \
-            each permission that there was, from which entry of the journal to which its get would have been \
-            granted. The status is 0 where one would be granted, else 4",
+            granted now, or else why not and with which current label it would be, after which releases, or never: \
+            no releases and labels of the subject help. It prints nothing for #N where there is no object N. With \
+            --ever, for each permission that there was, from which entry of the journal to which its get would have \
+            been granted. The status is 0 where one would be granted, else 4",
         example: "Examples: mls who examples/standard.json memo read; mls who --ever --journal office.journal \
             examples/office.json salaries. mls state prints who holds what. Who holds write on the parent may give \
             permissions, and on the root whoever is trusted",

@@ -20,14 +20,14 @@ use Rattle.mls_labels.specs.Label.{Label, dominates}
 use Rattle.mls_explain.specs.Remedy.{HasCategories}
 
 -- what holds of four places holds of each below 4
-each_place : (P : ℕ → Type 0) → P 0 → P 1 → P 2 → P 3 → (k : ℕ) → k < 4 → P k
+pub each_place : (P : ℕ → Type 0) → P 0 → P 1 → P 2 → P 3 → (k : ℕ) → k < 4 → P k
 each_place P a b c d zero h = a
 each_place P a b c d (suc zero) h = b
 each_place P a b c d (suc (suc zero)) h = c
 each_place P a b c d (suc (suc (suc zero))) h = d
 each_place P a b c d (suc (suc (suc (suc k)))) h = absurd (omega (arith, h))
 
-quarter : (q : ℕ) → q < 256 → q / 64 < 4
+pub quarter : (q : ℕ) → q < 256 → q / 64 < 4
 quarter q within = omega arith
 
 one_of : (t : Bool) → nat_eq (cond t 1 0) 1 ≡ t
@@ -49,7 +49,7 @@ or_test p (suc (suc q)) h k = absurd (omega (arith, k))
 or_bit : (x y i : ℕ) → has_bit (bit_or x y) i ≡ (has_bit x i || has_bit y i)
 or_bit x y i = ap (λ m. nat_eq m 1) (bit_at_or x y i) ∙ or_test (bit_at x i) (bit_at y i) (bit_at-lt x i) (bit_at-lt y i)
 
-both_tests : (q : ℕ) (p r : Bool) → (q < 256) ⊎ (256 ≤ q) → (q < 256 → p ≡ r) → (nat_lt q 256 && p) ≡ (nat_lt q 256 && r)
+pub both_tests : (q : ℕ) (p r : Bool) → (q < 256) ⊎ (256 ≤ q) → (q < 256 → p ≡ r) → (nat_lt q 256 && p) ≡ (nat_lt q 256 && r)
 both_tests q p r (inl within) same = ap (λ t. nat_lt q 256 && t) (same within)
 both_tests q p r (inr past) same = rw (le-ltb q 256 past) refl
 
@@ -59,7 +59,7 @@ words_of_both a b =
     bit_or (word_of a 0) (word_of b 0) ∷ bit_or (word_of a 1) (word_of b 1) ∷ bit_or (word_of a 2) (word_of b 2)
     ∷ bit_or (word_of a 3) (word_of b 3) ∷ []
 
-member : (s : FinSet nat_cmp) (q : ℕ) → has_bit (word_of s (q / 64)) (q % 64) ≡ contains s q
+pub member : (s : FinSet nat_cmp) (q : ℕ) → has_bit (word_of s (q / 64)) (q % 64) ≡ contains s q
 member s q = word_bit s (q / 64) (q % 64) (place_within q) ∙ ap (contains s) (place_back q)
 
 -- the categories of two sets' words are those of either

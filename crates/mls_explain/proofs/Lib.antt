@@ -1,5 +1,7 @@
 mod Cells
 mod Covering
+mod Freed
 mod Joins
 mod Lists
 mod LowerLevels
+mod Meets

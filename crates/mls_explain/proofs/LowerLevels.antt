@@ -89,7 +89,7 @@ one_own v s p all o x there =
     let same : nat_eq s s ≡ true = grind (arith, nat_tests) in
     ap (λ c. not c || p (s, o, x)) (sym same) ∙ each-contains triples_total same_triple v.accesses (λ t. not (nat_eq t.0 s) || p t) (s, o, x) all there
 
-all_own : (v : State) (s : ℕ) (p : Triple → Bool) → ((o : ℕ) (x : Mode) → set.contains v.accesses (s, o, x) ≡ true → p (s, o, x) ≡ true) → each_of_subject v s p ≡ true
+pub all_own : (v : State) (s : ℕ) (p : Triple → Bool) → ((o : ℕ) (x : Mode) → set.contains v.accesses (s, o, x) ≡ true → p (s, o, x) ≡ true) → each_of_subject v s p ≡ true
 all_own v s p known = contains-each triples_total same_triple v.accesses (λ t. not (nat_eq t.0 s) || p t) (λ t there. from t there (nat_eq t.0 s) refl) where
   from : (t : Triple) → set.contains v.accesses t ≡ true → (c : Bool) → nat_eq t.0 s ≡ c → (not (nat_eq t.0 s) || p t) ≡ true
   from t there true own =
@@ -122,7 +122,7 @@ own_lower v s o x m j lower covers star = from (set.contains v.trusted s) refl w
       or_right (set.contains v.trusted s) _
       (ap (λ e. star_between e (map.get v.object_label o) x) (at_new v.current s j) ∙ star_lower m j (map.get v.object_label o) x lower (covers untrusted) higher)
 
-lower_within : (b : Bounds) (m j : Label) → IsTrue (dominates m j) → has_label b m ≡ true → has_label b j ≡ true
+pub lower_within : (b : Bounds) (m j : Label) → IsTrue (dominates m j) → has_label b m ≡ true → has_label b j ≡ true
 lower_within b m j lower h =
     let down = and_parts (nat_le j.level m.level) (is_subset j.categories m.categories) lower in
     let inside = and_parts (nat_lt m.level b.levels) (each m.categories (λ n. nat_lt n b.categories)) h in

@@ -3,3 +3,4 @@ pub mod Grounds
 pub mod Prospects
 pub mod Remedy
 pub mod Unknowns
+pub mod Ways

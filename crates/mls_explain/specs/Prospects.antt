@@ -7,7 +7,8 @@ use Rattle.mls_tables.specs.declared.mode.Mode.{Mode}
 use Rattle.mls_tables.specs.declared.mode.Mode.TheVariants.{Execute, Read, Append, Write}
 use Rattle.mls_state.specs.State.{State}
 use Rattle.mls_rules.specs.Rules.{reply}
-use Rattle.mls_explain.specs.Remedy.{get_request, HasRemedy}
+use Rattle.mls_explain.specs.Remedy.{get_request}
+use Rattle.mls_explain.specs.Ways.{IsWay}
 use Rattle.mls_explain.specs.declared.prospect.Prospect.{Prospect}
 
 -- The modes in which the matrix permits a subject an object, of those that are asked for, in their order. (own)
@@ -25,7 +26,7 @@ permitted_pairs v o asked count = flat_map (permitted_modes v o asked) (range_wi
 abbrev pub pairs_of : List Prospect → List (ℕ × Mode)
 pairs_of found = map (λ p. (p.subject, p.mode)) found
 
--- What is said of a subject and a mode is so: the reply to the get, and its remedy. (own)
+-- What is said of a subject and a mode is so: the reply to the get, and what it would take of the subject alone. (own)
 pub record IsProspect (v : State) (o : ℕ) (p : Prospect) : Type 0 where
   pub reply : p.reply ≡ reply v (get_request p.subject o p.mode)
-  pub remedy : HasRemedy v p.subject o p.mode p.remedy
+  pub way : IsWay v p.subject o p.mode p.way

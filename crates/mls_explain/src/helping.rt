@@ -145,7 +145,7 @@ fn helps<A: Allocator>(
 }
 
 /// Whether the subject is known and the object active.
-fn is_known<A: Allocator>(state: &State<A>, s: SubjectId, o: ObjectId) -> bool
+pub(crate) fn is_known<A: Allocator>(state: &State<A>, s: SubjectId, o: ObjectId) -> bool
     ensures { result ≡ (is_subject state.now s && is_active state.now o) }
 {
     state.is_subject(s) && state.is_active(o)

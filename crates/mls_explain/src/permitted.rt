@@ -3,18 +3,20 @@ ghost use Rattle.std.specs.Prelude.{◌≡◌, ◌++◌, ◌<◌, ◌&&◌, ℕ,
 ghost use Rattle.std.specs.FinSet as set;
 ghost use Rattle.mls_state.specs.State.{is_subject, is_active};
 ghost use Rattle.mls_rules.specs.Rules.{reply};
-ghost use Rattle.mls_explain.specs.Remedy.{get_request, HasRemedy};
+ghost use Rattle.mls_explain.specs.Remedy.{get_request};
+ghost use Rattle.mls_explain.specs.Ways.{IsWay};
 ghost use Rattle.mls_explain.specs.Prospects.{permitted_modes, permitted_pairs, pairs_of, IsProspect};
 
-use crate::helping::remedy;
 use crate::prospect::Prospect;
+use crate::releasing::way_of;
 use mls_requests::{Action, Request};
 use mls_rules::decide;
 use mls_state::State;
 use mls_tables::{Mode, Modes, ObjectId, SubjectId};
 use std::alloc::{AllocError, Allocator};
 
-/// What the get of a subject in a mode would be answered, and its remedy. It doesn't allocate.
+/// What the get of a subject in a mode would be answered, and what it would take of the subject alone. It doesn't
+/// allocate.
 pub fn prospect_of<A: Allocator>(state: &State<A>, s: SubjectId, o: ObjectId, x: Mode) -> Prospect
     ensures subject { result.subject ≡ s }
     ensures mode { result.mode ≡ x }
@@ -28,7 +30,7 @@ pub fn prospect_of<A: Allocator>(state: &State<A>, s: SubjectId, o: ObjectId, x:
         subject: s,
         mode: x,
         reply: decide(state, &request),
-        remedy: remedy(state, s, o, x),
+        way: way_of(state, s, o, x),
     }
 }
 
@@ -77,7 +79,7 @@ fn push_subject<B: Allocator, A: Allocator>(
 }
 
 /// What subjects may get of an active object: just the pairs of a subject and a mode, of the modes that are asked for,
-/// that the matrix permits, by subject and mode, each with its reply and its remedy.
+/// that the matrix permits, by subject and mode, each with its reply and what it would take of the subject alone.
 ///
 /// # Errors
 /// `AllocError` where an allocation failed.

@@ -1,6 +1,6 @@
 //! What a subject may get of an object.
 
-use mls_labels::SecLabel;
+use crate::way::Way;
 use mls_requests::Reply;
 use mls_tables::{Mode, SubjectId};
 
@@ -11,6 +11,6 @@ pub struct Prospect {
     pub mode: Mode,
     /// The reply to the get.
     pub reply: Reply,
-    /// The least current label with which it is granted, where there is one.
-    pub remedy: Option<SecLabel>,
+    /// What it would take of the subject alone.
+    pub way: Way,
 }

@@ -1,6 +1,5 @@
 -- The members of an explanation.
-use Rattle.std.specs.Prelude.{ℕ, Bool, true, false, List, [], ◌∷◌, ◌++◌, codes, Option}
-use Rattle.std.specs.List.{flat_map}
+use Rattle.std.specs.Prelude.{ℕ, Bool, true, false, List, [], ◌∷◌, ◌++◌, codes}
 use Rattle.json.specs.Token.{Token, boolean, key}
 use Rattle.mls_labels.specs.Label.{Label}
 use Rattle.mls_tables.specs.Triples.{Triple}
@@ -15,26 +14,19 @@ use Rattle.mls_requests.specs.declared.request.Request.{Request}
 use Rattle.mls_lines.specs.Names.{Names}
 use Rattle.mls_state.specs.State.{State}
 use Rattle.mls_rules.specs.Rules.{reply}
-use Rattle.mls_rows.specs.Members.{list_member, mode_member, object_member, object_of, subject_member, text_member}
+use Rattle.mls_rows.specs.Members.{mode_member, object_of, object_member, subject_member, text_member}
 use Rattle.mls_explain.specs.Demands.{failing_of_subject, failing_of_object}
 use Rattle.mls_explain.specs.declared.condition.Condition.{Condition}
 use Rattle.mls_explain.specs.declared.demand.Demand.TheVariants.{StarAtLevel, SimpleAtLabel, StarAtLabel}
+use Rattle.mls_explain.specs.Ways.{releases_for}
 use Rattle.mls_explain.specs.declared.unknown.Unknown.{Unknown}
 use Rattle.mls_explain.specs.declared.unknown.Unknown.TheVariants as unknown
+use Rattle.mls_explain.specs.declared.way.Way.{Way}
 use Rattle.mls_wording.specs.Wording.{security_text, integrity_text}
 use Rattle.mls_explain_text.specs.AnswerMembers.{reply_members}
 use Rattle.mls_explain_text.specs.Bases.{basis_text}
+use Rattle.mls_explain_text.specs.Holdings.{some_list, holding_object}
 use Rattle.mls_explain_text.specs.WhoMembers.{way_member}
-
--- A member that is a list of objects; none where there are none. (own)
-abbrev pub some_list : {R : Type 0} → List ℕ → (R → List Token) → List R → List Token
-some_list at objects [] = []
-some_list at objects (row ∷ rows) = list_member at (flat_map objects (row ∷ rows))
-
--- The object and the mode of an access. (own)
-abbrev pub holding_object : Names → Triple → List Token
-holding_object names t =
-    object_of (object_member (codes "object") (codes "object_name") names t.1 ++ mode_member (codes "mode") t.2)
 
 -- The subject and the mode of an access. (own)
 abbrev pub holder_object : Names → Triple → List Token
@@ -84,20 +76,21 @@ condition_object names v r c = object_of (condition_members names c ++ way_membe
 abbrev pub conditions_member : Names → State → Request → List Condition → List Token
 conditions_member names v r all = some_list (codes "conditions") (condition_object names v r) all
 
--- What follows the denial of an action: of a get its remedy. (own)
-abbrev pub remedy_of_action : Names → Action → Option Label → List Token
-remedy_of_action names (Get x o) remedy = way_member names remedy
-remedy_of_action names action remedy = []
+-- What follows the denial of an action: of a get what it would take. (own)
+abbrev pub remedy_of_action : Names → Action → Way → List Triple → List Token
+remedy_of_action names (Get x o) way releases = way_member names way releases
+remedy_of_action names action way releases = []
 
--- What follows the conditions of a request: after a denial its remedy. (own)
-abbrev pub remedy_members : Names → Request → Reply → Option Label → List Token
-remedy_members names r (No reason) remedy = remedy_of_action names r.action remedy
-remedy_members names r reply remedy = []
+-- What follows the conditions of a request: after a denial what it would take. (own)
+abbrev pub remedy_members : Names → Request → Reply → Way → List Triple → List Token
+remedy_members names r (No reason) way releases = remedy_of_action names r.action way releases
+remedy_members names r reply way releases = []
 
--- The explanation of a request in the domain: the reply, the conditions, and the remedy. (own)
-abbrev pub explanation_members : Names → State → Request → List Condition → Option Label → List Token
-explanation_members names v r all remedy =
-    reply_members (reply v r) ++ conditions_member names v r all ++ remedy_members names r (reply v r) remedy
+-- The explanation of a request in the domain: the reply, the conditions, and what it would take. (own)
+abbrev pub explanation_members : Names → State → Request → List Condition → Way → List Token
+explanation_members names v r all way =
+    reply_members (reply v r) ++ conditions_member names v r all
+    ++ remedy_members names r (reply v r) way (releases_for v r.subject way)
 
 -- What isn't there: what it is, and which. (own)
 abbrev pub unknown_members : Names → Unknown → List Token

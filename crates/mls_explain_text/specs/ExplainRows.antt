@@ -1,8 +1,7 @@
 -- The explanation of what a line asks, as one JSON object.
-use Rattle.std.specs.Prelude.{◌≡◌, ℕ, Bool, true, false, List, ◌++◌, Option, Result, OnOk}
+use Rattle.std.specs.Prelude.{◌≡◌, ℕ, Bool, true, false, List, ◌++◌, Result, OnOk}
 use Rattle.json.specs.Token.{Token}
 use Rattle.json.specs.Written.{Written}
-use Rattle.mls_labels.specs.Label.{Label}
 use Rattle.mls_requests.specs.declared.ask.Ask.{Ask}
 use Rattle.mls_requests.specs.declared.ask.Ask.TheVariants.{Submit, Check}
 use Rattle.mls_requests.specs.declared.request.Request.{Request}
@@ -15,8 +14,9 @@ use Rattle.mls_rows.specs.declared.form.Form.TheVariants.{Text, Json}
 use Rattle.mls_explain.specs.Grounds.{grounds, tests_of, grounds_of}
 use Rattle.mls_explain.specs.Unknowns.{unknowns}
 use Rattle.mls_explain.specs.declared.condition.Condition.{Condition}
+use Rattle.mls_explain.specs.declared.way.Way.{Way}
 use Rattle.mls_explain_text.specs.AnswerMembers.{response_members}
-use Rattle.mls_explain_text.specs.Explained.{Explains, IsRemedyAfter}
+use Rattle.mls_explain_text.specs.Explained.{Explains, IsWayAfter}
 use Rattle.mls_explain_text.specs.ExplainMembers.{conditions_member, explanation_members, undefined_members}
 use Rattle.mls_explain_text.specs.Responses.{response_to}
 
@@ -39,14 +39,14 @@ pub record GivesConditions (names : Names) (v : State) (r : Request) (told : Lis
   pub members : told ≡ conditions_member names v r all
 
 -- These members explain a request in the domain: with exactly the conditions of its rule, in its order, each with what
--- it rests on, and with its remedy where it is denied. (own)
+-- it rests on, and where it is denied with what it would take. (own)
 pub record MembersOfDefined (names : Names) (v : State) (r : Request) (told : List Token) : Type 0 where
   pub all : List Condition
-  pub remedy : Option Label
+  pub way : Way
   pub tests : tests_of all ≡ conditions v r.subject r.action
   pub bases : grounds_of all ≡ grounds v r.subject r.action
-  pub least : IsRemedyAfter v r (reply v r) remedy
-  pub members : told ≡ explanation_members names v r all remedy
+  pub is : IsWayAfter v r (reply v r) way
+  pub members : told ≡ explanation_members names v r all way
 
 -- These members explain a request that is in the domain or isn't. (own)
 abbrev pub MembersWhether : Bool → Names → State → Request → List Token → Type 0

@@ -1,7 +1,9 @@
 -- What is written of why a request is answered as it is.
-use Rattle.std.specs.Prelude.{◌≡◌, ℕ, Bool, true, false, List, [], ◌++◌, codes, Option, Some, None, if◌then◌else◌}
+use Rattle.std.specs.Prelude.{◌≡◌, ℕ, Bool, true, false, List, [], ◌++◌, codes, if◌then◌else◌}
 use Rattle.std.specs.List.{flat_map}
 use Rattle.mls_labels.specs.Label.{Label}
+use Rattle.mls_tables.specs.Triples.{Triple}
+use Rattle.mls_requests.specs.ModeWords.{mode_word}
 use Rattle.mls_requests.specs.ReasonWords.{reason_word}
 use Rattle.mls_requests.specs.declared.action.Action.{Action}
 use Rattle.mls_requests.specs.declared.action.Action.TheVariants.{Get}
@@ -14,11 +16,13 @@ use Rattle.mls_lines.specs.Names.{Names}
 use Rattle.mls_state.specs.State.{State}
 use Rattle.mls_rules.specs.Rules.{is_defined, reply, conditions}
 use Rattle.mls_explain.specs.Grounds.{grounds, tests_of, grounds_of}
-use Rattle.mls_explain.specs.Remedy.{HasRemedy}
 use Rattle.mls_explain.specs.Unknowns.{unknowns}
+use Rattle.mls_explain.specs.Ways.{IsWay, releases_for}
 use Rattle.mls_explain.specs.declared.condition.Condition.{Condition}
 use Rattle.mls_explain.specs.declared.unknown.Unknown.{Unknown}
 use Rattle.mls_explain.specs.declared.unknown.Unknown.TheVariants as unknown
+use Rattle.mls_explain.specs.declared.way.Way.{Way}
+use Rattle.mls_explain.specs.declared.way.Way.TheVariants.{Level, Released, Never}
 use Rattle.mls_wording.specs.Wording.{subject_text, object_text, security_text, integrity_text}
 use Rattle.mls_explain_text.specs.Bases.{basis_text}
 use Rattle.mls_explain_text.specs.Obstacles.{obstacle_lines}
@@ -41,56 +45,67 @@ condition_lines names v r c =
 abbrev pub conditions_text : Names → State → Request → List Condition → List ℕ
 conditions_text names v r conditions = flat_map (condition_lines names v r) conditions
 
--- The line of a get's remedy. (own)
-abbrev pub remedy_line : Names → ℕ → Option Label → List ℕ
-remedy_line names s (Some l) =
-    codes "remedy: " ++ subject_text names s ++ codes " level " ++ security_text names l ++ codes "\n"
-remedy_line names s None = codes "remedy: none by level\n"
+-- The line of a release that a get would take, as a line of a script has it. (own)
+abbrev pub release_line : Names → ℕ → Triple → List ℕ
+release_line names s t =
+    codes "remedy: " ++ subject_text names s ++ codes " release " ++ mode_word t.2 ++ codes " "
+    ++ object_text names t.1 ++ codes "\n"
 
--- What follows the denial of an action: of a get the line of its remedy. (own)
-abbrev pub action_remedy : Names → ℕ → Action → Option Label → List ℕ
-action_remedy names s (Get x o) remedy = remedy_line names s remedy
-action_remedy names s action remedy = []
+-- The lines of the releases and of the label that a get would take, in the order in which they are asked for. (own)
+abbrev pub level_lines : Names → ℕ → Label → List Triple → List ℕ
+level_lines names s l releases =
+    flat_map (release_line names s) releases ++ codes "remedy: " ++ subject_text names s ++ codes " level "
+    ++ security_text names l ++ codes "\n"
+
+-- The lines of what a get would take of its subject. (own)
+abbrev pub remedy_lines : Names → ℕ → Way → List Triple → List ℕ
+remedy_lines names s (Level l) releases = level_lines names s l releases
+remedy_lines names s (Released l) releases = level_lines names s l releases
+remedy_lines names s Never releases = codes "remedy: none by level\n"
+
+-- What follows the denial of an action: of a get what it would take. (own)
+abbrev pub action_remedy : Names → ℕ → Action → Way → List Triple → List ℕ
+action_remedy names s (Get x o) way releases = remedy_lines names s way releases
+action_remedy names s action way releases = []
 
 -- What follows the denial of a request. (own)
-abbrev pub remedy_after : Names → Request → Option Label → List ℕ
-remedy_after names r remedy = action_remedy names r.subject r.action remedy
+abbrev pub remedy_after : Names → Request → Way → List Triple → List ℕ
+remedy_after names r way releases = action_remedy names r.subject r.action way releases
 
--- What follows the conditions of a request: after a denial its remedy. (own)
-abbrev pub remedy_text : Names → Request → Reply → Option Label → List ℕ
-remedy_text names r (No reason) remedy = remedy_after names r remedy
-remedy_text names r reply remedy = []
+-- What follows the conditions of a request: after a denial what it would take. (own)
+abbrev pub remedy_text : Names → Request → Reply → Way → List Triple → List ℕ
+remedy_text names r (No reason) way releases = remedy_after names r way releases
+remedy_text names r reply way releases = []
 
--- The explanation of a request in the domain: the answer, the conditions, and the remedy. (own)
-abbrev pub explanation : Names → State → Request → List Condition → Option Label → List ℕ
-explanation names v r conditions remedy =
+-- The explanation of a request in the domain: the answer, the conditions, and what it would take. (own)
+abbrev pub explanation : Names → State → Request → List Condition → Way → List ℕ
+explanation names v r conditions way =
     response_line (Replied (reply v r)) ++ conditions_text names v r conditions
-    ++ remedy_text names r (reply v r) remedy
+    ++ remedy_text names r (reply v r) way (releases_for v r.subject way)
 
--- What the remedy of an action is: of a get the least label that helps, or none where none does; of any other none.
--- (own)
-abbrev pub IsActionRemedy : State → ℕ → Action → Option Label → Type 0
-IsActionRemedy v s (Get x o) remedy = HasRemedy v s o x remedy
-IsActionRemedy v s action remedy = remedy ≡ None
+-- What an action would take of its subject: of a get what is said of it; of any other nothing is said. (own)
+abbrev pub IsActionWay : State → ℕ → Action → Way → Type 0
+IsActionWay v s (Get x o) way = IsWay v s o x way
+IsActionWay v s action way = way ≡ Never
 
--- What the remedy of a request is. (own)
-abbrev pub IsRemedyFor : State → Request → Option Label → Type 0
-IsRemedyFor v r remedy = IsActionRemedy v r.subject r.action remedy
+-- What a request would take of its subject. (own)
+abbrev pub IsWayFor : State → Request → Way → Type 0
+IsWayFor v r way = IsActionWay v r.subject r.action way
 
--- What the remedy is that is told of a request with a reply: of one that is denied its own, else none. (own)
-abbrev pub IsRemedyAfter : State → Request → Reply → Option Label → Type 0
-IsRemedyAfter v r (No reason) remedy = IsRemedyFor v r remedy
-IsRemedyAfter v r reply remedy = remedy ≡ None
+-- What is said that a request with a reply would take: of one that is denied, else nothing. (own)
+abbrev pub IsWayAfter : State → Request → Reply → Way → Type 0
+IsWayAfter v r (No reason) way = IsWayFor v r way
+IsWayAfter v r reply way = way ≡ Never
 
 -- A text is the explanation of a request in the domain: with just the conditions of its rule, in its order, each with
--- what it rests on, and with its remedy where it is denied. (own)
+-- what it rests on, and where it is denied with what it would take. (own)
 pub record ExplainsDefined (names : Names) (v : State) (r : Request) (told : List ℕ) : Type 0 where
   pub all : List Condition
-  pub remedy : Option Label
+  pub way : Way
   pub tests : tests_of all ≡ conditions v r.subject r.action
   pub bases : grounds_of all ≡ grounds v r.subject r.action
-  pub least : IsRemedyAfter v r (reply v r) remedy
-  pub text : told ≡ explanation names v r all remedy
+  pub is : IsWayAfter v r (reply v r) way
+  pub text : told ≡ explanation names v r all way
 
 -- A text is that of just the conditions of a request's rule, in its order, each with what it rests on. (own)
 pub record GivesReasons (names : Names) (v : State) (r : Request) (told : List ℕ) : Type 0 where

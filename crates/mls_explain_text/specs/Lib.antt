@@ -4,6 +4,7 @@ pub mod Entries
 pub mod Explained
 pub mod FaultLines
 pub mod Files
+pub mod Holdings
 pub mod Nearest
 pub mod Obstacles
 pub mod Parts

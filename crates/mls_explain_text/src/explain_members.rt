@@ -3,6 +3,7 @@ ghost use Rattle.std.specs.Prelude.{◌≡◌, ◌↔◌, [], IsTrue, IfOk, OnOk
 ghost use Rattle.mls_rows.specs.Members.{Adds};
 ghost use Rattle.mls_rules.specs.Rules.{is_defined};
 ghost use Rattle.mls_explain.specs.Unknowns.{unknowns};
+ghost use Rattle.mls_explain.specs.Ways.{releases_for};
 ghost use Rattle.mls_explain_text.specs.ExplainMembers.{remedy_members, remedy_of_action};
 ghost use Rattle.mls_explain_text.specs.AnswerMembers.{response_members};
 ghost use Rattle.mls_explain_text.specs.Explained.{Explains};
@@ -14,50 +15,73 @@ use crate::answer_row::write_reply;
 use crate::condition_members::write_conditions;
 use crate::explaining::explain_in;
 use crate::outlook::write_way;
-use crate::remedy_line::remedy_told;
+use crate::remedy_line::way_told;
 use crate::response::{Response, answer_to};
 use crate::unknown_members::write_undefined;
 use json::Writer;
-use mls_explain::{Unknown, conditions, unknowns};
-use mls_labels::SecLabel;
+use mls_explain::{Unknown, Way, conditions, releases, unknowns};
 use mls_lines::Names;
 use mls_requests::{Action, Ask, Reply, Request};
 use mls_rows::{Form, Listing, Plain};
 use mls_rules::{State, decide};
+use mls_tables::{Mode, ObjectId, SubjectId};
 use mls_wording::Answer;
 use std::alloc::{AllocError, Global};
 
-/// Writes the remedy of a get that was denied, and nothing of any other request.
+/// Writes what a get that was denied would take, and nothing of any other request.
 fn write_denied(
     alloc: Global,
     writer: &mut Writer,
     names: &Names,
     request: &Request,
-    remedy: Option<SecLabel>,
+    way: Way,
+    releases: &[(SubjectId, ObjectId, Mode)],
 ) -> Result<(), AllocError>
-    ensures { Adds result writer.old writer.new (remedy_of_action names.now request.now.action remedy) }
+    ensures { Adds result writer.old writer.new
+        (remedy_of_action names.now request.now.action way releases.now) }
 {
     match &request.action {
-        Action::Get(_, _) => write_way(writer, alloc, names, remedy),
+        Action::Get(_, _) => write_way(writer, alloc, names, way, releases),
         _ => Ok(()),
     }
 }
 
-/// Writes the remedy of a get that is answered `no`, and nothing in any other case.
+/// Writes what a get that is answered `no` would take, and nothing in any other case.
 fn write_remedy(
     alloc: Global,
     writer: &mut Writer,
     names: &Names,
     request: &Request,
     reply: &Reply,
-    remedy: Option<SecLabel>,
+    way: Way,
+    releases: &[(SubjectId, ObjectId, Mode)],
 ) -> Result<(), AllocError>
-    ensures { Adds result writer.old writer.new (remedy_members names.now request.now reply.now remedy) }
+    ensures { Adds result writer.old writer.new
+        (remedy_members names.now request.now reply.now way releases.now) }
 {
     match reply {
-        Reply::No(_) => write_denied(alloc, writer, names, request, remedy),
+        Reply::No(_) => write_denied(alloc, writer, names, request, way, releases),
         _ => Ok(()),
     }
+}
+
+/// Writes what a get that is answered `no` in this state would take of its subject, and nothing in any other case.
+fn write_taken(
+    alloc: Global,
+    writer: &mut Writer,
+    names: &Names,
+    state: &State,
+    request: &Request,
+    reply: &Reply,
+    way: Way,
+) -> Result<(), AllocError>
+    ensures { Adds result writer.old writer.new
+        (remedy_members names.now request.now reply.now way (releases_for state.now request.now.subject way)) }
+{
+    let releases = releases(alloc, state, request.subject, &way)?;
+    let done = write_remedy(alloc, writer, names, request, reply, way, &releases);
+    drop(releases);
+    done
 }
 
 /// Writes the conditions of a request in the domain.
@@ -89,10 +113,10 @@ fn write_defined(
     ensures { AddsMembers result writer.old writer.new (MembersOfDefined names.now state.now request.now) }
 {
     let reply = decide(state, request);
-    let remedy = remedy_told(state, request, &reply);
+    let way = way_told(state, request, &reply);
     write_reply(writer, &reply)?;
     write_reasons(alloc, writer, names, state, request)?;
-    write_remedy(alloc, writer, names, request, &reply, remedy)
+    write_taken(alloc, writer, names, state, request, &reply, way)
 }
 
 /// Writes the explanation of a request that names these things which aren't there.
@@ -207,8 +231,8 @@ fn bytes_of(
 }
 
 /// Why a line is answered as it is in this state, in a form: as the lines of [`explain_in`], or as one object with the
-/// answer, the conditions of the request's rule, each with the accesses in its way, and after a get that is denied its
-/// remedy; or with what the request names and isn't there. The answer is positive as that of
+/// answer, the conditions of the request's rule, each with the accesses in its way, and after a get that is denied what
+/// it would take of the subject; or with what the request names and isn't there. The answer is positive as that of
 /// [`list_answer`](crate::list_answer).
 ///
 /// # Errors

@@ -6,7 +6,7 @@ ghost use Rattle.mls_explain_text.specs.Responses.{response_to, is_positive};
 
 use crate::asking::response_text;
 use crate::condition_line::push_conditions;
-use crate::remedy_line::{push_remedy, remedy_told};
+use crate::remedy_line::{push_taken, way_told};
 use crate::response::{Response, answer_to, push_response};
 use crate::undefined::push_undefined;
 use mls_explain::{conditions, unknowns};
@@ -47,10 +47,10 @@ fn push_defined(
         (string_bytes text.new)) }
 {
     let reply = decide(state, request);
-    let remedy = remedy_told(state, request, &reply);
+    let way = way_told(state, request, &reply);
     push_response(text, &Response::Replied(reply))?;
     push_reasons(alloc, text, names, state, request)?;
-    push_remedy(text, names, request, &reply, remedy)
+    push_taken(alloc, text, names, state, request, &reply, way)
 }
 
 /// Appends the explanation of a request.
@@ -102,9 +102,9 @@ fn explain_ask(alloc: Global, names: &Names, state: &State, ask: &Ask) -> Result
 }
 
 /// Why a line is answered as it is in this state: after the answer a line for each condition of the request's rule, in
-/// the rule's order, with the accesses in its way, and after a get that is denied its remedy; or a line for each thing
-/// that the request names and that isn't there. A check has its answer alone. The answer is positive as that of
-/// [`list_answer`](crate::list_answer).
+/// the rule's order, with the accesses in its way, and after a get that is denied what it would take of the subject; or
+/// a line for each thing that the request names and that isn't there. A check has its answer alone. The answer is
+/// positive as that of [`list_answer`](crate::list_answer).
 ///
 /// # Errors
 /// `AllocError` where an allocation failed.

@@ -7,8 +7,9 @@ ghost use Rattle.mls_rules.specs.Rules.{is_defined};
 ghost use Rattle.mls_state.specs.State.{is_active, is_subject};
 ghost use Rattle.mls_explain.specs.Demands.{failing_of_object, failing_of_subject};
 ghost use Rattle.mls_explain.specs.declared.demand.Demand.{Demand as DemandView};
-ghost use Rattle.mls_explain_text.specs.ExplainMembers.{action_members, holder_object, holding_object};
-ghost use Rattle.mls_explain_text.specs.ExplainMembers.{label_members, level_members, some_list, way_members};
+ghost use Rattle.mls_explain_text.specs.ExplainMembers.{action_members, holder_object};
+ghost use Rattle.mls_explain_text.specs.ExplainMembers.{label_members, level_members, way_members};
+ghost use Rattle.mls_explain_text.specs.Holdings.{holding_object, some_list};
 
 use json::Writer;
 use mls_explain::{Condition, Demand, failing_of_object, failing_of_subject};
@@ -76,12 +77,40 @@ fn write_holders(
     Ok(())
 }
 
+/// Begins a list.
+fn begin_list(writer: &mut Writer, at: &str) -> Result<(), AllocError>
+    ensures { Adds result writer.old writer.new (key at.now ∷ begin_array ∷ []) }
+{
+    writer.key(at)?;
+    writer.begin_array()
+}
+
 /// Begins the list of accesses.
 fn begin_accesses(writer: &mut Writer) -> Result<(), AllocError>
     ensures { Adds result writer.old writer.new (key (codes "accesses") ∷ begin_array ∷ []) }
 {
     writer.key("accesses")?;
     writer.begin_array()
+}
+
+/// Writes a list of the objects and the modes of accesses, where there are some.
+fn list_held(
+    writer: &mut Writer,
+    at: &str,
+    names: &Names,
+    accesses: &[(SubjectId, ObjectId, Mode)],
+) -> Result<(), AllocError>
+    ensures { Adds result writer.old writer.new
+        (some_list at.now (holding_object names.now) accesses.now) }
+{
+    match accesses {
+        [] => Ok(()),
+        [_, ..] => {
+            begin_list(writer, at)?;
+            write_holdings(writer, names, accesses)?;
+            writer.end_array()
+        }
+    }
 }
 
 /// Writes the list of the objects and the modes of accesses, where there are some.
@@ -93,14 +122,19 @@ fn list_holdings(
     ensures { Adds result writer.old writer.new
         (some_list (codes "accesses") (holding_object names.now) accesses.now) }
 {
-    match accesses {
-        [] => Ok(()),
-        [_, ..] => {
-            begin_accesses(writer)?;
-            write_holdings(writer, names, accesses)?;
-            writer.end_array()
-        }
-    }
+    list_held(writer, "accesses", names, accesses)
+}
+
+/// Writes the list of the objects and the modes of accesses that are to be released, where there are some.
+pub(crate) fn list_releases(
+    writer: &mut Writer,
+    names: &Names,
+    accesses: &[(SubjectId, ObjectId, Mode)],
+) -> Result<(), AllocError>
+    ensures { Adds result writer.old writer.new
+        (some_list (codes "releases") (holding_object names.now) accesses.now) }
+{
+    list_held(writer, "releases", names, accesses)
 }
 
 /// Writes the list of the subjects and the modes of accesses, where there are some.

@@ -1,8 +1,8 @@
 //! Who may get what of an object, as rows.
-ghost use Rattle.std.specs.Prelude.{◌≡◌, [], false, IsTrue, IfOk};
+ghost use Rattle.std.specs.Prelude.{◌≡◌, ◌++◌, [], false, IsTrue, IfOk};
 ghost use Rattle.mls_rows.specs.Rows.{bytes_of, form_of};
 ghost use Rattle.mls_state.specs.State.{is_active};
-ghost use Rattle.mls_explain_text.specs.WhoRows.{prospect_bytes, RowsOfActive, RowsOfWho};
+ghost use Rattle.mls_explain_text.specs.WhoRows.{prospect_bytes, prospect_row, RowsOfActive, RowsOfWho};
 
 use crate::outlook::Outlook;
 use crate::prospect_line::is_open;
@@ -13,22 +13,37 @@ use mls_rules::State;
 use mls_tables::{Modes, ObjectId};
 use std::alloc::{AllocError, Global};
 
-/// The rows of what subjects may get, in this form.
+/// An output with the row of what a subject may get in this state.
+fn with_row(
+    alloc: Global,
+    output: Output,
+    names: &Names,
+    state: &State,
+    prospect: &Prospect,
+) -> Result<Output, AllocError>
+    ensures form { IfOk result (λ next. form_of next ≡ form_of output) }
+    ensures bytes { IfOk result (λ next. bytes_of next
+        ≡ bytes_of output ++ prospect_row names.now state.now (form_of output) prospect.now) }
+{
+    let row = Outlook::of(alloc, state, prospect)?;
+    let next = output.with(names, None, &row);
+    drop(row);
+    next
+}
+
+/// The rows of what subjects may get in this state, in this form.
 fn written(
     alloc: Global,
     form: Form,
     names: &Names,
+    state: &State,
     prospects: &[Prospect],
 ) -> Result<Vec<u8>, AllocError>
-    ensures { IfOk result (λ bytes. bytes.items ≡ prospect_bytes names.now form prospects.now) }
+    ensures { IfOk result (λ bytes. bytes.items ≡ prospect_bytes names.now state.now form prospects.now) }
 {
     let mut output = Output::new(alloc, form);
     for prospect in prospects {
-        let row = Outlook {
-            alloc,
-            prospect: *prospect,
-        };
-        output = output.with(names, None, &row)?;
+        output = with_row(alloc, output, names, state, prospect)?;
     }
     Ok(output.into_bytes())
 }
@@ -49,7 +64,7 @@ fn list_active(
     // how many subjects there are
     let _ = state.subject_count();
     let found = prospects(alloc, state, object, modes)?;
-    let bytes = written(alloc, form, names, &found)?;
+    let bytes = written(alloc, form, names, state, &found)?;
     let is_positive = is_open(&found);
     drop(found);
     Ok(Listing { bytes, is_positive })
@@ -57,8 +72,8 @@ fn list_active(
 
 /// Who may get what of an object in this state, in a form: a row for each subject, by number, and mode, in their order,
 /// in which the matrix permits the object, of the modes that are asked for. It has the reply to the get, and after a
-/// denial the least current label with which the get is granted, or that there is none. An object that isn't active has
-/// no row. The answer is positive where one of the gets would be granted.
+/// denial what it would take of the subject alone: a current label, after releases if need be, or that nothing does. An
+/// object that isn't active has no row. The answer is positive where one of the gets would be granted.
 ///
 /// # Errors
 /// `AllocError` where an allocation failed.

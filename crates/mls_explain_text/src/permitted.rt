@@ -15,12 +15,13 @@ use std::alloc::{AllocError, Global};
 fn prospects_text(
     alloc: Global,
     names: &Names,
+    state: &State,
     prospects: &[Prospect],
 ) -> Result<String, AllocError>
-    ensures { IfOk result (λ text. string_bytes text ≡ prospect_lines names.now prospects.now) }
+    ensures { IfOk result (λ text. string_bytes text ≡ prospect_lines names.now state.now prospects.now) }
 {
     let mut text = String::new(alloc);
-    push_prospects(&mut text, names, prospects)?;
+    push_prospects(alloc, &mut text, names, state, prospects)?;
     Ok(text)
 }
 
@@ -39,7 +40,7 @@ fn who_active(
     // how many subjects there are
     let _ = state.subject_count();
     let found = prospects(alloc, state, object, modes)?;
-    let text = prospects_text(alloc, names, &found)?;
+    let text = prospects_text(alloc, names, state, &found)?;
     let is_positive = is_open(&found);
     drop(found);
     Ok(Answer { text, is_positive })
@@ -47,8 +48,8 @@ fn who_active(
 
 /// Who may get what of an object in this state: a line for each subject, by number, and mode, in their order, in which
 /// the matrix permits the object, of the modes that are asked for. It tells the reply to the get, and after a denial
-/// the least current label with which the get is granted, or that there is none. An object that isn't active has no
-/// line. The answer is positive where one of the gets would be granted.
+/// what it would take of the subject alone: a current label, after releases if need be, or that nothing does. An object
+/// that isn't active has no line. The answer is positive where one of the gets would be granted.
 ///
 /// # Errors
 /// `AllocError` where an allocation failed.

@@ -1,57 +1,135 @@
 //! The line of what a subject may get.
 ghost use Rattle.std.specs.Prelude.{◌≡◌, ◌++◌, codes, string_bytes, OnOk};
-ghost use Rattle.std.specs.List.{list_any};
+ghost use Rattle.std.specs.List.{flat_map, list_any};
 ghost use Rattle.mls_requests.specs.ModeWords.{mode_word};
 ghost use Rattle.mls_requests.specs.ReplyWords.{reply_text};
-ghost use Rattle.mls_wording.specs.Wording.{subject_text, security_text};
+ghost use Rattle.mls_wording.specs.Wording.{subject_text, object_text, security_text};
 ghost use Rattle.mls_explain_text.specs.Responses.{is_granted};
-ghost use Rattle.mls_explain_text.specs.Who.{way_text, denial_text, outcome_text, prospect_line};
+ghost use Rattle.mls_explain_text.specs.Who.{release_text, one_more_release, releases_text, level_text, way_text};
+ghost use Rattle.mls_explain_text.specs.Who.{denial_text, outcome_line, prospect_line, prospect_text};
 ghost use Rattle.mls_explain_text.specs.Who.{prospect_lines, is_open};
 
 use crate::response::is_granted;
-use mls_explain::Prospect;
+use mls_explain::{Prospect, Way, releases};
 use mls_labels::SecLabel;
 use mls_lines::Names;
 use mls_requests::{Reply, mode_word};
-use mls_wording::{push_reply, push_security, push_subject};
-use std::alloc::AllocError;
+use mls_rules::State;
+use mls_tables::{Mode, ObjectId, SubjectId};
+use mls_wording::{push_object, push_reply, push_security, push_subject};
+use std::alloc::{AllocError, Global};
 
-/// Appends at which level a get is granted, or that there is none.
-fn push_way(text: &mut String, names: &Names, remedy: Option<SecLabel>) -> Result<(), AllocError>
-    ensures { OnOk result (string_bytes text.new ≡ string_bytes text.old ++ way_text names.now remedy) }
+/// Appends the mode and the object of an access that is to be released.
+fn push_release(
+    text: &mut String,
+    names: &Names,
+    access: &(SubjectId, ObjectId, Mode),
+) -> Result<(), AllocError>
+    ensures { OnOk result (string_bytes text.new ≡ string_bytes text.old ++ release_text names.now access.now) }
 {
-    let Some(level) = remedy else {
-        return text.push_str(", never");
-    };
-    text.push_str(", level ")?;
-    push_security(text, names, level)
+    text.push_str(mode_word(access.2))?;
+    text.push_str(" ")?;
+    push_object(text, names, access.1)
 }
 
-/// Appends after a denial at which level the get is granted, and after any other reply nothing.
+/// Appends more accesses that are to be released.
+fn push_more(
+    text: &mut String,
+    names: &Names,
+    accesses: &[(SubjectId, ObjectId, Mode)],
+) -> Result<(), AllocError>
+    ensures { OnOk result
+        (string_bytes text.new ≡ string_bytes text.old ++ flat_map (one_more_release names.now) accesses.now) }
+{
+    for access in accesses {
+        text.push_str(", ")?;
+        push_release(text, names, access)?;
+    }
+    Ok(())
+}
+
+/// Appends after which releases a label is granted.
+fn push_releases(
+    text: &mut String,
+    names: &Names,
+    accesses: &[(SubjectId, ObjectId, Mode)],
+) -> Result<(), AllocError>
+    ensures { OnOk result
+        (string_bytes text.new ≡ string_bytes text.old ++ releases_text names.now accesses.now) }
+{
+    match accesses {
+        [] => Ok(()),
+        [first, more @ ..] => {
+            text.push_str(" after releasing ")?;
+            push_release(text, names, first)?;
+            push_more(text, names, more)
+        }
+    }
+}
+
+/// Appends the label with which a get is granted, and after which releases.
+fn push_level(
+    text: &mut String,
+    names: &Names,
+    level: SecLabel,
+    releases: &[(SubjectId, ObjectId, Mode)],
+) -> Result<(), AllocError>
+    ensures { OnOk result
+        (string_bytes text.new ≡ string_bytes text.old ++ level_text names.now level releases.now) }
+{
+    text.push_str(", level ")?;
+    push_security(text, names, level)?;
+    push_releases(text, names, releases)
+}
+
+/// Appends what a get would take.
+fn push_way(
+    text: &mut String,
+    names: &Names,
+    way: Way,
+    releases: &[(SubjectId, ObjectId, Mode)],
+) -> Result<(), AllocError>
+    ensures { OnOk result
+        (string_bytes text.new ≡ string_bytes text.old ++ way_text names.now way releases.now) }
+{
+    match way {
+        Way::Level(level) | Way::Released(level) => push_level(text, names, level, releases),
+        Way::Never => text.push_str(", never"),
+    }
+}
+
+/// Appends after a denial what the get would take, and after any other reply nothing.
 fn push_denial(
     text: &mut String,
     names: &Names,
     reply: Reply,
-    remedy: Option<SecLabel>,
+    way: Way,
+    releases: &[(SubjectId, ObjectId, Mode)],
 ) -> Result<(), AllocError>
     ensures { OnOk result
-        (string_bytes text.new ≡ string_bytes text.old ++ denial_text names.now reply remedy) }
+        (string_bytes text.new ≡ string_bytes text.old ++ denial_text names.now reply way releases.now) }
 {
     match reply {
-        Reply::No(_) => push_way(text, names, remedy),
+        Reply::No(_) => push_way(text, names, way, releases),
         _ => Ok(()),
     }
 }
 
-/// Appends the reply to a get and what follows it, to the end of the line.
+/// Appends the reply to a get and what follows it, with what is to be released, to the end of the line.
 ///
 /// # Errors
 /// `AllocError` where an allocation failed. The text may then have a part of it.
-pub fn push_outcome(text: &mut String, names: &Names, prospect: &Prospect) -> Result<(), AllocError>
-    ensures { OnOk result (string_bytes text.new ≡ string_bytes text.old ++ outcome_text names.now prospect.now) }
+pub fn push_outcome(
+    text: &mut String,
+    names: &Names,
+    prospect: &Prospect,
+    releases: &[(SubjectId, ObjectId, Mode)],
+) -> Result<(), AllocError>
+    ensures { OnOk result
+        (string_bytes text.new ≡ string_bytes text.old ++ outcome_line names.now prospect.now releases.now) }
 {
     push_reply(text, prospect.reply)?;
-    push_denial(text, names, prospect.reply, prospect.remedy)?;
+    push_denial(text, names, prospect.reply, prospect.way, releases)?;
     text.push_str("\n")
 }
 
@@ -60,27 +138,48 @@ pub(crate) fn push_prospect(
     text: &mut String,
     names: &Names,
     prospect: &Prospect,
+    releases: &[(SubjectId, ObjectId, Mode)],
 ) -> Result<(), AllocError>
-    ensures { OnOk result (string_bytes text.new ≡ string_bytes text.old ++ prospect_line names.now prospect.now) }
+    ensures { OnOk result
+        (string_bytes text.new ≡ string_bytes text.old ++ prospect_line names.now prospect.now releases.now) }
 {
     push_subject(text, names, prospect.subject)?;
     text.push_str(" ")?;
     text.push_str(mode_word(prospect.mode))?;
     text.push_str(" ")?;
-    push_outcome(text, names, prospect)
+    push_outcome(text, names, prospect, releases)
 }
 
-/// Appends the lines of what subjects may get.
-pub(crate) fn push_prospects(
+/// Appends the line of what a subject may get in a mode in this state.
+fn push_seen(
+    alloc: Global,
     text: &mut String,
     names: &Names,
+    state: &State,
+    prospect: &Prospect,
+) -> Result<(), AllocError>
+    ensures { OnOk result
+        (string_bytes text.new ≡ string_bytes text.old ++ prospect_text names.now state.now prospect.now) }
+{
+    let releases = releases(alloc, state, prospect.subject, &prospect.way)?;
+    let pushed = push_prospect(text, names, prospect, &releases);
+    drop(releases);
+    pushed
+}
+
+/// Appends the lines of what subjects may get in this state.
+pub(crate) fn push_prospects(
+    alloc: Global,
+    text: &mut String,
+    names: &Names,
+    state: &State,
     prospects: &[Prospect],
 ) -> Result<(), AllocError>
     ensures { OnOk result
-        (string_bytes text.new ≡ string_bytes text.old ++ prospect_lines names.now prospects.now) }
+        (string_bytes text.new ≡ string_bytes text.old ++ prospect_lines names.now state.now prospects.now) }
 {
     for prospect in prospects {
-        push_prospect(text, names, prospect)?;
+        push_seen(alloc, text, names, state, prospect)?;
     }
     Ok(())
 }

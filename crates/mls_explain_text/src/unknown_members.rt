@@ -4,7 +4,8 @@ ghost use Rattle.std.specs.Prelude.{◌≡◌, ◌∷◌, [], codes, OnOk};
 ghost use Rattle.std.specs.List.{flat_map};
 ghost use Rattle.mls_rows.specs.Members.{Adds, text_member};
 ghost use Rattle.mls_wording.specs.Wording.{integrity_text, security_text};
-ghost use Rattle.mls_explain_text.specs.ExplainMembers.{some_list, undefined_members, unknown_members};
+ghost use Rattle.mls_explain_text.specs.ExplainMembers.{undefined_members, unknown_members};
+ghost use Rattle.mls_explain_text.specs.Holdings.{some_list};
 ghost use Rattle.mls_explain_text.specs.ExplainMembers.{unknown_object};
 
 use crate::answer_row::write_reply;

@@ -15,7 +15,7 @@ use Rattle.mls_review.specs.declared.authority.Asked.{Asked}
 use Rattle.mls_review.specs.declared.power.Power.{Power}
 use Rattle.mls_review.specs.declared.power.Power.TheVariants.{Gives, Creates, Deletes}
 use Rattle.mls_review.specs.declared.relabeling.Relabeling.{Relabeling}
-use Rattle.mls_review.specs.declared.relabeling.Relabeling.TheVariants.{Level, Down, Up}
+use Rattle.mls_review.specs.declared.relabeling.Relabeling.TheVariants.{Level, Down, Aside, Up}
 
 -- The words for a power in a line, before what it is over. (own)
 abbrev pub power_word : Power → List ℕ
@@ -27,6 +27,7 @@ power_word Deletes = codes "deletes "
 abbrev pub relabeling_front : Names → Relabeling → List ℕ
 relabeling_front names Level = codes "level"
 relabeling_front names (Down o) = codes "relabels " ++ object_text names o ++ codes " down to"
+relabeling_front names (Aside o) = codes "relabels " ++ object_text names o ++ codes " aside to"
 relabeling_front names (Up o) = codes "relabels " ++ object_text names o ++ codes " up to"
 
 -- A label, after a space. (own)
@@ -75,6 +76,7 @@ directed_members names o direction =
 abbrev pub relabeling_members : Names → Relabeling → List Token
 relabeling_members names Level = text_member (codes "power") (codes "level")
 relabeling_members names (Down o) = directed_members names o (codes "down")
+relabeling_members names (Aside o) = directed_members names o (codes "aside")
 relabeling_members names (Up o) = directed_members names o (codes "up")
 
 -- A label, as JSON. (own)

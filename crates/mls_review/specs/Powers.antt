@@ -18,7 +18,7 @@ use Rattle.mls_review.specs.Granted.{Granted, over, relabels}
 use Rattle.mls_review.specs.declared.power.Power.{Power}
 use Rattle.mls_review.specs.declared.power.Power.TheVariants.{Gives, Creates, Deletes}
 use Rattle.mls_review.specs.declared.relabeling.Relabeling.{Relabeling}
-use Rattle.mls_review.specs.declared.relabeling.Relabeling.TheVariants.{Level, Down, Up}
+use Rattle.mls_review.specs.declared.relabeling.Relabeling.TheVariants.{Level, Down, Aside, Up}
 use Rattle.mls_review.specs.declared.authority.Asked.{Asked}
 
 -- Whether a reply grants. (MTR-2997, decision yes)
@@ -54,6 +54,7 @@ power_over v s power o = if has_power v s power o then over s power o ∷ [] els
 abbrev pub is_there : State → Relabeling → Bool
 is_there v Level = true
 is_there v (Down o) = is_active v o
+is_there v (Aside o) = is_active v o
 is_there v (Up o) = is_active v o
 
 -- Whether a label is another one than that which is there. (own)
@@ -61,21 +62,27 @@ abbrev pub is_other : Option Label → Label → Bool
 is_other None l = false
 is_other (Some there) l = not (same_label there l)
 
--- Whether a label doesn't dominate the one that is there. (own)
+-- Whether the label that is there dominates a label, and is another one. (own)
 abbrev pub is_down : Option Label → Label → Bool
 is_down None l = false
-is_down (Some there) l = not (dominates l there)
+is_down (Some there) l = dominates there l && not (same_label there l)
+
+-- Whether neither of a label and the one that is there dominates the other. (own)
+abbrev pub is_aside : Option Label → Label → Bool
+is_aside None l = false
+is_aside (Some there) l = not (dominates l there) && not (dominates there l)
 
 -- Whether a label dominates the one that is there, and is another one. (own)
 abbrev pub is_up : Option Label → Label → Bool
 is_up None l = false
 is_up (Some there) l = dominates l there && not (same_label there l)
 
--- Whether a subject may take a label itself, or give it to an object: one that doesn't dominate the present label, or
--- one that does. (own)
+-- Whether a subject may take a label itself, or give it to an object: one below the present label, one that is neither
+-- below nor above it, or one above it. (own)
 abbrev pub may_take : State → ℕ → Relabeling → Label → Bool
 may_take v s Level l = is_other (map.get v.current s) l && may v s (SubjectLevel l)
 may_take v s (Down o) l = is_down (map.get v.object_label o) l && may v s (ObjectLevel o l)
+may_take v s (Aside o) l = is_aside (map.get v.object_label o) l && may v s (ObjectLevel o l)
 may_take v s (Up o) l = is_up (map.get v.object_label o) l && may v s (ObjectLevel o l)
 
 -- Labels that a subject may take or give, where there are any. (own)
@@ -87,9 +94,14 @@ labels_taken s r (l ∷ ls) = relabels s r (l ∷ ls) ∷ []
 abbrev pub relabelings : State → List Label → ℕ → Relabeling → List Granted
 relabelings v labels s r = labels_taken s r (filter (may_take v s r) labels)
 
--- The labels that a subject may give to an object: those downwards, and those upwards. (own)
+-- The labels that a subject may give to an object and that don't dominate the present one: those below it, and those
+-- that are neither below nor above it. (own)
+abbrev pub downgrades_of : State → List Label → ℕ → ℕ → List Granted
+downgrades_of v labels s o = relabelings v labels s (Down o) ++ relabelings v labels s (Aside o)
+
+-- The labels that a subject may give to an object: those that don't dominate the present one, and those above it. (own)
 abbrev pub object_relabelings : State → List Label → ℕ → ℕ → List Granted
-object_relabelings v labels s o = relabelings v labels s (Down o) ++ relabelings v labels s (Up o)
+object_relabelings v labels s o = downgrades_of v labels s o ++ relabelings v labels s (Up o)
 
 -- What a subject may change: in the order of the rules, and by object. (own)
 abbrev pub subject_powers : State → List Label → ℕ → List Granted
@@ -97,10 +109,6 @@ subject_powers v labels s =
     flat_map (power_over v s Gives) (objects v) ++ flat_map (power_over v s Creates) (objects v)
     ++ flat_map (power_over v s Deletes) (objects v) ++ relabelings v labels s Level
     ++ flat_map (object_relabelings v labels s) (objects v)
-
--- The labels downwards that a subject may give to an object. (own)
-abbrev pub downgrades_of : State → List Label → ℕ → ℕ → List Granted
-downgrades_of v labels s o = relabelings v labels s (Down o)
 
 -- What a subject may downgrade, by object. (own)
 abbrev pub subject_downgrades : State → List Label → ℕ → List Granted

@@ -27,6 +27,24 @@ pub struct Asked {
     pub downgrades: bool,
 }
 
+/// Adds the labels that don't dominate an object's and that a subject may give it.
+fn push_lower<A: Allocator>(
+    alloc: Global,
+    found: &mut Vec<Change>,
+    state: &State<A>,
+    labels: &[SecLabel],
+    s: SubjectId,
+    o: ObjectId,
+) -> Result<(), AllocError>
+    requires subject { IsTrue (is_subject state.now s) }
+    requires object { IsTrue (is_active state.now o) }
+    ensures { OnOk result (map change_view found.new.items
+        ≡ map change_view found.old.items ++ downgrades_of state.now labels.now s o) }
+{
+    Relabeling::Down(o).push_taken(alloc, found, state, s, labels)?;
+    Relabeling::Aside(o).push_taken(alloc, found, state, s, labels)
+}
+
 /// Adds the labels that a subject may give to an object.
 fn push_object<A: Allocator>(
     alloc: Global,
@@ -41,7 +59,7 @@ fn push_object<A: Allocator>(
     ensures { OnOk result (map change_view found.new.items
         ≡ map change_view found.old.items ++ object_relabelings state.now labels.now s o) }
 {
-    Relabeling::Down(o).push_taken(alloc, found, state, s, labels)?;
+    push_lower(alloc, found, state, labels, s, o)?;
     Relabeling::Up(o).push_taken(alloc, found, state, s, labels)
 }
 
@@ -65,7 +83,7 @@ fn push_objects<A: Allocator>(
     Ok(())
 }
 
-/// Adds the labels downwards that a subject may give to some objects.
+/// Adds the labels that don't dominate those of some objects and that a subject may give them.
 fn push_downgrades<A: Allocator>(
     alloc: Global,
     found: &mut Vec<Change>,
@@ -80,7 +98,7 @@ fn push_downgrades<A: Allocator>(
         ≡ map change_view found.old.items ++ flat_map (downgrades_of state.now labels.now s) objects.now) }
 {
     for o in objects {
-        Relabeling::Down(*o).push_taken(alloc, found, state, s, labels)?;
+        push_lower(alloc, found, state, labels, s, *o)?;
     }
     Ok(())
 }

@@ -57,6 +57,7 @@ fn push_front(text: &mut String, names: &Names, change: Relabeling) -> Result<()
     match change {
         Relabeling::Level => text.push_str("level"),
         Relabeling::Down(o) => push_direction(text, names, o, " down to"),
+        Relabeling::Aside(o) => push_direction(text, names, o, " aside to"),
         Relabeling::Up(o) => push_direction(text, names, o, " up to"),
     }
 }

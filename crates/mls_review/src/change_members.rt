@@ -118,6 +118,7 @@ fn write_relabeling(
     match change {
         Relabeling::Level => write_level(writer),
         Relabeling::Down(o) => write_directed(writer, names, o, "down"),
+        Relabeling::Aside(o) => write_directed(writer, names, o, "aside"),
         Relabeling::Up(o) => write_directed(writer, names, o, "up"),
     }
 }

@@ -18,8 +18,10 @@ use std::alloc::{AllocError, Allocator, Global};
 pub enum Relabeling {
     /// A subject's current label.
     Level,
-    /// An object's label, to one that doesn't dominate it.
+    /// An object's label, to another one that it dominates.
     Down(ObjectId),
+    /// An object's label, to one that neither dominates it nor is dominated by it.
+    Aside(ObjectId),
     /// An object's label, to another one that dominates it.
     Up(ObjectId),
 }
@@ -36,7 +38,14 @@ impl Relabeling {
                 !is_same(&state.current(s), l) && may(state, s, Action::SubjectLevel(*l))
             }
             Relabeling::Down(o) => {
-                !l.dominates(&state.object_label(o)) && may(state, s, Action::ObjectLevel(o, *l))
+                let there = state.object_label(o);
+                (there.dominates(l) && !is_same(&there, l))
+                    && may(state, s, Action::ObjectLevel(o, *l))
+            }
+            Relabeling::Aside(o) => {
+                let there = state.object_label(o);
+                (!l.dominates(&there) && !there.dominates(l))
+                    && may(state, s, Action::ObjectLevel(o, *l))
             }
             Relabeling::Up(o) => {
                 let there = state.object_label(o);

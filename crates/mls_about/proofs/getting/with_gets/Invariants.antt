@@ -7,4 +7,4 @@ use Rattle.mls_about.proofs.getting.with_gets.Given as goal
 abbrev pub invariant-loop-prospect : goal.invariant-loop-prospect
 invariant-loop-prospect l =
     (form_of l.written ≡ form_of l.fn.output)
-    × (bytes_of l.written ≡ bytes_of l.fn.output ++ gets_bytes (form_of l.fn.output) l.names (take l.prospect-index l.found))
+    × (bytes_of l.written ≡ bytes_of l.fn.output ++ gets_bytes (form_of l.fn.output) l.names l.state (take l.prospect-index l.found))

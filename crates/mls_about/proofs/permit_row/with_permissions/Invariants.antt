@@ -7,4 +7,4 @@ use Rattle.mls_about.proofs.permit_row.with_permissions.Given as goal
 abbrev pub invariant-loop-permission : goal.invariant-loop-permission
 invariant-loop-permission l =
     (form_of l.written ≡ form_of l.fn.output)
-    × (bytes_of l.written ≡ bytes_of l.fn.output ++ permit_bytes (form_of l.fn.output) l.names (take l.permission-index l.found))
+    × (bytes_of l.written ≡ bytes_of l.fn.output ++ permit_bytes (form_of l.fn.output) l.names l.state (take l.permission-index l.found))

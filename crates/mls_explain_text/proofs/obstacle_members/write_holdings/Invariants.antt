@@ -1,6 +1,6 @@
 use Rattle.std.proofs.Common.{◌≡◌, ◌++◌, take}
 use Rattle.std.specs.List.{flat_map}
-use Rattle.mls_explain_text.specs.ExplainMembers.{holding_object}
+use Rattle.mls_explain_text.specs.Holdings.{holding_object}
 use Rattle.mls_explain_text.proofs.obstacle_members.write_holdings.Given as goal
 
 -- the objects of the accesses so far are written, and nothing else
