@@ -99,9 +99,8 @@ pub(crate) fn write_way(
     ensures { Adds result writer.old writer.new (way_member names.now way releases.now) }
 {
     match way {
-        Way::Level(level) | Way::Released(level) => {
-            write_released(writer, alloc, names, level, releases)
-        }
+        Way::Level(level) => write_released(writer, alloc, names, level, releases),
+        Way::Released(level) => write_released(writer, alloc, names, level, releases),
         Way::Never => write_null(writer, "remedy"),
     }
 }

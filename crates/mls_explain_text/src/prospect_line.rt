@@ -1,5 +1,5 @@
 //! The line of what a subject may get.
-ghost use Rattle.std.specs.Prelude.{◌≡◌, ◌++◌, codes, string_bytes, OnOk};
+ghost use Rattle.std.specs.Prelude.{◌≡◌, ◌∷◌, ◌++◌, codes, string_bytes, OnOk};
 ghost use Rattle.std.specs.List.{flat_map, list_any};
 ghost use Rattle.mls_requests.specs.ModeWords.{mode_word};
 ghost use Rattle.mls_requests.specs.ReplyWords.{reply_text};
@@ -48,6 +48,21 @@ fn push_more(
     Ok(())
 }
 
+/// Appends after which releases a label is granted, of which there are some.
+fn push_some(
+    text: &mut String,
+    names: &Names,
+    first: &(SubjectId, ObjectId, Mode),
+    more: &[(SubjectId, ObjectId, Mode)],
+) -> Result<(), AllocError>
+    ensures { OnOk result
+        (string_bytes text.new ≡ string_bytes text.old ++ releases_text names.now (first.now ∷ more.now)) }
+{
+    text.push_str(" after releasing ")?;
+    push_release(text, names, first)?;
+    push_more(text, names, more)
+}
+
 /// Appends after which releases a label is granted.
 fn push_releases(
     text: &mut String,
@@ -59,11 +74,7 @@ fn push_releases(
 {
     match accesses {
         [] => Ok(()),
-        [first, more @ ..] => {
-            text.push_str(" after releasing ")?;
-            push_release(text, names, first)?;
-            push_more(text, names, more)
-        }
+        [first, more @ ..] => push_some(text, names, first, more),
     }
 }
 
