@@ -12,5 +12,5 @@ loop-o-preserved g c =
     let after = flat_map rows (take (c.loop-o.o-index + 1) c.args.objects.now) in
     let more : after ≡ before ++ rows c.o-item.result =
     flat_map_more rows c.args.objects.now c.loop-o.o-index c.o-item.result c.loop-o-test.true ∙ ap (λ it. before ++ rows it) (sym c.o-item.is) in
-    grows (map change_view c.args.found.now.items) (map change_view c.loop-o.found.items) (map change_view c.push_taken.new.found.items) before after (rows c.o-item.result)
-    c.loop-o.invariant c.in_ok-push_taken.ensures more
+    grows (map change_view c.args.found.now.items) (map change_view c.loop-o.found.items) (map change_view c.push_lower.new.found.items) before after (rows c.o-item.result)
+    c.loop-o.invariant c.in_ok-push_lower.ensures more
