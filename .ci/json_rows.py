@@ -101,6 +101,11 @@ def ever_line(row):
     return f"{named(row, 'subject')} {row['mode']}: {', '.join(spans) or 'never'}\n"
 
 
+def future_line(row):
+    """A subject, a mode, and what becomes of that access."""
+    return f"{named(row, 'subject')} {row['mode']}: {row['future']}\n"
+
+
 def powers_line(row):
     words = {
         "give": lambda: f"gives and rescinds {named(row, 'object')}",
@@ -208,7 +213,7 @@ def summary_lines(row):
 
 
 LINES = {
-    "check": check_lines, "verify": verify_lines, "ask": ask_lines, "explain": explain_lines, "who": who_line, "ever": ever_line, "powers": powers_line,
+    "check": check_lines, "verify": verify_lines, "ask": ask_lines, "explain": explain_lines, "who": who_line, "ever": ever_line, "future": future_line, "powers": powers_line,
     "about": about_line, "lint": lint_line,
     "state": state_line, "held": held_line, "usage": usage_line, "compare": compare_line, "summary": summary_lines,
 }
@@ -286,6 +291,7 @@ def told_of_state(words, state, lines):
         told("about", ["about", *words, f"#{o}"])
         if "--journal" in words and "--at" not in words:
             told("ever", ["who", "--ever", *words, f"#{o}"])
+        told("future", ["who", "--could", "--all", *words, f"#{o}"])
     told("powers", ["powers", *words])
     for name in state.subjects[:3]:
         told("about", ["about", *words, name])

@@ -43,6 +43,10 @@ pub(crate) enum Kind {
     EntryOfEver,
     /// An option with a time, that stands beside the options `--marks` and `--ever` alone.
     TimeOfEver,
+    /// An option with subjects, that stands beside the option `--could` alone, and beside neither of these options.
+    SubjectsOfCould(&'static str, &'static str),
+    /// An option without a value, that stands beside the option `--could` alone, and beside neither of these options.
+    FlagOfCould(&'static str, &'static str),
     /// An option without a value.
     Flag,
     /// An option without a value that can't stand beside this option.
@@ -122,6 +126,7 @@ impl Argument {
             Kind::ModeText => with_value(arg, self.name, "MODE").value_parser(MODES.as_slice()),
             Kind::Operands => arg.required(true).num_args(1..).action(ArgAction::Append),
             Kind::Text(value) | Kind::TextBeside(value, _) => with_value(arg, self.name, value),
+            Kind::SubjectsOfCould(_, _) => with_value(arg, self.name, "SUBJ,SUBJ.."),
             Kind::NeededText(value) => with_value(arg, self.name, value).required(true),
             Kind::Time | Kind::TimeForAt | Kind::TimeOrRange | Kind::TimeOfEver => {
                 with_value(arg, self.name, "TIME")
@@ -139,6 +144,7 @@ impl Argument {
             | Kind::FlagWithout(_)
             | Kind::FlagWithoutEither(_, _)
             | Kind::FlagBeside(_)
+            | Kind::FlagOfCould(_, _)
             | Kind::FlagOfStates => as_flag(arg, self.name),
         }
     }
@@ -150,6 +156,7 @@ impl Argument {
             Kind::Time | Kind::TimeForAt | Kind::TimeOrRange => [Some("marks"), None],
             Kind::TimeOfEver => [Some("marks"), Some("ever")],
             Kind::EntryOfEver => [Some("ever"), None],
+            Kind::SubjectsOfCould(_, _) | Kind::FlagOfCould(_, _) => [Some("could"), None],
             Kind::EntryOfJournal | Kind::FlagOfStates => [Some("journal"), None],
             _ => [None, None],
         }
@@ -160,7 +167,9 @@ impl Argument {
         match self.kind {
             Kind::TimeForAt | Kind::TimeOrRange => [Some("at"), None],
             Kind::FlagWithout(other) => [Some(other), None],
-            Kind::FlagWithoutEither(one, other) => [Some(one), Some(other)],
+            Kind::FlagWithoutEither(one, other)
+            | Kind::SubjectsOfCould(one, other)
+            | Kind::FlagOfCould(one, other) => [Some(one), Some(other)],
             Kind::FlagOfStates => [Some("at"), Some("when")],
             _ => [None, None],
         }

@@ -118,8 +118,10 @@ pub(crate) const COMMANDS: [CommandRow; 18] = [
             granted now, or else why not and with which current label it would be, after which releases, or never: \
             no releases and labels of the subject help. It prints nothing for #N where there is no object N. With \
             --ever, for each permission that there was, from which entry of the journal to which its get would have \
-            been granted. The status is 0 where one would be granted, else 4",
-        example: "Examples: mls who examples/standard.json memo read; mls who --ever --journal office.journal \
+            been granted. With --could, for each subject and mode, whether it ever comes to that, whatever some \
+            subjects do. The status is 0 where one would be granted, else 4",
+        example: "Examples: mls who examples/standard.json memo read; mls who --could examples/standard.json plans \
+            read; mls who --ever --journal office.journal \
             examples/office.json salaries. mls state prints who holds what. Who holds write on the parent may give \
             permissions, and on the root whoever is trusted",
         arguments: &WHO_ARGUMENTS,

@@ -19,7 +19,7 @@ mod words_fault;
 
 pub use job::{Asked, Job, RunWords, ServeWords, VerifyWords};
 pub use question::{
-    EverWords, HeldWords, JournalWords, Question, ReportWords, Source, Times, UsageWords,
+    Actors, EverWords, HeldWords, JournalWords, Question, ReportWords, Source, Times, UsageWords,
 };
 pub use times::now;
 pub use words::read_words;

@@ -18,6 +18,19 @@ pub struct Source<'a> {
     pub when: Option<Time>,
 }
 
+/// Which subjects act, where it is asked what could ever come about.
+#[derive(Clone, Copy)]
+pub enum Actors<'a> {
+    /// All that are not trusted.
+    Untrusted,
+    /// All.
+    All,
+    /// Those that words with commas between them name.
+    By(&'a str),
+    /// All but those.
+    Without(&'a str),
+}
+
 /// What `journal` is asked for.
 #[derive(Clone, Copy)]
 pub struct JournalWords<'a> {
@@ -118,6 +131,13 @@ pub enum Question<'a> {
     /// Who may get an object, in all modes or in this one.
     Who {
         source: Source<'a>,
+        object: &'a str,
+        mode: Option<&'a str>,
+    },
+    /// What becomes of the accesses to an object, in all modes or in this one, whatever some subjects do.
+    WhoCould {
+        source: Source<'a>,
+        actors: Actors<'a>,
         object: &'a str,
         mode: Option<&'a str>,
     },

@@ -33,11 +33,33 @@ pub(crate) const EXPLAIN_ARGUMENTS: [Argument; 6] = [
 ];
 
 /// The arguments of `who`.
-pub(crate) const WHO_ARGUMENTS: [Argument; 12] = [
+pub(crate) const WHO_ARGUMENTS: [Argument; 16] = [
     OF_JOURNAL,
     AT,
     MARKS_OF_JOURNAL,
     WHEN,
+    Argument {
+        name: "could",
+        kind: Kind::FlagWithout("ever"),
+        help: "Prints, for each subject and mode, whether it ever comes to that access, whatever those do who act: held \
+            is held now; could comes about by some of their requests, once all that is held has been released; never \
+            comes about by none. All untrusted subjects act",
+    },
+    Argument {
+        name: "by",
+        kind: Kind::SubjectsOfCould("without", "all"),
+        help: "These subjects act alone: names, or # and numbers, with commas between them",
+    },
+    Argument {
+        name: "without",
+        kind: Kind::SubjectsOfCould("by", "all"),
+        help: "All subjects act but these, the trusted too",
+    },
+    Argument {
+        name: "all",
+        kind: Kind::FlagOfCould("by", "without"),
+        help: "All subjects act, the trusted too",
+    },
     Argument {
         name: "ever",
         kind: Kind::FlagOfStates,

@@ -1,7 +1,7 @@
 //! What the words of a question ask for.
 use crate::job::Job;
 use crate::question::{
-    EverWords, HeldWords, JournalWords, Question, ReportWords, Source, Times, UsageWords,
+    Actors, EverWords, HeldWords, JournalWords, Question, ReportWords, Source, Times, UsageWords,
 };
 use crate::times::{time_by, time_from};
 use crate::words_fault::{FormedOption, WordsFault};
@@ -226,6 +226,32 @@ fn who_now<'a>(matches: &ArgMatches<'a>) -> Result<Job<'a>, WordsFault<'a>> {
     }))
 }
 
+/// Which subjects act.
+fn actors<'a>(matches: &ArgMatches<'a>) -> Actors<'a> {
+    if matches.get_flag("all") {
+        return Actors::All;
+    }
+    match (matches.get_str("by"), matches.get_str("without")) {
+        (Some(words), _) => Actors::By(words),
+        (None, Some(words)) => Actors::Without(words),
+        (None, None) => Actors::Untrusted,
+    }
+}
+
+/// What `who` was asked for about all futures of one state.
+///
+/// # Errors
+/// `Time` where a word is to be a time and is none.
+fn who_could<'a>(matches: &ArgMatches<'a>) -> Result<Job<'a>, WordsFault<'a>> {
+    let when = when(matches)?;
+    Ok(Job::Question(Question::WhoCould {
+        source: source(matches, matches.get_str("journal"), when),
+        actors: actors(matches),
+        object: operand(matches, "OBJ"),
+        mode: matches.get_str("MODE"),
+    }))
+}
+
 /// What `who` was asked for about the states of a journal.
 ///
 /// # Errors
@@ -252,6 +278,9 @@ fn who_ever<'a>(matches: &ArgMatches<'a>) -> Result<Job<'a>, WordsFault<'a>> {
 pub(crate) fn who_words<'a>(matches: &ArgMatches<'a>) -> Result<Job<'a>, WordsFault<'a>> {
     if matches.get_flag("ever") {
         return who_ever(matches);
+    }
+    if matches.get_flag("could") {
+        return who_could(matches);
     }
     who_now(matches)
 }

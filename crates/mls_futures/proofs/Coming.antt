@@ -16,14 +16,15 @@ use Rattle.mls_rules.specs.Levels.{is_above_parent}
 use Rattle.mls_rules.specs.Rules.{controls, writes_parent}
 use Rattle.mls_futures.specs.Closure.{HasTrusted, Qualifies, CouldGet, permitted, given_at_root, given_below}
 use Rattle.mls_futures.specs.Futures.{HasLabelsWithin, HoldsNothing}
-use Rattle.mls_futures.proofs.Scripts.{Alike, Goes, stay, goes_on, trusted_still}
+use Rattle.mls_futures.specs.Scripts.{Alike}
+use Rattle.mls_futures.proofs.Scripts.{Goes, stay, goes_on, by_step, trusted_still}
 use Rattle.mls_futures.proofs.Steps.{least, above_least, label_there, has_least, HoldsOnly, to_give, to_release, to_level, to_get, to_lower}
 
 -- each trusted subject is known
 abbrev pub TrustedKnown : State → Type 0
 TrustedKnown v = (s : ℕ) → set.contains v.trusted s ≡ true → is_subject v s ≡ true
 
-known_still : (acts : ℕ → Bool) (v w : State) → Alike acts v w → (s : ℕ) → is_subject v s ≡ true → is_subject w s ≡ true
+pub known_still : (acts : ℕ → Bool) (v w : State) → Alike acts v w → (s : ℕ) → is_subject v s ≡ true → is_subject w s ≡ true
 known_still acts v w f s known = ap (λ m. map.contains_key m s) f.maximum ∙ known
 
 pub trusted_known_still : (acts : ℕ → Bool) (v w : State) → Alike acts v w → TrustedKnown v → TrustedKnown w
@@ -52,17 +53,17 @@ lower_path : (acts : ℕ → Bool) (v : State) → IsSecure v → HasLabelsWithi
     → (o q : ℕ) → q ≡ 0 → Reaches v.parent o q → is_active v o ≡ true → Goes acts v (IsLowered o)
 lower_path acts v h within known nothing t o q root (here) object =
     let none : map.get v.parent o ≡ None = ap (map.get v.parent) root ∙ h.tree.objects.root_has_no_parent in
-    to_lower acts v h within t o (known t.subject t.trusted) object nothing (ap (is_above_parent v least) none)
+    by_step _ _ _ _ (to_lower acts v h within t o (known t.subject t.trusted) object nothing (ap (is_above_parent v least) none))
 lower_path acts v h within known nothing t o q root (up {p = p} at rest) object =
     goes_on acts v (IsLowered p) (IsLowered o)
     (lower_path acts v h within known nothing t p q root rest ((h.tree.objects.children_active o p at).1))
     (λ w f k inside low.
     let u : HasTrusted w acts = trusted_still acts v w f.trusted t in
-    to_lower acts w k inside u o (trusted_known_still acts v w f known u.subject u.trusted) (f.active o ∙ object) low.0
-    (ap (is_above_parent w least) (ap (λ m. map.get m o) f.parent ∙ at) ∙ ap (is_above (Some least)) low.1 ∙ reflexive least))
+    by_step _ _ _ _ (to_lower acts w k inside u o (trusted_known_still acts v w f known u.subject u.trusted) (f.active o ∙ object) low.0
+    (ap (is_above_parent w least) (ap (λ m. map.get m o) f.parent ∙ at) ∙ ap (is_above (Some least)) low.1 ∙ reflexive least)))
 
 -- simple security holds at the least label
-cleared : (m e : Option Label) (x : Mode) → is_some m ≡ true → e ≡ Some least → simple_between m e x ≡ true
+pub cleared : (m e : Option Label) (x : Mode) → is_some m ≡ true → e ≡ Some least → simple_between m e x ≡ true
 cleared m e Execute there is = refl
 cleared m e Read there is = ap (is_above m) is ∙ above_least m there
 cleared m e Append there is = refl
@@ -101,7 +102,7 @@ module _ (acts : ℕ → Bool) (s o : ℕ) (x : Mode) where
     at_level : (l : Label) → has_label v.security l ≡ true → is_above (map.get v.maximum s) (Some l) ≡ true → star_between (Some l) (Some at_object.0) x ≡ true → Goes acts v IsReady
     at_level l fits under star =
         goes_on acts v (λ w. HoldsNothing w × (map.get w.current s ≡ Some l) × (w.object_label ≡ v.object_label)) IsReady
-        (to_level acts v h within s l actor known fits under clear.0)
+        (by_step _ _ _ _ (to_level acts v h within s l actor known fits under clear.0))
         (λ w f k inside now. stay acts w IsReady k inside (
           now.0,
           (λ i. simple_between (map.get (f.maximum i) s) (map.get (now.2 i) o) x) ∙ clear.1,
@@ -140,17 +141,17 @@ module _ (acts : ℕ → Bool) (s o : ℕ) (x : Mode) where
       (λ u g m within_u ready.
       let e = qualifies_still acts w u g s o x r in
       let both = and_parts (is_subject u s) (is_active u o) e.known in
-      to_get acts u m within_u s o x e.actor both.0 both.1 ready.0 (g.matrix (s, o, x) (f.matrix (s, o, x) has)) ready.1 ready.2 e.integrity))
+      by_step _ _ _ _ (to_get acts u m within_u s o x e.actor both.0 both.1 ready.0 (g.matrix (s, o, x) (f.matrix (s, o, x) has)) ready.1 ready.2 e.integrity)))
 
 -- who writes the parent controls the object, if that isn't the root
-parent_controls : (v : State) (giver o p : ℕ) → IsSecure v → map.get v.parent o ≡ Some p → set.contains v.accesses (giver, p, Write) ≡ true → controls v giver o ≡ true
+pub parent_controls : (v : State) (giver o p : ℕ) → IsSecure v → map.get v.parent o ≡ Some p → set.contains v.accesses (giver, p, Write) ≡ true → controls v giver o ≡ true
 parent_controls v giver o p h at writes =
     ap (λ b. if b then set.contains v.trusted giver else writes_parent v giver (map.get v.parent o)) other ∙ ap (writes_parent v giver) at ∙ writes where
       other : (o == 0) ≡ false
       other = ne_eqb o 0 (λ is. let no : Some p ≡ None = sym at ∙ ap (map.get v.parent) is ∙ h.tree.objects.root_has_no_parent in cc)
 
 -- who could get something acts
-actor_of : (v : State) (acts : ℕ → Bool) (s o : ℕ) (x : Mode) → CouldGet v acts s o x → acts s ≡ true
+pub actor_of : (v : State) (acts : ℕ → Bool) (s o : ℕ) (x : Mode) → CouldGet v acts s o x → acts s ≡ true
 actor_of v acts s o x (permitted has q) = q.actor
 actor_of v acts s o x (given_at_root t q) = q.actor
 actor_of v acts s o x (given_below giver p at could q) = q.actor
@@ -161,7 +162,7 @@ pub comes : (acts : ℕ → Bool) (v : State) → IsSecure v → HasLabelsWithin
 comes acts v h within known nothing s o x (permitted has q) = to_obtain acts s o x v h within known nothing has q
 comes acts v h within known nothing s o x (given_at_root t q) =
     goes_on acts v (λ w. (w.accesses ≡ v.accesses) × (set.contains w.matrix (s, 0, x) ≡ true)) (HoldsOnly (s, 0, x))
-    (to_give acts v h within t.subject s 0 x t.actor (known t.subject t.trusted) ((and_parts (is_subject v s) (is_active v 0) q.known).0) h.tree.objects.root_active t.trusted)
+    (by_step _ _ _ _ (to_give acts v h within t.subject s 0 x t.actor (known t.subject t.trusted) ((and_parts (is_subject v s) (is_active v 0) q.known).0) h.tree.objects.root_active t.trusted))
     (λ w f k inside now. to_obtain acts s 0 x w k inside (trusted_known_still acts v w f known) (λ u. ap (λ b. set.contains b u) now.0 ∙ nothing u) now.1 (qualifies_still acts v w f s 0 x q))
 comes acts v h within known nothing s o x (given_below giver p at could q) =
     goes_on acts v (HoldsOnly (giver, p, Write)) (HoldsOnly (s, o, x)) (comes acts v h within known nothing giver p Write could)
@@ -173,10 +174,10 @@ comes acts v h within known nothing s o x (given_below giver p at could q) =
     let hand = and_parts (is_subject w giver) (is_active w p) (k.tree.accesses_known (giver, p, Write) writes) in
     let actor : acts giver ≡ true = actor_of v acts giver p Write could in
     goes_on acts w (λ u. (u.accesses ≡ w.accesses) × (set.contains u.matrix (s, o, x) ≡ true)) (HoldsOnly (s, o, x))
-    (to_give acts w k inside giver s o x actor hand.0 there.0 there.1 (parent_controls w giver o p k above writes))
+    (by_step _ _ _ _ (to_give acts w k inside giver s o x actor hand.0 there.0 there.1 (parent_controls w giver o p k above writes)))
     (λ u g m within_u now.
     goes_on acts u HoldsNothing (HoldsOnly (s, o, x))
-    (to_release acts u m within_u giver p Write actor (known_still acts w u g giver hand.0) (g.active p ∙ hand.1) (λ t. ap (λ b. set.contains b t) now.0 ∙ only t))
+    (by_step _ _ _ _ (to_release acts u m within_u giver p Write actor (known_still acts w u g giver hand.0) (g.active p ∙ hand.1) (λ t. ap (λ b. set.contains b t) now.0 ∙ only t)))
     (λ z j n within_z free.
     to_obtain acts s o x z n within_z
     (trusted_known_still acts u z j (trusted_known_still acts w u g (trusted_known_still acts v w f known))) free (j.matrix (s, o, x) now.1)

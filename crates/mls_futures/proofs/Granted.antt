@@ -19,11 +19,11 @@ use Rattle.mls_futures.proofs.Journals.{without, AllKnown, release, released_one
 use Rattle.mls_futures.proofs.BothWays.{could_without, secure_without}
 
 -- requests one after the other
-granted_both : (v : State) (rs qs : List Request) → AreGranted v rs → AreGranted (run v rs) qs → AreGranted v (rs ++ qs)
+pub granted_both : (v : State) (rs qs : List Request) → AreGranted v rs → AreGranted (run v rs) qs → AreGranted v (rs ++ qs)
 granted_both v [] qs first later = later
 granted_both v (r ∷ rs) qs first later = (first.0, granted_both (after v r) rs qs first.1 later)
 
-run_both : (v : State) (rs qs : List Request) → run v (rs ++ qs) ≡ run (run v rs) qs
+pub run_both : (v : State) (rs qs : List Request) → run v (rs ++ qs) ≡ run (run v rs) qs
 run_both v [] qs = refl
 run_both v (r ∷ rs) qs = run_both (after v r) rs qs
 

@@ -1,12 +1,12 @@
-mod BothWays
+pub mod BothWays
 mod Changing
-mod Coming
-mod Granted
-mod Journals
+pub mod Coming
+pub mod Granted
+pub mod Journals
 mod KnownAnswers
 mod NeverHeld
-mod Scripts
+pub mod Scripts
 mod Shrinking
-mod Steps
-mod Walking
+pub mod Steps
+pub mod Walking
 mod Within

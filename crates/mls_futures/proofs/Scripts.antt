@@ -15,6 +15,7 @@ use Rattle.mls_laws.specs.Journals.{is_grant}
 use Rattle.mls_laws.proofs.Laws.{grants, after_grant}
 use Rattle.mls_futures.specs.Closure.{HasTrusted}
 use Rattle.mls_futures.specs.Futures.{HasLabelsWithin}
+use Rattle.mls_futures.specs.Scripts.{Alike}
 
 -- a script leads from a state to another one, and deletes nothing
 pub data Script (acts : ℕ → Bool) : State → State → Type 0 where
@@ -25,19 +26,6 @@ pub data Script (acts : ℕ → Bool) : State → State → Type 0 where
 pub and_then : (acts : ℕ → Bool) (u v w : State) → Script acts u v → Script acts v w → Script acts u w
 and_then acts u v w done second = second
 and_then acts u v w (asks r actor grant keeps rest) second = asks r actor grant keeps (and_then acts (after u r) v w rest second)
-
--- A state is like another one: but for accesses, current labels, permissions that joined, and labels of objects where an
--- actor is trusted.
-pub record Alike (acts : ℕ → Bool) (v w : State) : Type 0 where
-  pub maximum : w.maximum ≡ v.maximum
-  pub subject_integrity : w.subject_integrity ≡ v.subject_integrity
-  pub trusted : w.trusted ≡ v.trusted
-  pub integrity : w.object_integrity ≡ v.object_integrity
-  pub parent : w.parent ≡ v.parent
-  pub security : w.security ≡ v.security
-  pub active : (o : ℕ) → is_active w o ≡ is_active v o
-  pub label : (o : ℕ) → (map.get w.object_label o ≡ map.get v.object_label o) ⊎ HasTrusted v acts
-  pub matrix : (t : Triple) → set.contains v.matrix t ≡ true → set.contains w.matrix t ≡ true
 
 pub alike_itself : (acts : ℕ → Bool) (v : State) → Alike acts v v
 alike_itself acts v = record {
@@ -114,20 +102,39 @@ goes_on acts v P Q first later =
       now = second.now;
     }
 
--- one request
-pub goes : (acts : ℕ → Bool) (v : State) (r : Request) (P : State → Type 0) → IsSecure v → acts r.subject ≡ true
+-- A request is an actor's and is granted, and leads to a state that is like the one before, secure, with labels within
+-- the bounds, and of which this holds.
+pub record IsStep (acts : ℕ → Bool) (v : State) (r : Request) (P : State → Type 0) : Type 0 where
+  pub actor : acts r.subject ≡ true
+  pub grant : reply v r ≡ Yes
+  pub alike : Alike acts v (after v r)
+  pub secure : IsSecure (after v r)
+  pub within : HasLabelsWithin (after v r)
+  pub now : P (after v r)
+
+pub step : (acts : ℕ → Bool) (v : State) (r : Request) (P : State → Type 0) → IsSecure v → acts r.subject ≡ true
     → is_defined v r ≡ true → AllHold (conditions v r.subject r.action) → granted v r.action ≡ Yes
     → Alike acts v (change v r.subject r.action) → HasLabelsWithin (change v r.subject r.action) → P (change v r.subject r.action)
-    → Goes acts v P
-goes acts v r P h actor defined holds grant alike within now =
+    → IsStep acts v r P
+step acts v r P h actor defined holds grant alike within now =
     let answer : reply v r ≡ Yes = grants v r defined holds ∙ grant in
     let is : after v r ≡ change v r.subject r.action = after_grant v r (ap is_grant answer) in
-    let near : Alike acts v (after v r) = subst (Alike acts v) (sym is) alike in
     record {
-      last = after v r;
-      script = asks r actor answer (λ o active. near.active o ∙ active) done;
-      alike = near;
+      actor = actor;
+      grant = answer;
+      alike = subst (Alike acts v) (sym is) alike;
       secure = after_secure v r h;
       within = subst HasLabelsWithin (sym is) within;
       now = subst P (sym is) now;
     }
+
+-- one request
+pub by_step : (acts : ℕ → Bool) (v : State) (r : Request) (P : State → Type 0) → IsStep acts v r P → Goes acts v P
+by_step acts v r P one = record {
+  last = after v r;
+  script = asks r one.actor one.grant (λ o active. one.alike.active o ∙ active) done;
+  alike = one.alike;
+  secure = one.secure;
+  within = one.within;
+  now = one.now;
+}

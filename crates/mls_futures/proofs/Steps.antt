@@ -20,6 +20,7 @@ use Rattle.mls_tree.specs.Tree as tree
 use Rattle.mls_tree.specs.Tree.{Reaches, here, up, children}
 use Rattle.mls_tree.proofs.Laws.{is_active-tree, list_any-children, parent_from_child}
 use Rattle.mls_requests.specs.declared.action.Action.TheVariants.{Get, Release, Give, SubjectLevel, ObjectLevel}
+use Rattle.mls_requests.specs.declared.request.Request.{Request}
 use Rattle.mls_state.specs.State.{State, is_subject, is_active, is_above}
 use Rattle.mls_state.specs.Properties.{IsSecure, simple_holds, star_holds, integrity_holds}
 use Rattle.mls_state.specs.Changes.{with_current, with_object_label}
@@ -27,7 +28,7 @@ use Rattle.mls_rules.specs.Levels.{each_child, is_above_parent, label_fits}
 use Rattle.mls_rules.specs.Rules.{controls}
 use Rattle.mls_futures.specs.Closure.{HasTrusted}
 use Rattle.mls_futures.specs.Futures.{HasLabelsWithin, HoldsNothing}
-use Rattle.mls_futures.proofs.Scripts.{alike_triples, Goes, goes}
+use Rattle.mls_futures.proofs.Scripts.{alike_triples, IsStep, step}
 
 -- the label that every label dominates
 abbrev pub least : Label
@@ -72,12 +73,28 @@ or_none : (b c : Bool) → c ≡ false → (b || c) ≡ b
 or_none true c is = refl
 or_none false c is = is
 
+-- the requests of scripts
+abbrev pub give : ℕ → ℕ → ℕ → Mode → Request
+give giver s o x = record { subject = giver; action = Give x s o }
+
+abbrev pub release : ℕ → ℕ → Mode → Request
+release s o x = record { subject = s; action = Release x o }
+
+abbrev pub level : ℕ → Label → Request
+level s l = record { subject = s; action = SubjectLevel l }
+
+abbrev pub get : ℕ → ℕ → Mode → Request
+get s o x = record { subject = s; action = Get x o }
+
+abbrev pub lower : ℕ → ℕ → Request
+lower s o = record { subject = s; action = ObjectLevel o least }
+
 module _ (acts : ℕ → Bool) (v : State) (h : IsSecure v) (within : HasLabelsWithin v) where
   -- a permission is given
   pub to_give : (giver s o : ℕ) (x : Mode) → acts giver ≡ true → is_subject v giver ≡ true → is_subject v s ≡ true → is_active v o ≡ true → controls v giver o ≡ true
-      → Goes acts v (λ w. (w.accesses ≡ v.accesses) × (set.contains w.matrix (s, o, x) ≡ true))
+      → IsStep acts v (give giver s o x) (λ w. (w.accesses ≡ v.accesses) × (set.contains w.matrix (s, o, x) ≡ true))
   to_give giver s o x actor known subject object has =
-      goes acts v (record { subject = giver; action = Give x s o }) (λ w. (w.accesses ≡ v.accesses) × (set.contains w.matrix (s, o, x) ≡ true)) h actor
+      step acts v (give giver s o x) (λ w. (w.accesses ≡ v.accesses) × (set.contains w.matrix (s, o, x) ≡ true)) h actor
       (and_from (is_subject v giver) (is_subject v s && is_active v o) known (and_from (is_subject v s) (is_active v o) subject object))
       (has, tt) refl
       (alike_triples acts v v.accesses (set.insert v.matrix (s, o, x)) v.current
@@ -86,9 +103,9 @@ module _ (acts : ℕ → Bool) (v : State) (h : IsSecure v) (within : HasLabelsW
       (refl, contains-insert-triple v.matrix (s, o, x) (s, o, x) ∙ or_left (is_triple (s, o, x) (s, o, x)) (set.contains v.matrix (s, o, x)) (is_triple-itself (s, o, x)))
 
   -- all that is held is released
-  pub to_release : (s o : ℕ) (x : Mode) → acts s ≡ true → is_subject v s ≡ true → is_active v o ≡ true → HoldsOnly (s, o, x) v → Goes acts v HoldsNothing
+  pub to_release : (s o : ℕ) (x : Mode) → acts s ≡ true → is_subject v s ≡ true → is_active v o ≡ true → HoldsOnly (s, o, x) v → IsStep acts v (release s o x) HoldsNothing
   to_release s o x actor known object only =
-      goes acts v (record { subject = s; action = Release x o }) HoldsNothing h actor
+      step acts v (release s o x) HoldsNothing h actor
       (and_from (is_subject v s) (is_active v o) known object) tt refl
       (alike_triples acts v (set.remove v.accesses (s, o, x)) v.matrix v.current (λ t there. there))
       within
@@ -96,9 +113,9 @@ module _ (acts : ℕ → Bool) (v : State) (h : IsSecure v) (within : HasLabelsW
 
   -- a current label is changed
   pub to_level : (s : ℕ) (l : Label) → acts s ≡ true → is_subject v s ≡ true → has_label v.security l ≡ true → is_above (map.get v.maximum s) (Some l) ≡ true → HoldsNothing v
-      → Goes acts v (λ w. HoldsNothing w × (map.get w.current s ≡ Some l) × (w.object_label ≡ v.object_label))
+      → IsStep acts v (level s l) (λ w. HoldsNothing w × (map.get w.current s ≡ Some l) × (w.object_label ≡ v.object_label))
   to_level s l actor known fits under nothing =
-      goes acts v (record { subject = s; action = SubjectLevel l }) (λ w. HoldsNothing w × (map.get w.current s ≡ Some l) × (w.object_label ≡ v.object_label)) h actor
+      step acts v (level s l) (λ w. HoldsNothing w × (map.get w.current s ≡ Some l) × (w.object_label ≡ v.object_label)) h actor
       (and_from (is_subject v s) (has_label v.security l) known fits)
       (under, (none_fails v (λ t. not (nat_eq t.0 s) || star_holds (with_current v s l) t) nothing, tt)) refl
       (alike_triples acts v v.accesses v.matrix (map.insert v.current s l) (λ t there. there))
@@ -108,9 +125,9 @@ module _ (acts : ℕ → Bool) (v : State) (h : IsSecure v) (within : HasLabelsW
   -- an access is got
   pub to_get : (s o : ℕ) (x : Mode) → acts s ≡ true → is_subject v s ≡ true → is_active v o ≡ true → HoldsNothing v
       → set.contains v.matrix (s, o, x) ≡ true → simple_holds v (s, o, x) ≡ true → star_holds v (s, o, x) ≡ true → integrity_holds v (s, o, x) ≡ true
-      → Goes acts v (HoldsOnly (s, o, x))
+      → IsStep acts v (get s o x) (HoldsOnly (s, o, x))
   to_get s o x actor known object nothing has simple star integrity =
-      goes acts v (record { subject = s; action = Get x o }) (HoldsOnly (s, o, x)) h actor
+      step acts v (get s o x) (HoldsOnly (s, o, x)) h actor
       (and_from (is_subject v s) (is_active v o) known object)
       (has, (simple, (star, (integrity, tt)))) refl
       (alike_triples acts v (set.insert v.accesses (s, o, x)) v.matrix v.current (λ t there. there))
@@ -136,9 +153,9 @@ module _ (acts : ℕ → Bool) (v : State) (h : IsSecure v) (within : HasLabelsW
       (λ c step. above_least (map.get v.object_label c) ((h.tree.objects.children_active c o step).0)))
 
   pub to_lower : (t : HasTrusted v acts) (o : ℕ) → is_subject v t.subject ≡ true → is_active v o ≡ true → HoldsNothing v → is_above_parent v least (map.get v.parent o) ≡ true
-      → Goes acts v (λ w. HoldsNothing w × (map.get w.object_label o ≡ Some least))
+      → IsStep acts v (lower t.subject o) (λ w. HoldsNothing w × (map.get w.object_label o ≡ Some least))
   to_lower t o known object nothing above =
-      goes acts v (record { subject = t.subject; action = ObjectLevel o least }) (λ w. HoldsNothing w × (map.get w.object_label o ≡ Some least)) h t.actor
+      step acts v (lower t.subject o) (λ w. HoldsNothing w × (map.get w.object_label o ≡ Some least)) h t.actor
       (and_from (is_subject v t.subject) (is_active v o && has_label v.security least) known (and_from (is_active v o) (has_label v.security least) object (has_least v h within))) (
         or_left (set.contains v.trusted t.subject) _ t.trusted,
         (

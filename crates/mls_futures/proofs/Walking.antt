@@ -102,11 +102,11 @@ module _ (v : State) (acts : ℕ → Bool) (h : HasTree v) where
         same = (λ gives. gives, λ gives. gives);
       }
 
-  near_top : (at : ℕ) → reaches_within v.parent zero at 0 ≡ true → at ≡ 0
+  pub near_top : (at : ℕ) → reaches_within v.parent zero at 0 ≡ true → at ≡ 0
   unfolding reaches_within
   near_top at near = eqb-true at 0 near
 
-  near_next : (n at p : ℕ) → map.get v.parent at ≡ Some p → reaches_within v.parent (suc n) at 0 ≡ true → reaches_within v.parent n p 0 ≡ true
+  pub near_next : (n at p : ℕ) → map.get v.parent at ≡ Some p → reaches_within v.parent (suc n) at 0 ≡ true → reaches_within v.parent n p 0 ≡ true
   unfolding reaches_within
   near_next n at p step near = from (or_cases (at == 0) (holds_of (λ q. reaches_within v.parent n q 0) (map.get v.parent at)) near) where
     from : ((at == 0) ≡ true) ⊎ (holds_of (λ q. reaches_within v.parent n q 0) (map.get v.parent at) ≡ true) → reaches_within v.parent n p 0 ≡ true

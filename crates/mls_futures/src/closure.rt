@@ -130,6 +130,26 @@ pub fn could_give<A: Allocator>(
     could_give_above(state, actors, trusted, &[], o)
 }
 
+/// Whether an actor could get the access, by the closure, where it is known whether an actor is trusted, and whether one
+/// could give permissions of the object.
+pub fn could_get_where<A: Allocator>(
+    state: &State<A>,
+    actors: &[bool],
+    trusted: bool,
+    gives: bool,
+    s: SubjectId,
+    o: ObjectId,
+    x: Mode,
+) -> bool
+    requires subject { IsTrue (is_subject state.now s) }
+    requires object { IsTrue (is_active state.now o) }
+    requires trusted { IsTrue trusted ↔ HasTrusted state.now (acts_in actors.now) }
+    requires gives { IsTrue gives ↔ CouldGive state.now (acts_in actors.now) o }
+    ensures { IsTrue result ↔ CouldGet state.now (acts_in actors.now) s o x }
+{
+    qualifies(state, actors, trusted, s, o, x) && (discretionary_holds(state, s, o, x) || gives)
+}
+
 /// Whether an actor could get the access, by the closure.
 pub fn could_get<A: Allocator>(
     state: &State<A>,

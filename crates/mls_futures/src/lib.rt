@@ -8,7 +8,7 @@ mod never;
 mod table;
 
 pub use actors::has_trusted;
-pub use closure::{could_get, could_give, qualifies};
+pub use closure::{could_get, could_get_where, could_give, qualifies};
 pub use exact::{
     a_script_brings_it_about, labels_stay_within_the_bounds, what_the_closure_has_comes_about,
 };

@@ -140,6 +140,20 @@ pub fn answer(progress: &mut Progress<'_>, question: &Question<'_>) -> ExitCode 
             let (object, mode) = (*object, *mode);
             answer_state(progress, &source, OfState::Who { object, mode })
         }
+        Question::WhoCould {
+            actors,
+            object,
+            mode,
+            ..
+        } => {
+            let (actors, object, mode) = (*actors, *object, *mode);
+            let asked = OfState::Could {
+                actors,
+                object,
+                mode,
+            };
+            answer_state(progress, &source, asked)
+        }
         Question::Powers {
             subject,
             downgrades,

@@ -1,6 +1,7 @@
 //! The commands that answer questions about start files and journals, over files.
 #![tactic(auto)]
 
+mod acting;
 mod answering;
 mod comparison;
 mod describing;

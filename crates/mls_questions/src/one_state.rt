@@ -1,5 +1,8 @@
 //! Questions about one state.
+use crate::acting::chosen;
 use mls_answers::{ask, explain, powers, state, who};
+use mls_command_line::Actors;
+use mls_could::who_could;
 use mls_replay::QuestionFault;
 use mls_requests::read_mode;
 use mls_rows::{Form, Listing};
@@ -18,6 +21,12 @@ pub(crate) enum OfState<'a> {
     Next,
     /// Who may get an object.
     Who {
+        object: &'a str,
+        mode: Option<&'a str>,
+    },
+    /// What becomes of the accesses to an object, whatever some subjects do.
+    Could {
+        actors: Actors<'a>,
         object: &'a str,
         mode: Option<&'a str>,
     },
@@ -57,7 +66,7 @@ impl<'a> OfState<'a> {
         match self {
             OfState::Line(_) => "asking",
             OfState::Why(_) | OfState::Next => "explaining",
-            OfState::Who { .. } | OfState::Powers { .. } => "looking",
+            OfState::Who { .. } | OfState::Could { .. } | OfState::Powers { .. } => "looking",
             OfState::List => "listing",
             OfState::StartFile { .. } => "writing",
         }
@@ -87,6 +96,14 @@ pub(crate) fn answer_seen(
         OfState::Why(line) => explain(alloc, form, seen, Some(line.as_bytes())),
         OfState::Next => explain(alloc, form, seen, None),
         OfState::Who { object, mode } => who(alloc, form, seen, object, mode_of(mode)),
+        OfState::Could {
+            actors,
+            object,
+            mode,
+        } => {
+            let (choice, words) = chosen(actors);
+            who_could(alloc, form, seen, choice, words, object, mode_of(mode))
+        }
         OfState::Powers {
             subject,
             downgrades,

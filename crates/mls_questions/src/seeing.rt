@@ -1,5 +1,6 @@
 //! Questions about one state over their files: a journal in segments is read from the last state on that was kept
 //! before, any other whole.
+use crate::acting::unknown_word;
 use crate::answering::question_refused;
 use crate::named::Named;
 use crate::one_state::{OfState, answer_seen};
@@ -19,6 +20,7 @@ fn named<'a>(source: &Source<'a>, asked: OfState<'a>) -> Named<'a> {
     match asked {
         OfState::Line(line) | OfState::Why(line) => named.line = line,
         OfState::Who { object, .. } => named.object = object,
+        OfState::Could { object, .. } => named.object = object,
         OfState::Powers { subject, .. } => named.subject = subject.unwrap_or(""),
         OfState::Next | OfState::List | OfState::StartFile { .. } => {}
     }
@@ -133,7 +135,10 @@ fn end_seen<'a>(
     seen: &Seen,
 ) -> ExitCode {
     let alloc = progress.rt().alloc();
-    let named = named(source, asked);
+    let mut named = named(source, asked);
+    if let OfState::Could { actors, .. } = asked {
+        named.subject = unknown_word(seen, actors);
+    }
     if let OfState::StartFile { map } = asked {
         let done = start_of(alloc, seen, map.is_some());
         return ended_start(progress, named, map, done);

@@ -40,6 +40,7 @@ pub(crate) fn source_of<'a>(question: &Question<'a>) -> Source<'a> {
         Question::Ask { source, .. }
         | Question::Explain { source, .. }
         | Question::Who { source, .. }
+        | Question::WhoCould { source, .. }
         | Question::Powers { source, .. }
         | Question::About { source, .. }
         | Question::State { source, .. } => same(source),

@@ -1,0 +1,4 @@
+mod Flags
+mod Pairs
+mod Seen
+mod Telling

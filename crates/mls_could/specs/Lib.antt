@@ -1,0 +1,4 @@
+pub mod Actors
+pub mod Foreseeing
+pub mod Rows
+pub mod Words
