@@ -379,7 +379,8 @@ def objects_of_the_documents():
         count = int(words[-1]) if "|" in words else 0
         words = words[: words.index("|")] if "|" in words else words
         _, output, _ = ran_program(words)
-        schema = "summary" if "--summary" in words else "ever" if "--ever" in words else words[0]
+        options = {"--summary": "summary", "--ever": "ever", "--could": "future"}
+        schema = next((options[it] for it in words if it in options), words[0])
         rows_of(schema, output)
         same((command, output.decode().splitlines()[-count:]), (command, wanted))
 
