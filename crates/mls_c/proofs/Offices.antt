@@ -9,7 +9,7 @@ use Rattle.mls_requests.specs.declared.entry.Entry.{Entry}
 use Rattle.mls_requests.specs.declared.request.Request.{Request}
 use Rattle.mls_monitor.specs.Journal.{Monitor}
 use Rattle.mls_monitor.specs.Entries.{of_session, AllBelow}
-use Rattle.mls_sessions.specs.Journals.{Journal, journal, journal_of}
+use Rattle.mls_turns.specs.Journals.{Journal, journal, journal_of}
 use Rattle.mls_sessions.specs.Rule.{begun, base, news}
 use Rattle.mls_sessions.specs.Sessions.{Office, Session, Ascending, IsOf, HasAll, Leaves, Submits, newcomers, number_of}
 use Rattle.mls_c.specs.Opened.{Opened, with_journal}

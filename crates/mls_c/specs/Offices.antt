@@ -9,7 +9,7 @@ use Rattle.mls_requests.specs.declared.entry.Entry.{Entry}
 use Rattle.mls_requests.specs.declared.request.Request.{Request}
 use Rattle.mls_rules.specs.Rules.{reply}
 use Rattle.mls_monitor.specs.Journal.{fold}
-use Rattle.mls_sessions.specs.Journals.{journal}
+use Rattle.mls_turns.specs.Journals.{journal}
 use Rattle.mls_sessions.specs.Rule.{begun, base}
 use Rattle.mls_sessions.specs.Sessions.{Office, Session, office_code, session_code, is_count, newcomers, history, number_of}
 use Rattle.mls_sessions.specs.Sessions.{Submits, Sees, Leaves}

@@ -10,7 +10,7 @@ use Rattle.mls_rules.specs.Rules.{reply}
 use Rattle.mls_monitor.specs.Journal.{fold}
 use Rattle.mls_monitor.specs.Tails.{forgotten_of}
 use Rattle.mls_start_file.specs.Ties.{Loaded}
-use Rattle.mls_sessions.specs.Journals.{Journal}
+use Rattle.mls_turns.specs.Journals.{Journal}
 
 -- An open monitor: the names of its start, the state that it started with, its journal, and how many of the first of
 -- its entries it has forgotten. (own)

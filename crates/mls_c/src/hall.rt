@@ -1,6 +1,6 @@
 //! What an office's handle holds: the office, and the block that its monitor's handle had.
 ghost use Rattle.std.specs.Prelude.{◌≡◌, ◌<◌, length, IfOk, IfErr, IsErr, IsTrue, IsSomeAnd, OnOk, OnErr};
-ghost use Rattle.mls_sessions.specs.Journals.{journal};
+ghost use Rattle.mls_turns.specs.Journals.{journal};
 ghost use Rattle.mls_sessions.specs.Sessions.{is_count, Leaves};
 ghost use Rattle.mls_c.specs.Offices.{HasMonitor};
 

@@ -1,7 +1,7 @@
 //! An office with those of its sessions that are at home.
 ghost use Rattle.std.specs.Prelude.{◌≡◌, ◌<◌, ◌∷◌, [], ◌++◌, length, IfOk, IfErr, OnOk, OnErr, IsErr, IsTrue};
 ghost use Rattle.std.specs.Bool.{Decides};
-ghost use Rattle.mls_sessions.specs.Journals.{journal_of};
+ghost use Rattle.mls_turns.specs.Journals.{journal_of};
 ghost use Rattle.mls_sessions.specs.Rule.{begun, base};
 ghost use Rattle.mls_sessions.specs.Sessions.{Leaves, is_count, newcomers, number_of};
 ghost use Rattle.mls_c.specs.Offices.{NumbersBelow};

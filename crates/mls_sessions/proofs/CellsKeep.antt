@@ -16,7 +16,8 @@ use Rattle.mls_monitor.specs.Entries.{of_session, AllBelow, AllOf}
 use Rattle.mls_sessions.specs.Cells.{Tells, OneWord, Agrees, Quiet, note}
 use Rattle.mls_sessions.specs.declared.gate_table.Note.{Note}
 use Rattle.mls_sessions.specs.declared.limits.TheConstants.{FIRST}
-use Rattle.mls_sessions.specs.Journals.{Stands, Journal, Charter}
+use Rattle.mls_sessions.specs.Journals.{Charter}
+use Rattle.mls_turns.specs.Journals.{Stands, Journal}
 use Rattle.mls_sessions.specs.Rule.{member, base, begun, present, news, Names, IsMember, Knows, Running, Gated}
 use Rattle.mls_sessions.specs.Steps.{Seat, Glimpsed, glanced, read, noted_view, published, published_view, blanked, updated}
 use Rattle.mls_sessions.specs.declared.counts.Counts.{Counts}

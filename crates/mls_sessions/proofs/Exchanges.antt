@@ -9,7 +9,7 @@ use Rattle.mls_requests.specs.declared.ask.Ask.TheVariants.{Submit, Check}
 use Rattle.mls_requests.specs.declared.entry.Entry.{Entry}
 use Rattle.mls_requests.specs.declared.request.Request.{Request}
 use Rattle.mls_monitor.specs.Journal.{fold}
-use Rattle.mls_sessions.specs.Journals.{Journal, journal, Appends}
+use Rattle.mls_turns.specs.Journals.{Journal, journal, Appends}
 use Rattle.mls_monitor.specs.Entries.{of_session}
 use Rattle.mls_sessions.specs.Feeds.{Gets, GetsMore, AllGet}
 use Rattle.mls_monitor.specs.Feeds.{Exchange, IsTold, AreTold}

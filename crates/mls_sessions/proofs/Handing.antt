@@ -10,7 +10,8 @@ use Rattle.mls_requests.specs.declared.request.Request.{Request}
 use Rattle.mls_rules.specs.Rules.{reply}
 use Rattle.mls_monitor.specs.Journal.{fold}
 use Rattle.mls_sessions.specs.Cells.{place, bit_of, has_bit, Tells, note, Agrees, Finer, Quiet, OneWord, OfActive}
-use Rattle.mls_sessions.specs.Journals.{Journal, journal, Charter, Appends}
+use Rattle.mls_sessions.specs.Journals.{Charter}
+use Rattle.mls_turns.specs.Journals.{Journal, journal, Appends}
 use Rattle.mls_sessions.specs.Rule.{begun, base, present}
 use Rattle.mls_sessions.specs.Steps.{Seat}
 use Rattle.mls_sessions.specs.Sessions.{member_of, taken_of, notes_of, number_of, noting, Holds, HasMore, Leads, IsNext}

@@ -5,7 +5,7 @@ use Rattle.std.specs.Prelude.{drop}
 use Rattle.mls_requests.specs.declared.entry.Entry.{Entry}
 use Rattle.mls_state.specs.State.{State}
 use Rattle.mls_monitor.specs.Journal.{Monitor}
-use Rattle.mls_sessions.specs.Journals.{journal_of}
+use Rattle.mls_turns.specs.Journals.{journal_of}
 use Rattle.mls_monitor.specs.Entries.{AllBelow}
 use Rattle.mls_sessions.specs.Rule.{begun, base}
 use Rattle.mls_sessions.specs.Sessions.{Office, Session, IsOf, Ascending, Leaves, number_of}

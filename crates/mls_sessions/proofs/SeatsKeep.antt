@@ -10,7 +10,8 @@ use prog.Atomic.{either}
 use Rattle.atomic_table.specs.Table.{Splits, Joins, Final, Seen}
 use Rattle.atomic_table.proofs.Lists.{at_set, set_else, at_longer}
 use Rattle.mls_requests.specs.declared.entry.Entry.{Entry}
-use Rattle.mls_sessions.specs.Journals.{Stands, Journal, Charter}
+use Rattle.mls_sessions.specs.Journals.{Charter}
+use Rattle.mls_turns.specs.Journals.{Stands, Journal}
 use Rattle.mls_monitor.specs.Entries.{of_session, AllBelow}
 use Rattle.mls_sessions.specs.Rule.{member, IsNew, base, present, IsMember, Fits, IsUnused, Knows, Running, Gated, begun}
 use Rattle.mls_sessions.specs.Steps.{Seat, left_of, right_of, both_of}

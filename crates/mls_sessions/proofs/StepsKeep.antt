@@ -11,7 +11,8 @@ use Rattle.std.specs.Prelude.{replicate}
 use Rattle.atomic_table.specs.Table.{State, Act, step, keeps, takes, gives, opening, stepped, Valid, carried_after, Allows}
 use Rattle.atomic_table.proofs.Lists.{at_set, set_again, set_here}
 use Rattle.mls_requests.specs.declared.entry.Entry.{Entry}
-use Rattle.mls_sessions.specs.Journals.{Stands, Journal, journal, Charter}
+use Rattle.mls_sessions.specs.Journals.{Charter}
+use Rattle.mls_turns.specs.Journals.{Stands, Journal, journal}
 use Rattle.mls_monitor.specs.Entries.{of_session}
 use Rattle.std.proofs.lemmas.List.{length-replicate, get_or-replicate}
 use Rattle.mls_monitor.specs.Journal.{fold}

@@ -3,7 +3,8 @@ use Rattle.std.specs.Prelude.{◌≡◌, ◌≢◌, ◌⊎◌, ℕ, ◌+◌, ◌
 use Rattle.mls_state.specs.State.{State}
 use Rattle.mls_requests.specs.declared.ask.Ask.{Ask}
 use Rattle.mls_requests.specs.declared.entry.Entry.{Entry}
-use Rattle.mls_sessions.specs.Journals.{Charter, Journal, journal}
+use Rattle.mls_sessions.specs.Journals.{Charter}
+use Rattle.mls_turns.specs.Journals.{Journal, journal}
 use Rattle.mls_monitor.specs.Entries.{AllOf}
 use Rattle.mls_monitor.specs.Feeds.{Exchange, asks_of, answers_of, IsTold, AreTold, Turn, in_turns, Heard, Halted, Gave}
 use Rattle.mls_monitor.specs.Feeds.{Talks, Fed}
@@ -14,8 +15,6 @@ use Rattle.mls_sessions.specs.declared.asked.Asked.{Asked}
 use Rattle.mls_sessions.specs.declared.asked.Asked.TheVariants.{ToTheEnd, UntilRefused, NotAtAll}
 use Rattle.mls_sessions.specs.declared.run_fault.RunFaultKind.{RunFaultKind}
 use Rattle.mls_sessions.specs.declared.run_fault.RunFaultKind.TheVariants.{BadCount, Memory, Thread}
-use Rattle.mls_sessions.specs.declared.given.Given.{Given}
-use Rattle.mls_sessions.specs.declared.given.Given.TheVariants.{Nothing, One, Several}
 use Rattle.mls_monitor.specs.declared.feed.Answer.{Answer as Told}
 
 -- A monitor was asked this for session k and answered that: its journal got what it answers by, and no entry of another
@@ -51,12 +50,6 @@ pub record Learns (c : Charter) (old : View) (asks : List Ask) (answers : List T
   pub answered : answers ≡ answers_of exchanges
   pub grew : history new ≡ history old ++ since
   pub told : AreTold (begun c) (number_of old) (history old) since exchanges
-
--- What a feed gave in one turn: one ask alone, or what stands in a list. (own)
-abbrev pub asks_given : Given → List Ask → List Ask
-asks_given Nothing asks = []
-asks_given (One a) asks = a ∷ []
-asks_given Several asks = asks
 
 -- A session asked this for a feed that hears answers in this way, and told it the answers. (own)
 pub record Tells {F : Type 0} (hears : F → Told → F → Type 0) (o : Office) (s : Session) (f : F) (asks : List Ask)

@@ -6,7 +6,8 @@ use Rattle.std.specs.Coded.{Coded, code_by, coded×}
 use Rattle.atomic_table.specs.Seated.{TableId, table_id_coded}
 use Rattle.mls_requests.specs.declared.entry.Entry.{Entry}
 use Rattle.mls_requests.specs.declared.request.Request.{Request}
-use Rattle.mls_sessions.specs.Journals.{Journal, Charter, charter_code, Stands}
+use Rattle.mls_sessions.specs.Journals.{Charter, charter_code}
+use Rattle.mls_turns.specs.Journals.{Journal, Stands}
 use Rattle.mls_monitor.specs.Entries.{of_session, AllBelow, AllOf}
 use Rattle.mls_rules.specs.Rules.{reply}
 use Rattle.mls_monitor.specs.Journal.{fold}

@@ -8,7 +8,8 @@ use Rattle.mls_monitor.specs.Journal.{fold}
 use Rattle.mls_sessions.specs.Cells.{Tells, Agrees, note}
 use Rattle.mls_sessions.specs.declared.gate_table.Note.{Note}
 use Rattle.mls_sessions.specs.declared.limits.TheConstants.{FIRST}
-use Rattle.mls_sessions.specs.Journals.{Journal, Charter, Stands}
+use Rattle.mls_sessions.specs.Journals.{Charter}
+use Rattle.mls_turns.specs.Journals.{Journal, Stands}
 use Rattle.mls_monitor.specs.Entries.{of_session}
 use Rattle.mls_sessions.specs.Rule.{member, begun, base, present, news}
 use Rattle.mls_sessions.specs.declared.gate_table.Member.{Member}

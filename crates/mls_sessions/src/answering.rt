@@ -3,12 +3,12 @@ ghost use Rattle.std.specs.Prelude.{◌≡◌, ◌<◌, ◌≤◌, ◌+◌, [], 
 ghost use Rattle.mls_sessions.specs.Sessions.{Leads, number_of};
 ghost use Rattle.mls_sessions.specs.Feeds.{GetsMore, AllGet};
 
-use crate::boxed_monitor::BoxedMonitor;
 use crate::gate_table::{Gate, GateSeat};
 use crate::limits::FIRST;
 use crate::publishing::publish;
 use mls_monitor::Answer;
 use mls_requests::Ask;
+use mls_turns::BoxedMonitor;
 use std::alloc::AllocError;
 
 /// Asks the monitor for a session, lets the entry into the present journal, and keeps the answer. It returns the

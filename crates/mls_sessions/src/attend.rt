@@ -5,11 +5,11 @@ ghost use Rattle.mls_sessions.specs.Feeds.{Serves};
 
 use crate::asked::Asked;
 use crate::exchange::take_turn;
-use crate::limits::AHEAD;
 use crate::office::Office;
 use crate::session::Session;
 use mls_monitor::{Answer, Feed, Stage};
 use mls_requests::Ask;
+use mls_turns::AHEAD;
 use std::alloc::Global;
 use std::snapshot::Snapshot;
 use std::sync::Wait;

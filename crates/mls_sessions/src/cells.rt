@@ -5,8 +5,8 @@ ghost use Rattle.mls_tables.specs.declared.limits.TheConstants.{MAX_OBJECTS};
 ghost use Rattle.mls_monitor.specs.Journal.{fold};
 ghost use Rattle.mls_sessions.specs.Cells.{place, bit_of, has_bit, Tells};
 
-use crate::boxed_monitor::BoxedMonitor;
 use mls_tables::{MAX_OBJECTS, Mode, ObjectId, SubjectId};
+use mls_turns::BoxedMonitor;
 
 /// A word that says nothing: whoever reads it takes the lock.
 pub const BLANK: u64 = 0;

@@ -3,12 +3,12 @@ ghost use Rattle.std.specs.Prelude.{◌≡◌, ◌+◌, ◌<◌, [], length, vec
 ghost use Rattle.mls_sessions.specs.declared.gate_table.View.TheVariants.{Sessions};
 ghost use Rattle.mls_sessions.specs.Sessions.{office_at, Ascending, members_of, Leaves};
 
-use crate::boxed_monitor::BoxedMonitor;
 use crate::gate::SLOT;
 use crate::gate_table::{Gate, GateSeat, GateTable};
 use crate::limits::FIRST;
 use crate::session::Session;
 use crate::steps::Gather;
+use mls_turns::BoxedMonitor;
 
 /// Joins the seats of all sessions, the last first.
 pub(crate) fn gather(gate: &Gate, mut sessions: Vec<Session>) -> GateSeat

@@ -8,13 +8,13 @@ ghost use Rattle.mls_sessions.specs.Rule.{begun};
 ghost use Rattle.mls_sessions.specs.Steps.{kept_view};
 ghost use Rattle.mls_sessions.specs.Sessions.{member_of, taken_of, seated, Holds, Sees, history, number_of};
 
-use crate::boxed_monitor::BoxedMonitor;
 use crate::counts::Counts;
 use crate::gate::put_home;
 use crate::gate_table::{Gate, GateSeat};
 use crate::limits::FIRST;
 use crate::steps::Update;
 use mls_requests::{Reply, Request};
+use mls_turns::BoxedMonitor;
 
 /// What would be replied to a request, and the number that its entry would have.
 #[derive(Clone, Copy, Debug, PartialEq, Eq)]

@@ -3,13 +3,11 @@ ghost use Rattle.std.specs.Prelude.{◌≡◌, ◌<◌, ◌≤◌, ◌∷◌, []
 ghost use Rattle.mls_sessions.specs.Sessions.{IsOf, number_of};
 ghost use Rattle.mls_sessions.specs.Feeds.{Tells, Halts, TakesTurn, BreaksOff};
 
-use crate::gathering::{halt, take_asks, tell};
-use crate::given::Given;
-use crate::limits::AHEAD;
 use crate::office::Office;
 use crate::session::Session;
 use mls_monitor::{Answer, Feed, Stage};
 use mls_requests::Ask;
+use mls_turns::{AHEAD, Given, halt, take_asks, tell};
 use std::alloc::AllocError;
 use std::sync::Wait;
 

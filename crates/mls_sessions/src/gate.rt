@@ -3,7 +3,7 @@ ghost use Rattle.std.specs.Prelude.{◌≡◌, ◌+◌, ◌≢◌, ◌<◌, ◌%
 ghost use Rattle.std.specs.Bool.{Decides};
 ghost use mathlib.Core.Option as maybe;
 ghost use Rattle.atomic_table.specs.Table.{step, Allows};
-ghost use Rattle.mls_sessions.specs.Journals.{Stands};
+ghost use Rattle.mls_turns.specs.Journals.{Stands};
 ghost use Rattle.mls_sessions.specs.Rule.{Gated, Names, word_of, begun};
 ghost use Rattle.mls_sessions.specs.Sessions.{member_of, seated, TookOut, Sees, IsCounted, history, number_of};
 ghost use Rattle.mls_sessions.specs.declared.counts.Counts.{Counts};
@@ -11,11 +11,11 @@ ghost use Rattle.mls_monitor.specs.Journal.{fold};
 ghost use Rattle.mls_sessions.specs.Cells.{Tells};
 ghost use Rattle.mls_sessions.specs.Steps.{kept_view};
 
-use crate::boxed_monitor::BoxedMonitor;
 use crate::gate_table::{Gate, GateSeat, View};
 use crate::limits::FIRST;
 use crate::steps::{Glance, Mark, Win};
 use atomic_table::Play;
+use mls_turns::BoxedMonitor;
 use std::hint::spin_loop;
 
 /// The place of the gate's word in the table.

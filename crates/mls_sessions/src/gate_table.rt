@@ -6,10 +6,10 @@
 //! by any.
 ghost use Rattle.std.specs.Prelude.{◌≡◌};
 
-use crate::boxed_monitor::BoxedMonitor;
 use atomic_table::{Seat, Shared, Table, TableRule};
 use mls_monitor::Monitor;
 use mls_requests::Entry;
+use mls_turns::BoxedMonitor;
 use std::alloc::Global;
 use std::collections::LinkedList;
 use std::marker::Model;

@@ -6,18 +6,18 @@ ghost use Rattle.mls_requests.specs.declared.entry.Entry.{Entry};
 ghost use Rattle.mls_monitor.specs.Journal.{fold};
 ghost use Rattle.mls_state.specs.State.{is_active};
 ghost use Rattle.mls_sessions.specs.Cells.{Tells, OneWord, Agrees, Finer, OfActive, note};
-ghost use Rattle.mls_sessions.specs.Journals.{Journal, Stands};
+ghost use Rattle.mls_turns.specs.Journals.{Journal, Stands};
 ghost use Rattle.mls_sessions.specs.Rule.{Gated, begun, base};
 ghost use Rattle.mls_sessions.specs.Sessions.{member_of, taken_of, notes_of, number_of, noting, Holds, HasMore};
 ghost use Rattle.mls_sessions.specs.Steps.{published, published_view};
 
-use crate::boxed_monitor::BoxedMonitor;
 use crate::cells::BLANK;
 use crate::gate::SLOT;
 use crate::gate_table::{Gate, GateSeat};
 use crate::limits::FIRST;
 use crate::steps::{Blank, Publish, Read};
 use mls_tables::{MAX_OBJECTS, ObjectId};
+use mls_turns::BoxedMonitor;
 
 /// Lays the monitor into the slot.
 fn lay(gate: &Gate, seat: &mut GateSeat, monitor: BoxedMonitor)

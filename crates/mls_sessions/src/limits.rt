@@ -32,7 +32,3 @@ pub const LONGEST: u64 = 1_600;
 /// A session that naps again before it asked so much naps four times as long as before, else half as long. So sessions
 /// that do nothing but take turns soon nap long.
 pub const SOON: u64 = 120;
-
-/// The most asks that a session takes to the gate at once. What a turn moves from one processor to another costs as
-/// much as some ten asks.
-pub const AHEAD: usize = 64;

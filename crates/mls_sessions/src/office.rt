@@ -1,7 +1,7 @@
 //! An office, whose sessions share one monitor.
 ghost use Rattle.std.specs.Prelude.{◌≡◌, ◌<◌, length, vec_len, IfOk, IfErr, OnOk, IsTrue, is_err, if◌then◌else◌};
 ghost use Rattle.std.specs.Bool.{Decides};
-ghost use Rattle.mls_sessions.specs.Journals.{journal_of};
+ghost use Rattle.mls_turns.specs.Journals.{journal_of};
 ghost use Rattle.mls_sessions.specs.Rule.{begun, base, base_length};
 ghost use Rattle.mls_sessions.specs.Sessions.{is_count, newcomers, Ascending, Leaves};
 

@@ -1,11 +1,11 @@
 //! How an office opens: the monitor is put in, and each session gets a seat.
 ghost use Rattle.std.specs.Prelude.{◌≡◌, ◌+◌, ◌≤◌, [], vec_len, vec_capacity, IfOk, IfErr};
 ghost use Rattle.mls_sessions.specs.declared.gate_table.View.TheVariants.{Starting, Giving};
-ghost use Rattle.mls_sessions.specs.Journals.{journal, charter_of};
+ghost use Rattle.mls_sessions.specs.Journals.{charter_of};
+ghost use Rattle.mls_turns.specs.Journals.{journal};
 ghost use Rattle.mls_sessions.specs.Rule.{begun, base, base_length};
 ghost use Rattle.mls_sessions.specs.Sessions.{office_at, newcomers};
 
-use crate::boxed_monitor::BoxedMonitor;
 use crate::gate::{FREE, OPENING, WORD, put_home};
 use crate::gate_table::{Charter, Gate, GateSeat, GateTable};
 use crate::limits::FIRST;
@@ -13,6 +13,7 @@ use crate::office_fault::{OfficeFault, OfficeFaultKind};
 use crate::session::Session;
 use crate::steps::{Fill, Give, Settle};
 use mls_monitor::Monitor;
+use mls_turns::BoxedMonitor;
 use std::alloc::Global;
 
 /// Puts the monitor into the empty slot.

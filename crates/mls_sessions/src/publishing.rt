@@ -4,7 +4,6 @@ ghost use Rattle.mls_sessions.specs.Sessions.{member_of, taken_of, notes_of, num
 ghost use Rattle.mls_sessions.specs.Touches.{touch_of};
 ghost use Rattle.mls_sessions.specs.declared.touch.Touch.TheVariants.{One};
 
-use crate::boxed_monitor::BoxedMonitor;
 use crate::cells::{cell_of, word_after, word_of};
 use crate::gate_table::{Gate, GateSeat};
 use crate::holding::{blank_deleted, read, store_word};
@@ -12,6 +11,7 @@ use crate::limits::FIRST;
 use crate::touch::{Touch, makes_access, touch_of};
 use mls_requests::Entry;
 use mls_tables::{Mode, ObjectId, SubjectId};
+use mls_turns::BoxedMonitor;
 
 /// Leaves an entry to the swap that puts the monitor home, or lets it into the present journal by the store of a word.
 /// It may change whether this triple is a current access, and nothing else.

@@ -2,7 +2,7 @@
 ghost use Rattle.std.specs.Prelude.{◌≡◌, ◌≢◌, ◌+◌, ◌<◌, ◌≤◌, ◌∷◌, ◌++◌, [], false, length, drop, IfOk, IfErr, OnOk};
 ghost use Rattle.std.specs.Prelude.{IsTrue, vec_len, vec_capacity};
 ghost use denote.Param.Send.{IsSync};
-ghost use Rattle.mls_sessions.specs.Journals.{journal_of};
+ghost use Rattle.mls_turns.specs.Journals.{journal_of};
 ghost use Rattle.mls_sessions.specs.Sessions.{IsOf, Ascending, newcomers, is_count};
 ghost use Rattle.mls_sessions.specs.Rule.{begun, base, news};
 ghost use Rattle.mls_sessions.specs.Runs.{Returned, Grew};

@@ -3,9 +3,9 @@ ghost use Rattle.mls_sessions.specs.Steps.{filled, settled, won, marked, kept, u
 ghost use Rattle.mls_sessions.specs.Steps.{both_of, first_of_two, second_of_two, glanced, read, published, blanked};
 ghost use Rattle.mls_sessions.specs.declared.gate_table.View.TheVariants.{Spent};
 
-use crate::boxed_monitor::BoxedMonitor;
 use crate::gate_table::View;
 use atomic_table::{Join, Play, Split};
+use mls_turns::BoxedMonitor;
 
 /// The first seat takes the empty slot.
 pub struct Fill;

@@ -3,12 +3,12 @@ ghost use Rattle.std.specs.Prelude.{◌≡◌, ◌+◌, ◌≢◌};
 ghost use Rattle.mls_sessions.specs.Steps.{kept_view};
 ghost use Rattle.mls_sessions.specs.Sessions.{member_of, seated, TookOut, number_of};
 
-use crate::boxed_monitor::BoxedMonitor;
 use crate::gate::{FREE, WORD, look, mark, named, win};
 use crate::gate_table::{Gate, GateSeat};
 use crate::limits::FIRST;
 use crate::office::Office;
 use crate::pace::Pace;
+use mls_turns::BoxedMonitor;
 use std::sync::Wait;
 
 /// Sets the mark and sleeps until it is woken, unless the gate's word is another by then. It returns whether it may

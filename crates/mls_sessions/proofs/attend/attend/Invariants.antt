@@ -1,7 +1,7 @@
 use Rattle.std.proofs.Common.{◌≡◌, ◌≤◌, vec_capacity}
 use Rattle.mls_sessions.specs.Sessions.{IsOf, number_of}
 use Rattle.mls_monitor.specs.declared.feed.Stage.TheVariants.{Ready}
-use Rattle.mls_sessions.specs.declared.limits.TheConstants.{AHEAD}
+use Rattle.mls_turns.specs.declared.limits.TheConstants.{AHEAD}
 use Rattle.mls_sessions.proofs.Feeds.{Asking}
 use Rattle.mls_sessions.proofs.attend.attend.Given as goal
 

@@ -5,7 +5,7 @@ use Rattle.std.specs.Prelude.{is_some}
 use Rattle.std.specs.Option.{unwrap_or}
 use Rattle.std.proofs.lemmas.Grind.{common_steps}
 use Rattle.std.specs.Slots.{slots_items}
-use Rattle.mls_sessions.specs.Journals.{Journal}
+use Rattle.mls_turns.specs.Journals.{Journal}
 use Rattle.mls_sessions.specs.Sessions.{office_at, Leaves}
 use Rattle.mls_sessions.proofs.SeatsKeep.{leaves}
 use Rattle.mls_sessions.proofs.closing.take_home.Goals as goal

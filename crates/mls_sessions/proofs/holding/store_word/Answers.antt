@@ -1,5 +1,5 @@
 use Rattle.std.proofs.Common.{◌≡◌, ap, sym, subst}
-use Rattle.mls_sessions.specs.Journals.{Journal}
+use Rattle.mls_turns.specs.Journals.{Journal}
 use Rattle.mls_sessions.specs.Sessions.{Holds, number_of}
 use Rattle.mls_sessions.proofs.CellsKeep.{stores_at, published_holds}
 use Rattle.mls_sessions.proofs.holding.store_word.Goals as goal

@@ -1,7 +1,7 @@
 use Rattle.std.proofs.Common.{◌++◌, [], ℕ, ap, sym, subst, ◌∙◌, append-nil}
 use Rattle.mls_monitor.specs.Journal.{fold}
 use Rattle.mls_sessions.specs.Cells.{Tells, OneWord}
-use Rattle.mls_sessions.specs.Journals.{Journal}
+use Rattle.mls_turns.specs.Journals.{Journal}
 use Rattle.mls_sessions.specs.Rule.{begun, base, present}
 use Rattle.mls_sessions.specs.Sessions.{taken_of, notes_of}
 use Rattle.mls_sessions.proofs.Touching.{same_word}

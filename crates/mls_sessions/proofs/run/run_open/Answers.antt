@@ -1,4 +1,4 @@
-use Rattle.mls_sessions.specs.Journals.{journal_of}
+use Rattle.mls_turns.specs.Journals.{journal_of}
 use Rattle.mls_sessions.proofs.Feeds.{all_fed, all_told}
 use Rattle.mls_sessions.proofs.run.run_open.Goals as goal
 

@@ -1,5 +1,5 @@
 use Rattle.std.proofs.Common.{subst}
-use Rattle.mls_sessions.specs.Journals.{journal_of}
+use Rattle.mls_turns.specs.Journals.{journal_of}
 use Rattle.mls_sessions.specs.Sessions.{Office, Leaves}
 use Rattle.mls_c.proofs.Offices.{leaves_as_opened}
 use Rattle.mls_c.proofs.seats.Seats.open.Goals as goal

@@ -1,10 +1,10 @@
-//! The monitor on the heap, as the slot holds it.
+//! The monitor on the heap, as a gate holds it.
 ghost use Rattle.std.specs.Prelude.{◌≡◌, length, drop, IfOk, IfErr};
 ghost use Rattle.std.specs.FinSet as set;
 ghost use Rattle.mls_state.specs.State.{is_active};
 ghost use Rattle.mls_rules.specs.Rules.{reply};
 ghost use Rattle.mls_monitor.specs.Journal.{fold};
-ghost use Rattle.mls_sessions.specs.Journals.{journal_of, Appends, Stands};
+ghost use Rattle.mls_turns.specs.Journals.{journal_of, Appends, Stands};
 
 use mls_monitor::Monitor;
 use mls_requests::{Entry, Reply, Request};
@@ -13,15 +13,15 @@ use mls_tables::{Mode, ObjectId, SubjectId};
 use std::alloc::{AllocError, AllocFailed, Global};
 use std::marker::Model;
 
-/// A monitor in a box, so that a turn at the gate moves a pointer. Contracts see its start and its journal, with what
-/// is forgotten of it, and not its room.
+/// A monitor in a box, so that a turn at a gate moves a pointer. Contracts see its start and its journal, with what is
+/// forgotten of it, and not its room.
 #[derive(Drop)]
 pub struct BoxedMonitor {
     monitor: Box<Monitor>,
 }
 
 impl Model for BoxedMonitor {
-    ghost use Rattle.mls_sessions.specs.Journals.{Journal, journal_of, journal_code};
+    ghost use Rattle.mls_turns.specs.Journals.{Journal, journal_of, journal_code};
 
     ghost Value = { Journal };
 
@@ -35,7 +35,7 @@ impl BoxedMonitor {
     ///
     /// # Errors
     /// `AllocFailed` where the allocation failed, with the monitor as it was handed in.
-    pub(crate) fn new(alloc: Global, monitor: Monitor) -> Result<BoxedMonitor, AllocFailed<Monitor>>
+    pub fn new(alloc: Global, monitor: Monitor) -> Result<BoxedMonitor, AllocFailed<Monitor>>
         ensures ok { IfOk result (λ b. b ≡ journal_of monitor) }
         ensures err { IfErr result (λ fault. fault.value ≡ monitor) }
     {
@@ -44,7 +44,7 @@ impl BoxedMonitor {
     }
 
     /// The monitor out of its box.
-    pub(crate) fn into_inner(self) -> Monitor
+    pub fn into_inner(self) -> Monitor
         ensures { journal_of result ≡ self }
     {
         let BoxedMonitor { monitor } = self;
@@ -55,7 +55,7 @@ impl BoxedMonitor {
     ///
     /// # Errors
     /// `AllocError` where an allocation failed; start and journal are then as before.
-    pub(crate) fn submit(&mut self, session: u32, request: Request) -> Result<Entry, AllocError>
+    pub fn submit(&mut self, session: u32, request: Request) -> Result<Entry, AllocError>
         ensures ok { IfOk result (λ e. Appends self.old session request e self.new) }
         ensures err { IfErr result (λ _. self.new ≡ self.old) }
     {
@@ -63,28 +63,28 @@ impl BoxedMonitor {
     }
 
     /// Whether the triple is a current access.
-    pub(crate) fn check(&self, s: SubjectId, o: ObjectId, x: Mode) -> bool
+    pub fn check(&self, s: SubjectId, o: ObjectId, x: Mode) -> bool
         ensures { let b = (fold self.now.start self.now.entries).accesses in result ≡ set.contains b (s, o, x) }
     {
         self.monitor.check(s, o, x)
     }
 
     /// Whether an object is active.
-    pub(crate) fn is_active(&self, o: ObjectId) -> bool
+    pub fn is_active(&self, o: ObjectId) -> bool
         ensures { result ≡ is_active (fold self.now.start self.now.entries) o }
     {
         self.monitor.state().is_active(o)
     }
 
     /// The reply of the rules to a request.
-    pub(crate) fn decide(&self, request: &Request) -> Reply
+    pub fn decide(&self, request: &Request) -> Reply
         ensures { result ≡ reply (fold self.now.start self.now.entries) request.now }
     {
         decide(self.monitor.state(), request)
     }
 
     /// The entries that aren't forgotten. The journal is legal.
-    pub(crate) fn entries(&self) -> &[Entry]
+    pub fn entries(&self) -> &[Entry]
         ensures value { result.now ≡ drop self.now.forgotten self.now.entries }
         ensures legal { Stands self.now.start self.now.entries }
     {
@@ -92,7 +92,7 @@ impl BoxedMonitor {
     }
 
     /// The number of the next entry.
-    pub(crate) fn next_number(&self) -> u64
+    pub fn next_number(&self) -> u64
         ensures { result ≡ length self.now.entries }
     {
         self.monitor.next_number()

@@ -1,8 +1,8 @@
 use Rattle.std.proofs.Common.{◌≡◌, ◌<◌, ◌≤◌, vec_len, vec_capacity}
 use Rattle.mls_monitor.specs.declared.feed.Stage.TheVariants.{Waiting}
-use Rattle.mls_sessions.specs.declared.limits.TheConstants.{AHEAD}
+use Rattle.mls_turns.specs.declared.limits.TheConstants.{AHEAD}
 use Rattle.mls_monitor.specs.Feeds.{Gave}
-use Rattle.mls_sessions.proofs.gathering.take_asks.Given as goal
+use Rattle.mls_turns.proofs.gathering.take_asks.Given as goal
 
 abbrev pub invariant-loop-feed : goal.invariant-loop-feed
 invariant-loop-feed g l = record {

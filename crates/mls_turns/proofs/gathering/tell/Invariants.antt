@@ -1,7 +1,7 @@
 use Rattle.std.proofs.Common.{◌≡◌, ◌+◌, ◌<◌, ◌≤◌, take}
 use Rattle.mls_monitor.specs.declared.feed.Stage.TheVariants.{Ready, Waiting}
 use Rattle.mls_monitor.specs.Feeds.{Heard}
-use Rattle.mls_sessions.proofs.gathering.tell.Given as goal
+use Rattle.mls_turns.proofs.gathering.tell.Given as goal
 
 abbrev pub invariant-loop-answer : goal.invariant-loop-answer
 invariant-loop-answer g l = record {

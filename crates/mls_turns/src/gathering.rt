@@ -1,6 +1,6 @@
-//! What a feed asks in one turn at the gate, and what it is told after it.
+//! What a feed asks in one turn, and what it is told after it.
 ghost use Rattle.std.specs.Prelude.{◌≡◌, ◌≢◌, ◌<◌, ◌≤◌, length, None, vec_len, vec_capacity};
-ghost use Rattle.mls_sessions.specs.Feeds.{asks_given};
+ghost use Rattle.mls_turns.specs.Turns.{asks_given};
 ghost use Rattle.mls_monitor.specs.Feeds.{Gave, Heard, Halted};
 
 use crate::given::Given;
@@ -10,7 +10,7 @@ use mls_requests::Ask;
 
 /// What the feed asks next, and what it asks ahead, as long as there is room. One ask alone isn't put into the list.
 #[tactic(auto, using(crate::proofs::Feeds::gave_first, crate::proofs::Feeds::gave_two, crate::proofs::Feeds::gave_one))]
-pub(crate) fn take_asks<F: Feed>(feed: &mut F, asks: &mut Vec<Ask>) -> Given
+pub fn take_asks<F: Feed>(feed: &mut F, asks: &mut Vec<Ask>) -> Given
     requires ready { F.stands_at feed.old ≡ Stage.Ready }
     requires room { AHEAD ≤ vec_capacity asks.old }
     ensures room { AHEAD ≤ vec_capacity asks.new }
@@ -43,7 +43,7 @@ pub(crate) fn take_asks<F: Feed>(feed: &mut F, asks: &mut Vec<Ask>) -> Given
 
 /// Tells the feed the answers to the first of what it gave.
 #[tactic(auto, using(crate::proofs::Feeds::heard_next))]
-pub(crate) fn tell<F: Feed>(feed: &mut F, answers: &[Answer])
+pub fn tell<F: Feed>(feed: &mut F, answers: &[Answer])
     requires { (F.stands_at feed.old ≡ Stage.Waiting) × (0 < F.waits_for feed.old)
         × (length answers.now ≤ F.waits_for feed.old) }
     ensures left { F.asks_left feed.new ≤ F.asks_left feed.old }
@@ -57,7 +57,7 @@ pub(crate) fn tell<F: Feed>(feed: &mut F, answers: &[Answer])
 }
 
 /// Tells the feed the answers to the first of what it gave, and that it is stopped.
-pub(crate) fn halt<F: Feed>(feed: &mut F, answers: &[Answer])
+pub fn halt<F: Feed>(feed: &mut F, answers: &[Answer])
     requires { (F.stands_at feed.old ≡ Stage.Waiting) × (length answers.now < F.waits_for feed.old) }
     ensures left { F.asks_left feed.new ≤ F.asks_left feed.old }
     ensures waits { F.stands_at feed.new ≡ Stage.Waiting }
