@@ -1,5 +1,5 @@
 #!/usr/bin/env bash
-# How much there is of each crate, and how much of it an auditor reads: the numbers of docs/PROOFS.md.
+# How much there is of each crate, and how much of it an auditor reads: the numbers that docs/PROOFS.md speaks of.
 #
 #     bench/sizes.sh [NAME ..]        these crates; without names all of crates.txt, and what PROOFS says of them
 #
@@ -8,8 +8,8 @@
 set -u
 export LC_ALL=C
 cd "$(dirname -- "$0")/../crates" || exit 1
-# The crates whose definitions the promise for one thread needs, but for two files.
-promise=(mls_labels mls_tables mls_tree mls_state mls_start mls_requests mls_rules mls_monitor)
+# The crates whose definitions the promise for one thread needs, but for two files; of mls_facts it needs a part.
+promise=(mls_facts mls_labels mls_tables mls_tree mls_state mls_start mls_requests mls_rules mls_monitor)
 
 # The lines of all files of a folder, or of the code in it without its tests, that have a form.
 count() { find "$1" -type f ! -path '*/tests*' -exec cat {} + 2>/dev/null | grep -cE "$2"; }
@@ -33,7 +33,9 @@ done | awk '
 [ $# = 0 ] || exit 0
 needed=$(find "${promise[@]/%//specs}" -name '*.antt' ! -path '*mls_monitor/specs/Feeds.antt' \
   ! -path '*mls_monitor/specs/Entries.antt' -exec cat {} + | wc -l)
-echo "specs that the promise for one thread needs: $needed lines, and what they take from mls_facts"
+lines() { find ./*/"$1" -type f ! -path '*/tests*' -exec cat {} + | wc -l; }
+echo "specs that the promise for one thread needs, with all of mls_facts: $needed lines of $(lines specs) in all"
+echo "proofs, which need not be read: $(lines proofs) lines"
 laws=$(find . -path '*/src/*' \( -path './mls_laws/*' -o -name theorems.rt \) -exec cat {} + | grep -cE '^ *pub (const )?fn ')
 echo "laws: $laws"
 echo "files with unsafe code: $(grep -rlE '\bunsafe *(\{|impl|fn)' --include='*.rt' */src | sort | tr '\n' ' ')"
