@@ -27,12 +27,14 @@ static void *work(void *session) {
     mls_request get = mls_request_of(MLS_GET, 0, 1, MLS_READ), release = get, denied = get;
     mls_answer a;
     unsigned long sum = 0;
+    int held;
     long n;
     release.action = MLS_RELEASE;
     denied.subject = 1;
     pthread_barrier_wait(&begin);
     if (!strcmp(what, "check"))
-        for (n = 0; n < count; n++) sum += (unsigned)mls_wait_check(s, n & 3, n >> 2 & 3, MLS_READ);
+        for (n = 0; n < count; n++)
+            sum += mls_wait_check(s, n & 3, n >> 2 & 3, MLS_READ, &held) == MLS_OK && held;
     else if (!strcmp(what, "decide"))
         for (n = 0; n < count; n++) sum += (unsigned)mls_wait_decide(s, &get, &a);
     else if (!strcmp(what, "denied"))

@@ -63,9 +63,10 @@ static unsigned long __attribute__((noinline)) looped(unsigned long a, unsigned 
 static double called(mls_session *s) {
     unsigned long sum = 0;
     double begun = now();
+    int held;
     long n;
     if (s)
-        for (n = 0; n < CALLS; n++) sum += (unsigned)mls_wait_check(s, n & 3, n >> 2 & 3, MLS_READ);
+        for (n = 0; n < CALLS; n++) sum += mls_wait_check(s, n & 3, n >> 2 & 3, MLS_READ, &held) == MLS_OK && held;
     else
         for (n = 0; n < CALLS; n++) sum += looped(sum, (unsigned long)n);
     __asm__ volatile("" : : "r"(sum));

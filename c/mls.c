@@ -1,6 +1,6 @@
-/* The part of the library that is plain C: the words of numbers, and the calls that take bytes with a length. What is
- * proved takes no null pointer; where a length is 0 and the pointer is null, it gets the address of a byte that it
- * doesn't read. */
+/* The part of the library that is plain C: the words of numbers and of faults, and the calls that take bytes with a
+ * length. What is proved takes no null pointer; where a length is 0 and the pointer is null, it gets the address of a byte
+ * that it doesn't read. */
 #include "mls.h"
 
 #define COUNT(words) (sizeof(words) / sizeof(words)[0])
@@ -176,4 +176,87 @@ const char *mls_reason_word(int reason) {
     static const char *const words[] = {"?", "discretionary", "simple", "star", "integrity", "authority", "compatibility",
                                         "ceiling", "root", "full"};
     return word(words, COUNT(words), reason);
+}
+
+/* The names of faults, by their numbers from 1 on, as docs/FORMATS.md has them. */
+static const char *const start_faults[] = {"Json", "Members", "Scheme", "Name", "Label", "Unknown", "Start", "Memory"};
+static const char *const scheme_causes[] = {"NoLevels", "TooManyLevels", "TooManyCategories", "BadName", "RepeatedName",
+                                            "Memory"};
+static const char *const start_causes[] = {"NoSubjects", "TooManySubjects", "TooManyObjects", "BadLabel", "BadParent",
+                                           "CurrentAboveMaximum", "NotCompatible", "IntegrityAboveParent", "NoSuchCell",
+                                           "NotSecure"};
+static const char *const line_faults[] = {"BadForm", "BadNumber", "BadLabel", "BadReply"};
+static const char *const replay_faults[] = {"Number", "Differs"};
+
+/* A line that is being written, of which what has room is kept. */
+typedef struct {
+    char text[MLS_FAULT_TEXT];
+    size_t len;
+} line;
+
+static void put(line *l, const char *text) {
+    while (*text && l->len < sizeof l->text) l->text[l->len++] = *text++;
+}
+
+static void put_number(line *l, uint64_t n) {
+    char digits[21];
+    size_t at = sizeof digits - 1;
+    digits[at] = 0;
+    do digits[--at] = (char)('0' + n % 10); while (n /= 10);
+    put(l, digits + at);
+}
+
+/* Writes a number from 1 on and its name. */
+static void put_named(line *l, const char *front, int number, const char *const *words, size_t count) {
+    put(l, front);
+    put_number(l, (uint64_t)number);
+    put(l, " ");
+    put(l, word(words, count, number - 1));
+}
+
+static void put_start(line *l, const mls_fault *fault) {
+    put_named(l, "start ", fault->kind, start_faults, COUNT(start_faults));
+    if (fault->kind == 3) put_named(l, " ", fault->number, scheme_causes, COUNT(scheme_causes));
+    if (fault->kind == 7) put_named(l, " ", fault->number, start_causes, COUNT(start_causes));
+}
+
+static void put_line(line *l, const mls_fault *fault) {
+    put(l, "line ");
+    put_number(l, fault->place == UINT64_MAX ? fault->place : fault->place + 1);
+}
+
+static void put_replay(line *l, const mls_fault *fault) {
+    put_named(l, "replay ", fault->kind, replay_faults, COUNT(replay_faults));
+    put(l, " at ");
+    put_number(l, fault->place);
+    if (fault->kind != 2) return;
+    put(l, " expected ");
+    put(l, mls_reply_word(fault->number));
+    if (fault->number > MLS_DENIED) {
+        put(l, " ");
+        put(l, mls_reason_word(fault->number - MLS_DENIED));
+    }
+}
+
+static void put_state(line *l, const mls_fault *fault) {
+    static const char *const words[] = {": not of a state", "a state of another start", "a state that is not secure"};
+    if (fault->kind == 1) put_line(l, fault);
+    put(l, word(words, COUNT(words), fault->kind - 1));
+}
+
+int mls_fault_text(int status, const mls_fault *fault, char *buf, size_t cap, size_t *len) {
+    line l;
+    size_t n;
+    l.len = 0;
+    if (status == MLS_ESTART) put_start(&l, fault);
+    else if (status == MLS_EREPLAY) put_replay(&l, fault);
+    else if (status == MLS_ESTATE) put_state(&l, fault);
+    else if (status == MLS_EJOURNAL) {
+        put_line(&l, fault);
+        put_named(&l, ": entry ", fault->kind, line_faults, COUNT(line_faults));
+    } else put(&l, mls_status_word(status));
+    *len = l.len;
+    if (cap < l.len) return MLS_ERANGE;
+    for (n = 0; n < l.len; n++) buf[n] = l.text[n];
+    return MLS_OK;
 }

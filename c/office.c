@@ -41,8 +41,10 @@ static mls_session sessions[THREADS];
 static long is_wrong_told(const worker *w, int held) {
     mls_request unknown = mls_request_of(MLS_GET, ANN, 4000, MLS_READ);
     mls_answer a;
-    long wrong = mls_wait_check(w->session, ANN, w->object, MLS_READ) != held;
-    wrong += mls_wait_check(w->session, ANN, w->object, MLS_WRITE) != 0;
+    int told = 7;
+    long wrong = mls_wait_check(w->session, ANN, w->object, MLS_READ, &told) != MLS_OK || told != held;
+    wrong += mls_wait_check(w->session, ANN, w->object, MLS_WRITE, &told) != MLS_OK || told != 0;
+    wrong += mls_wait_check(w->session, ANN, w->object, 4, &told) != MLS_EINVAL || told != 0;
     wrong += mls_wait_decide(w->session, &unknown, &a) != MLS_OK || a.reply != MLS_UNDEFINED;
     return wrong;
 }
@@ -52,6 +54,7 @@ static void *work(void *at) {
     worker *w = at;
     mls_request q = mls_request_of(MLS_GET, ANN, w->object, MLS_READ);
     mls_answer a;
+    int held;
     long n;
     for (n = 0; n < rounds; n++) {
         q.action = (uint8_t)(n % 2 ? MLS_RELEASE : MLS_GET);
@@ -60,7 +63,7 @@ static void *work(void *at) {
         w->wrong += n && a.number <= w->numbers[n - 1];
         w->wrong += is_wrong_told(w, n % 2 == 0);
         /* (what another thread does with its object may be so or so) */
-        w->wrong += mls_wait_check(w->session, ANN, MADE + (uint16_t)(n % THREADS), MLS_READ) > 1;
+        w->wrong += mls_wait_check(w->session, ANN, MADE + (uint16_t)(n % THREADS), MLS_READ, &held) != MLS_OK;
     }
     return NULL;
 }

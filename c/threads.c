@@ -15,10 +15,11 @@ static void *reader(void *session) {
     mls_request get = mls_request_of(MLS_GET, ann, plans, MLS_READ), release = get;
     mls_answer answer;
     long n, reads = 0;
+    int held;
     release.action = MLS_RELEASE;
     if (mls_wait_submit(session, &get, &answer) != MLS_OK || answer.reply != MLS_YES) return NULL;
     for (n = 0; n < READS; n++) {
-        if (mls_wait_check(session, ann, plans, MLS_READ)) reads++;
+        if (mls_wait_check(session, ann, plans, MLS_READ, &held) == MLS_OK && held) reads++;
     }
     if (mls_wait_submit(session, &release, &answer) != MLS_OK || reads > READS) return NULL;
     return session;

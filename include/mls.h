@@ -149,6 +149,9 @@ typedef struct {
     uint64_t place;
 } mls_fault;
 
+/* The line of a fault is not longer than this. */
+enum { MLS_FAULT_TEXT = 80 };
+
 /* A subject: its labels, and 1 if the star property doesn't bind it, else 0. */
 typedef struct {
     mls_label maximum, current, integrity;
@@ -423,6 +426,13 @@ int mls_session_check(mls_session *s, uint16_t subject, uint16_t object, uint8_t
  * session made one before. It tries the lock once. Nothing changes, and it doesn't allocate.
  * MLS_ECLOSED, MLS_EINVAL, MLS_EBUSY. */
 int mls_session_decide(mls_session *s, const mls_request *request, mls_answer *answer);
+
+/* Copies out the line that the program mls prints of a fault, given the status beside it, as
+ * mls_entry_text does a line, but without a newline: "start 2 Members", say, or
+ * "line 7: entry 1 BadForm", which counts lines from 1. With a status that has no fault it is the
+ * name of the status, as of mls_status_word. It has at most MLS_FAULT_TEXT bytes. It takes no
+ * handle. MLS_ERANGE. */
+int mls_fault_text(int status, const mls_fault *fault, char *buf, size_t cap, size_t *len);
 
 /* The version of the library, as MAJOR.MINOR. */
 const char *mls_version(void);

@@ -264,12 +264,13 @@ MLS_INLINE int mls_wait_decide(mls_session *s, const mls_request *request, mls_a
     return status;
 }
 
-/* Returns 1 or 0; 0 also if the handle is closed or the mode is none, as mls_check. */
-MLS_INLINE int mls_wait_check(mls_session *s, uint16_t subject, uint16_t object, uint8_t mode) {
+MLS_INLINE int mls_wait_check(mls_session *s, uint16_t subject, uint16_t object, uint8_t mode,
+                              int *held) {
     unsigned round = 0;
-    int held;
-    while (mls_session_check(s, subject, object, mode, &held) == MLS_EBUSY) mls_pause(round++);
-    return held;
+    int status;
+    while ((status = mls_session_check(s, subject, object, mode, held)) == MLS_EBUSY)
+        mls_pause(round++);
+    return status;
 }
 
 #endif

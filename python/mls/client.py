@@ -8,7 +8,7 @@ from types import TracebackType
 from typing import Any, Callable, Iterable, List, Optional, Type, TypeVar, Union
 
 from .actions import Actions, Session
-from .faults import BadRequest, Closed, Ended, Refused
+from .faults import BadRequest, Closed, Ended, NoService, Refused
 from .lines import answer_of, check_line, is_asked, is_held, line_of, would_be
 from .requests import Name, Request
 from .values import Answer, Mode
@@ -39,6 +39,9 @@ class Client(Actions):
         try:
             connection.settimeout(timeout)
             connection.connect(path)
+        except OSError as error:
+            connection.close()
+            raise NoService(path, error.strerror or str(error)) from error
         except BaseException:
             connection.close()
             raise

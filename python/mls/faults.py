@@ -32,21 +32,34 @@ class NoSuchEntry(Error, IndexError):
     """The journal has no entry of this number."""
 
 
+class NoLibrary(Error, OSError):
+    """There is no libmls where it was looked for, or it has another version than this package is for."""
+
+
+class NoService(Error, ConnectionError):
+    """Nothing can be reached at the socket: `path` is its path."""
+
+    def __init__(self, path: str, why: str) -> None:
+        super().__init__(f"{path}: {why}")
+        self.path = path
+
+
 class StartRefused(Error, ValueError):
     """The start file is refused: `fault` is the number of its fault, 1 Json to 7 Start, and `cause` that of a fault 3
-    Scheme or 7 Start, else 0. docs/FORMATS.md names them, and `mls lint` prints where the fault is."""
+    Scheme or 7 Start, else 0. Its text is the line of the program mls, as that of the next three is. docs/FORMATS.md
+    says what the names are, and `mls lint` prints where the fault is."""
 
-    def __init__(self, fault: int, cause: int) -> None:
-        super().__init__(f"start {fault}" + (f" {cause}" if cause else ""))
+    def __init__(self, text: str, fault: int, cause: int) -> None:
+        super().__init__(text)
         self.fault, self.cause = fault, cause
 
 
 class JournalRefused(Error, ValueError):
-    """A line of the journal is no entry's: the first that is none, counted from 0, with its fault, 1 BadForm to 4
-    BadReply."""
+    """A line of the journal is no entry's: `line` is the first that is none, counted from 0, where the text counts from
+    1, with its fault, 1 BadForm to 4 BadReply."""
 
-    def __init__(self, line: int, fault: int) -> None:
-        super().__init__(f"line {line}: entry {fault}")
+    def __init__(self, text: str, line: int, fault: int) -> None:
+        super().__init__(text)
         self.line, self.fault = line, fault
 
 
@@ -54,9 +67,8 @@ class StateRefused(Error, ValueError):
     """The text isn't that of a secure state of the start: `fault` is 1 where a line isn't as it must be, which is then
     in `line`, counted from 0; 2 where it is a state of another start; 3 where it is one that isn't secure."""
 
-    def __init__(self, fault: int, line: int) -> None:
-        told = {1: f"line {line}: not of a state", 2: "of another start", 3: "not secure"}
-        super().__init__(f"state: {told.get(fault, fault)}")
+    def __init__(self, text: str, fault: int, line: int) -> None:
+        super().__init__(text)
         self.fault, self.line = fault, line if fault == 1 else None
 
 
@@ -80,7 +92,6 @@ class ReplayDiffers(Error, ValueError):
     """The journal isn't one of its start: `entry` is the first, counted from 0, that hasn't its place as number, or
     hasn't the reply that the rules give, which is then in `wanted`, as a number of the library's."""
 
-    def __init__(self, entry: int, wanted: int | None) -> None:
-        told = "number" if wanted is None else f"reply, {wanted} wanted"
-        super().__init__(f"entry {entry}: {told}")
+    def __init__(self, text: str, entry: int, wanted: int | None) -> None:
+        super().__init__(text)
         self.entry, self.wanted = entry, wanted

@@ -25,16 +25,24 @@ def is_ok(status: int, what: str = "") -> None:
         raise REFUSALS.get(status, Error)(what or f"status {status}")
 
 
-def opened(status: int, fault: lib.Fault) -> None:
+def fault_text(library: ctypes.CDLL, status: int, fault: lib.Fault) -> str:
+    """The line that the program mls prints of a fault."""
+    buffer, length = ctypes.create_string_buffer(lib.FAULT_TEXT), c_size_t()
+    library.mls_fault_text(status, byref(fault), buffer, lib.FAULT_TEXT, byref(length))
+    return buffer.raw[: length.value].decode()
+
+
+def opened(library: ctypes.CDLL, status: int, fault: lib.Fault) -> None:
     """Raises what the status of an opening says."""
+    text = fault_text(library, status, fault)
     if status == lib.START_REFUSED:
-        raise StartRefused(fault.kind, fault.number)
+        raise StartRefused(text, fault.kind, fault.number)
     if status == lib.JOURNAL_REFUSED:
-        raise JournalRefused(fault.place, fault.kind)
+        raise JournalRefused(text, fault.place, fault.kind)
     if status == lib.REPLAY_DIFFERS:
-        raise ReplayDiffers(fault.place, None if fault.kind == 1 else fault.number)
+        raise ReplayDiffers(text, fault.place, None if fault.kind == 1 else fault.number)
     if status == lib.STATE_REFUSED:
-        raise StateRefused(fault.kind, fault.place)
+        raise StateRefused(text, fault.kind, fault.place)
     is_ok(status, "too many entries" if status == lib.INVALID else "an allocation failed")
 
 
@@ -54,7 +62,7 @@ class Handle:
         # (nothing that a call is lent may overlap, and of one text there may be one object)
         lent = ctypes.create_string_buffer(then, len(then)) if first is then else then
         taken = (first, len(first), lent, len(then), *(number(it, 64) for it in numbers))
-        opened(call(byref(self._handle), *taken, byref(fault)), fault)
+        opened(library, call(byref(self._handle), *taken, byref(fault)), fault)
         self._keep()
 
     def _keep(self) -> None:

@@ -6,17 +6,20 @@ import functools
 import os
 from ctypes import POINTER, c_char_p, c_int, c_size_t, c_uint8, c_uint16, c_uint32, c_uint64, c_void_p
 
+from .faults import NoLibrary
+
 # The name that the loader looks for, unless the environment names a file.
 NAME, VARIABLE = "libmls.so.0", "MLS_LIBRARY"
 VERSION = (0, 2)
+HELP = f"install the package libmls0, or name the file of libmls by {VARIABLE} or by the argument library"
 CLOSED, NO_MEMORY, INVALID = -1, -3, -4
 START_REFUSED, JOURNAL_REFUSED, REPLAY_DIFFERS = -5, -6, -7
 TOO_SHORT, NOT_FOUND = -8, -9
 STATE_REFUSED, BUSY = -10, -11
 # Object numbers are below the first, and no request has more conditions than the second.
 OBJECTS, CONDITIONS = 4096, 4
-# An office has no more sessions than this.
-SESSIONS = 64
+# An office has no more sessions than the first, and the line of a fault is not longer than the second.
+SESSIONS, FAULT_TEXT = 64, 80
 
 
 class Handle(ctypes.Structure):
@@ -127,6 +130,7 @@ CALLS = {
     "mls_session_check": (c_int, [SESSION, c_uint16, c_uint16, c_uint8, POINTER(c_int)]),
     "mls_session_decide": (c_int, [SESSION, POINTER(Request), POINTER(Answer)]),
     "mls_close": (None, [MONITOR]),
+    "mls_fault_text": (c_int, [c_int, POINTER(Fault), c_char_p, c_size_t, LENGTH]),
     "mls_version": (c_char_p, []),
     "mls_status_word": (c_char_p, [c_int]),
     "mls_action_word": (c_char_p, [c_int]),
@@ -138,13 +142,20 @@ CALLS = {
 
 @functools.lru_cache(maxsize=None)
 def load(name: str | None = None) -> ctypes.CDLL:
-    """Loads the library: of this file's name, of that in MLS_LIBRARY, or as the loader finds it. OSError where there is
+    """Loads the library: of this file's name, of that in MLS_LIBRARY, or as the loader finds it. NoLibrary where there is
     none, and where it has another version than this package is for."""
-    library = ctypes.CDLL(name or os.environ.get(VARIABLE) or NAME)
+    asked = os.environ.get(VARIABLE)
+    where = f"library={name!r}" if name else f"{VARIABLE}={asked}" if asked else f"{NAME} in the loader's folders"
+    try:
+        library = ctypes.CDLL(name or asked or NAME)
+        library.mls_version.restype = c_char_p
+        found = tuple(int(it) for it in library.mls_version().split(b"."))
+    except (OSError, AttributeError) as error:
+        raise NoLibrary(f"{where}: {error}: {HELP}") from error
+    if found[0] != VERSION[0] or found < VERSION:
+        version, wanted = (".".join(map(str, it)) for it in (found, VERSION))
+        raise NoLibrary(f"{where}: libmls has version {version}, and {wanted} is wanted: {HELP}")
     for call, (result, arguments) in CALLS.items():
         function = getattr(library, call)
         function.restype, function.argtypes = result, arguments
-    found = tuple(int(it) for it in library.mls_version().split(b"."))
-    if found[0] != VERSION[0] or found < VERSION:
-        raise OSError(f"libmls has version {'.'.join(map(str, found))}, and {'.'.join(map(str, VERSION))} is wanted")
     return library

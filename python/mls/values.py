@@ -6,6 +6,7 @@ from dataclasses import dataclass
 from typing import FrozenSet, Optional, Union
 
 from . import requests
+from .faults import BadRequest
 
 
 class Mode(enum.IntEnum):
@@ -23,7 +24,7 @@ class Mode(enum.IntEnum):
             return mode
         found = [it for it in cls if it.name.lower() == mode]
         if not found:
-            raise ValueError(f"no mode: {mode!r}")
+            raise BadRequest(f"no mode: {mode!r}")
         return found[0]
 
 
@@ -67,7 +68,7 @@ class Label:
     def __post_init__(self) -> None:
         object.__setattr__(self, "categories", frozenset(self.categories))
         if not 0 <= self.level < 16 or any(not 0 <= it < 256 for it in self.categories):
-            raise ValueError(f"no label: {self}")
+            raise BadRequest(f"no label: {self}")
 
     def dominates(self, other: Label, *, library: Optional[str] = None) -> bool:
         """Whether this label dominates another: its level is no lower, and it has all categories of the other. The

@@ -1,5 +1,6 @@
 """The client of the service: its lines, answers and exceptions, over a socket that answers what the test says."""
 import socket
+import tempfile
 import threading
 import unittest
 import unittest.mock
@@ -194,9 +195,18 @@ class Clients(unittest.TestCase):
         threads[0].join()
         self.assertEqual(found, [True] * 4 * rounds)
 
+    def test_nothing_is_at_the_socket(self):
+        with tempfile.TemporaryDirectory() as folder, socket.socket(socket.AF_UNIX) as dead:
+            dead.bind(f"{folder}/dead")
+            for path, why in ((f"{folder}/none", "No such file"), (f"{folder}/dead", "refused"), ("x" * 200, "too long")):
+                with self.assertRaisesRegex(mls.NoService, why) as caught:
+                    mls.Client(path)
+                self.assertEqual((caught.exception.path, str(caught.exception).partition(":")[0]), (path, path))
+
     def test_exceptions_are_the_packages(self):
-        for kind in (mls.Refused, mls.Ended, mls.NotYours, mls.Busy):
-            self.assertTrue(issubclass(kind, mls.Error))
+        kinds = [it for it in map(mls.__dict__.get, mls.__all__) if isinstance(it, type) and issubclass(it, Exception)]
+        self.assertTrue(len(kinds) > 15 and all(issubclass(it, mls.Error) for it in kinds))
+        self.assertTrue(issubclass(mls.NoService, OSError) and issubclass(mls.NoLibrary, OSError))
         self.assertTrue(issubclass(mls.Ended, ConnectionError) and issubclass(mls.NotYours, PermissionError))
 
 

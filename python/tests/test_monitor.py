@@ -155,16 +155,19 @@ class Monitors(unittest.TestCase):
 
     def test_what_is_refused(self):
         rows = [
-            (b"{", 1, 0), (b"{}", 2, 0), (STANDARD.replace(b'["lo", "hi"]', b"[]"), 3, 1),
-            (STANDARD.replace(b'"current": "U"', b'"current": "T:A,B"', 1), 7, 6),
+            (b"{", 1, 0, "1 Json"), (b"{}", 2, 0, "2 Members"),
+            (STANDARD.replace(b'["lo", "hi"]', b"[]"), 3, 1, "3 Scheme 1 NoLevels"),
+            (STANDARD.replace(b'"current": "U"', b'"current": "T:A,B"', 1), 7, 6, "7 Start 6 CurrentAboveMaximum"),
         ]  # fmt: skip
-        for start, fault, cause in rows:
+        for start, fault, cause, text in rows:
             with self.assertRaises(mls.StartRefused) as caught:
                 mls.Monitor.open(start)
             self.assertEqual((caught.exception.fault, caught.exception.cause), (fault, cause))
+            self.assertEqual(str(caught.exception), f"start {text}")
         with self.assertRaises(mls.JournalRefused) as caught:
             mls.Monitor.resume(STANDARD, KEPT + b"x\n")
         self.assertEqual((caught.exception.line, caught.exception.fault), (2, 1))
+        self.assertEqual(str(caught.exception), "line 3: entry 1 BadForm")
         with self.assertRaises(mls.JournalRefused) as caught:
             mls.Monitor.resume(STANDARD, STANDARD)
         self.assertEqual((caught.exception.line, caught.exception.fault), (0, 1))
@@ -172,6 +175,8 @@ class Monitors(unittest.TestCase):
             with self.assertRaises(mls.ReplayDiffers) as caught:
                 mls.Monitor.resume(STANDARD, journal)
             self.assertEqual((caught.exception.entry, caught.exception.wanted), (entry, wanted))
+            text = f"1 Number at {entry}" if wanted is None else f"2 Differs at {entry} expected no star"
+            self.assertEqual(str(caught.exception), f"replay {text}")
 
     def test_a_monitor_that_goes_on(self):
         """A store in miniature: it keeps each line and each entry, and goes on from a state's text."""
@@ -204,11 +209,11 @@ class Monitors(unittest.TestCase):
         state = self.monitor.state_text()
         end = b"permit aud read plans\n"
         rows = [
-            (b"", 1, 0, "state: line 0: not of a state"), (state[:-1], 1, 21, "state: line 21: not of a state"),
-            (state.replace(b"next 4", b"next 3"), 1, 1, "state: line 1: not of a state"),
-            (state.replace(b"profile 1", b"profile 2"), 2, None, "state: of another start"),
-            (state.replace(b"bob maximum C", b"bob maximum S"), 2, None, "state: of another start"),
-            (state.replace(end, end + b"access bob read memo\n"), 3, None, "state: not secure"), (STANDARD, 1, 0, ""),
+            (b"", 1, 0, "line 1: not of a state"), (state[:-1], 1, 21, "line 22: not of a state"),
+            (state.replace(b"next 4", b"next 3"), 1, 1, "line 2: not of a state"),
+            (state.replace(b"profile 1", b"profile 2"), 2, None, "a state of another start"),
+            (state.replace(b"bob maximum C", b"bob maximum S"), 2, None, "a state of another start"),
+            (state.replace(end, end + b"access bob read memo\n"), 3, None, "a state that is not secure"), (STANDARD, 1, 0, ""),
         ]  # fmt: skip
         for text, fault, line, told in rows:
             with self.assertRaises(mls.StateRefused) as caught:

@@ -22,7 +22,7 @@ class Readers(unittest.TestCase):
         for a, b in itertools.product(labels, repeat=2):
             wanted = a.level >= b.level and a.categories >= b.categories
             self.assertIs(a.dominates(b), wanted, (a, b))
-        with self.assertRaises(OSError):
+        with self.assertRaisesRegex(mls.NoLibrary, "/no/such/library.*libmls0.*MLS_LIBRARY"):
             labels[0].dominates(labels[1], library="/no/such/library")
 
     def test_decisions_by_labels(self):

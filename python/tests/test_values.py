@@ -5,6 +5,7 @@ import enum
 import pathlib
 import re
 import unittest
+import unittest.mock
 
 import mls
 from mls import library, numbering
@@ -64,7 +65,7 @@ class Header(unittest.TestCase):
 
         kinds = [mls.Mode, mls.Reply, mls.Reason, mls.Compared]
         known = sum(map(of, kinds)) + of(mls.Basis, front="BY_") + of(mls.Kind, end="_LABEL")
-        for name in ("OBJECTS", "CONDITIONS", "SESSIONS"):
+        for name in ("OBJECTS", "CONDITIONS", "SESSIONS", "FAULT_TEXT"):
             self.assertEqual(numbers[name], getattr(library, name), name)
         for name, value in (("ECLOSED", library.CLOSED), ("ENOMEM", library.NO_MEMORY), ("EINVAL", library.INVALID),
                             ("ESTART", library.START_REFUSED), ("EJOURNAL", library.JOURNAL_REFUSED),
@@ -73,7 +74,7 @@ class Header(unittest.TestCase):
                             ("EBUSY", library.BUSY)):  # fmt: skip
             self.assertEqual(numbers[name], value, name)
         # and beside these: OK, EOPEN, the actions, and NO_TERM
-        self.assertEqual(len(numbers), known + 3 + 10 + 2 + len(mls.requests.ACTIONS) + 1)
+        self.assertEqual(len(numbers), known + 4 + 10 + 2 + len(mls.requests.ACTIONS) + 1)
 
 
 class Values(unittest.TestCase):
@@ -165,6 +166,22 @@ class Values(unittest.TestCase):
                 security=numbering.label_struct(high), integrity=numbering.label_struct(low),
             )  # fmt: skip
             self.assertEqual(numbering.request_of(struct), request)
+
+
+class Libraries(unittest.TestCase):
+
+    def test_a_library_that_is_not_there(self):
+        rows = [
+            ({}, "/no/such/file", "library='/no/such/file': "), ({"MLS_LIBRARY": "/none"}, None, "MLS_LIBRARY=/none: "),
+            ({}, "libc.so.6", "library='libc.so.6': "),
+        ]  # fmt: skip
+        for given, name, front in rows:
+            library.load.cache_clear()
+            with unittest.mock.patch.dict("os.environ", given), self.assertRaises(mls.NoLibrary) as caught:
+                library.load(name)
+            told = str(caught.exception)
+            self.assertTrue(told.startswith(front) and "libmls0" in told and "MLS_LIBRARY" in told, told)
+        library.load.cache_clear()
 
 
 if __name__ == "__main__":

@@ -191,6 +191,9 @@ pub struct mls_fault {
     pub place: u64,
 }
 
+/// The line of a fault is not longer than this.
+pub const MLS_FAULT_TEXT: usize = 80;
+
 /// A subject: its labels, and 1 where the star property doesn't bind it, else 0.
 #[repr(C)]
 #[derive(Clone, Copy, Debug, Default, PartialEq, Eq, Hash)]
@@ -356,6 +359,13 @@ extern "C" {
     pub fn mls_session_submit(s: *mut mls_session, request: *const mls_request, answer: *mut mls_answer) -> c_int;
     pub fn mls_session_check(s: *mut mls_session, subject: u16, object: u16, mode: u8, held: *mut c_int) -> c_int;
     pub fn mls_session_decide(s: *mut mls_session, request: *const mls_request, answer: *mut mls_answer) -> c_int;
+    pub fn mls_fault_text(
+        status: c_int,
+        fault: *const mls_fault,
+        buf: *mut c_char,
+        cap: usize,
+        len: *mut usize,
+    ) -> c_int;
     pub fn mls_version() -> *const c_char;
     pub fn mls_status_word(status: c_int) -> *const c_char;
     pub fn mls_action_word(action: c_int) -> *const c_char;

@@ -6,7 +6,7 @@ mod plain;
 mod readers;
 
 pub(crate) use offices::{OfficeHandle, SessionHandle};
-pub(crate) use plain::{dominates, mode_word, reason_word, reply_word, version};
+pub(crate) use plain::{dominates, fault_text, mode_word, reason_word, reply_word, version};
 
 use mls_sys::*;
 use std::borrow::Cow;

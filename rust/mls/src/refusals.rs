@@ -1,4 +1,5 @@
 //! Why a monitor isn't opened.
+use crate::handle::fault_text;
 use crate::{EntryFault, LoadFault, Reply};
 use mls_sys::*;
 use std::os::raw::c_int;
@@ -90,7 +91,8 @@ impl fmt::Display for OpenError {
             }
             OpenError::OutOfMemory => f.write_str("an allocation failed"),
             OpenError::Other { status, kind, number, place } => {
-                write!(f, "status {status}: fault {kind} {number} at {place}")
+                let fault = mls_fault { kind: *kind, number: *number, place: *place };
+                write!(f, "status {status}: {}", fault_text(*status, &fault))
             }
         }
     }
@@ -101,6 +103,25 @@ impl error::Error for OpenError {}
 #[cfg(test)]
 mod tests {
     use super::*;
+
+    #[test]
+    fn the_library_says_the_same() {
+        let mut known = 0;
+        for status in [MLS_ESTART, MLS_EJOURNAL, MLS_EREPLAY] {
+            for (kind, number) in (0..9).flat_map(|kind| (0..26).map(move |number| (kind, number))) {
+                let fault = mls_fault { kind, number, place: 6 };
+                let told = OpenError::told(status, fault);
+                let is_known = !matches!(Reply::told(number), Reply::Other(_)) || (status, kind) != (MLS_EREPLAY, 2);
+                if is_known && !matches!(told, OpenError::Other { .. }) {
+                    assert_eq!(told.to_string(), fault_text(status, &fault), "{status} {kind} {number}");
+                    known += 1;
+                }
+            }
+        }
+        assert!(known > 100);
+        let later = OpenError::told(MLS_ESTART, mls_fault { kind: 9, number: 0, place: 0 });
+        assert_eq!(later.to_string(), "status -5: start 9 ?");
+    }
 
     #[test]
     fn faults_of_a_later_library() {

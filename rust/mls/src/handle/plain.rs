@@ -27,6 +27,15 @@ pub(crate) fn reason_word(reason: u16) -> &'static str {
     word(mls_reason_word, reason.into())
 }
 
+/// The line that the program mls prints of a fault, by `mls_fault_text`.
+pub(crate) fn fault_text(status: c_int, fault: &mls_fault) -> String {
+    let (mut room, mut len) = ([0u8; MLS_FAULT_TEXT], 0);
+    // SAFETY: the fault is valid, and the room and the length are this function's alone.
+    let status = unsafe { mls_fault_text(status, fault, room.as_mut_ptr().cast(), room.len(), &mut len) };
+    let len = if status == MLS_OK { len.min(room.len()) } else { 0 };
+    String::from_utf8_lossy(&room[..len]).into_owned()
+}
+
 /// The library's version, as MAJOR.MINOR.
 pub(crate) fn version() -> &'static str {
     // SAFETY: it is text that ends with 0 and stays.
