@@ -2,7 +2,7 @@
 random journals."""
 import abouts
 import time_rows
-from asking import HELD, NO_TIME, OPENED, STANDARD, asks, put_faulty, put_marks, shown_below
+from asking import GONE, HELD, NO_TIME, OPENED, STANDARD, asks, put_faulty, put_marks, shown_below
 from outside import in_its_folder, put
 from question_rows import RELABELED
 
@@ -128,14 +128,14 @@ def names_that_nothing_has():
 def faults_of_about_in_their_order():
     put_faulty(JOURNAL, b"no authority")
     asked = lambda journal, *words: ["--journal", journal, *words, "file"]
-    refused(asked("no.journal", "no.json"), "no.json: file")
-    refused(asked("no.journal", "empty.json"), "no.journal: file")
-    refused(asked("opened.journal", "--marks", "no.marks", STANDARD), "no.marks: file")
+    refused(asked("no.journal", "no.json"), f"no.json: {GONE}")
+    refused(asked("no.journal", "empty.json"), f"no.journal: {GONE}")
+    refused(asked("opened.journal", "--marks", "no.marks", STANDARD), f"no.marks: {GONE}")
     refused(asked("opened.journal", "--marks", "none.marks", STANDARD), "none.marks: line 1: mark")
-    refused(["empty.json", "file"], "empty.json: start 1 Json")
+    refused(["empty.json", "file"], "empty.json: start 1 Json: empty")
     refused(asked("torn.journal", STANDARD), "torn.journal: line 12: entry 1 BadForm")
-    refused(asked("forged.journal", STANDARD), "forged.journal: replay 2 Differs at 5 expected no authority", 3)
-    refused(asked("opened.journal", "--at", "13", STANDARD), "opened.journal: at most 12")
+    refused(asked("forged.journal", STANDARD), "forged.journal: replay 2 Differs at 5 expected no authority, found yes", 3)
+    refused(asked("opened.journal", "--at", "13", STANDARD), "opened.journal: the journal has 12 entries")
     refused(asked("opened.journal", "--at", "12", STANDARD), "file: bad name")
 
 

@@ -8,8 +8,12 @@ from outside import EXAMPLES, TOP, put, ran_program, same
 STANDARD, OFFICE, HELD, REUSED = (f"{EXAMPLES}/{it}.json" for it in ("standard", "office", "held", "reused"))
 # The journal of the example of `held` in FORMATS.md.
 OPENED = b"0 0 0 get-read 1 yes\n1 0 1 get-read 2 no star\n2 0 0 release read 1 yes\n3 0 0 get-read 1 yes\n4 0 2 get-write 0 yes\n"
+# What is told of a file that isn't there.
+GONE = "No such file or directory (os error 2)"
+# What is told of a word that begins no reply.
+NO_REPLY = "begins no reply: yes, no, created, undefined, 'created N' or 'no REASON'"
 # What is told of a word that is no time.
-NO_TIME = "no time such as 2026-11-27T12:12:26Z or 2026-11-27"
+NO_TIME = "not a time; write it as 2026-11-27T12:12:26Z or 2026-11-27"
 
 
 def said(*words):

@@ -33,6 +33,7 @@ CHECKS = [Check("library", (".ci/check-c", ), PROOF, 900), Check("refusals", (".
           Check("rows", (".ci/check-rows", ), PROGRAM, 90), Check("runs", (".ci/check-runs", ), PROGRAM, 80),
           Check("starts", (".ci/check-starts", ), PROGRAM, 60), Check("program", (".ci/check-program", ), PROGRAM, 50),
           Check("scripts", (".ci/check-scripts", ), PROGRAM, 40),
+          Check("versions", (".ci/check-versions", ), PROGRAM, 20),
           Check("installation", (".ci/check-install", ), PROGRAM, 30),
           Check("front", (".ci/check-mlsd", "--short"), PROOF, 60),
           Check("database", ("integrations/postgresql/check", ), PROGRAM, 60),

@@ -1,7 +1,7 @@
 """Comparisons of the examples with variants of themselves, with answers that were worked out by hand from docs/POLICY.md and docs/FORMATS.md."""
 import json
 
-from asking import OFFICE, STANDARD, asks, put_faulty, shown_below
+from asking import GONE, OFFICE, STANDARD, asks, put_faulty, shown_below
 from outside import EXAMPLES, examples, put, ran_program
 from question_rows import MEMO, STRANGE
 
@@ -108,6 +108,10 @@ def without_write(data):
     data["matrix"].remove(cell(data, "sec", "root"))
 
 
+def writing_root(data):
+    data["matrix"].append({"subject": "ann", "object": "root", "modes": ["write"]})
+
+
 # a start, another, and what is told of them
 STARTS = [
     (as_it_is, as_it_is, ""),
@@ -153,6 +157,21 @@ STARTS = [
     (as_it_is, without_write, "permit sec write root: only in first.json\nsec write root: yes > no discretionary\n"),
 ]
 
+# a start, another, and what untrusted subjects could get by one of them alone
+COULDS = [
+    (as_it_is, as_it_is, ""), (as_it_is, reordered, ""), (as_it_is, profile_2, ""), (as_it_is, without_write, ""), (as_it_is, without_bob, ""),
+    (as_it_is, newer, "could bob read memo: only in first.json\ncould bob execute tool: only in first.json\n"),
+    (newer, as_it_is, "could bob read memo: only in second.json\ncould bob execute tool: only in second.json\n"),
+    (as_it_is, higher, "could ann read plans: only in first.json\ncould ann write plans: only in first.json\n"),
+    (as_it_is, writing_root,
+     "could ann write root: only in second.json\n"
+     "could ann execute plans: only in second.json\ncould ann append plans: only in second.json\n"
+     "could ann append memo: only in second.json\ncould ann append tool: only in second.json\n"
+     "could bob execute plans: only in second.json\n"
+     "could bob execute memo: only in second.json\ncould bob append memo: only in second.json\ncould bob write memo: only in second.json\n"
+     "could bob read tool: only in second.json\ncould bob append tool: only in second.json\ncould bob write tool: only in second.json\n"),
+]
+
 # a start, another, a journal of the first, and what is told of them
 JOURNALS = [
     (as_it_is, newer, MEMO, "entry 1 bob get-read memo: no star > yes\n"), (as_it_is, newer, MADE, ""),
@@ -192,10 +211,16 @@ def starts_that_are_compared():
     told([OFFICE, OFFICE], "")
 
 
-def example_of_the_documents():
-    """The example of docs/FORMATS.md."""
-    shown = dict(shown_below("mls compare examples/standard.json new.json"))
-    told([STANDARD, variant("new.json", newer)], shown[""])
+def what_could_by_one_start_alone():
+    for first, second, text in COULDS:
+        told(["--could", variant("first.json", first), variant("second.json", second)], text)
+
+
+def examples_of_the_documents():
+    """The examples of docs/FORMATS.md."""
+    for words in ([], ["--could"]):
+        shown = dict(shown_below(" ".join(["mls compare", *words, "examples/standard.json new.json"])))
+        told([*words, STANDARD, variant("new.json", newer)], shown[""].replace("examples/standard.json", STANDARD))
 
 
 def journals_that_are_asked_of_another_start():
@@ -206,17 +231,18 @@ def journals_that_are_asked_of_another_start():
 def faults_of_a_comparison():
     put_faulty(MEMO)
     put("broken.json", b"{")
-    refused(["no.json", "none.json", "absent.journal"], "no.json: file")
-    refused(["empty.json", "none.json", "absent.journal"], "none.json: file")
-    refused(["empty.json", "broken.json", "absent.journal"], "absent.journal: file")
-    refused(["empty.json", "broken.json", "torn.journal"], "empty.json: start 1 Json")
+    refused(["no.json", "none.json", "absent.journal"], f"no.json: {GONE}")
+    refused(["empty.json", "none.json", "absent.journal"], f"none.json: {GONE}")
+    refused(["empty.json", "broken.json", "absent.journal"], f"absent.journal: {GONE}")
+    refused(["empty.json", "broken.json", "torn.journal"], "empty.json: start 1 Json: empty")
     refused([STANDARD, "broken.json", "torn.journal"], "broken.json: start 1 Json")
     refused([STANDARD, "broken.json", "forged.journal"], "broken.json: start 1 Json")
     refused([STANDARD, STANDARD, "torn.journal"], "torn.journal: line 3: entry 1 BadForm")
-    refused([STANDARD, STANDARD, "forged.journal"], "forged.journal: replay 2 Differs at 1 expected no star", 3)
-    refused(["empty.json", "broken.json"], "empty.json: start 1 Json")
-    refused([STANDARD, "broken.json"], "broken.json: start 1 Json")
-    not_understood([STANDARD], [], [STANDARD, STANDARD, "j", "k"], ["--at", "0", STANDARD, STANDARD])
+    refused([STANDARD, STANDARD, "forged.journal"], "forged.journal: replay 2 Differs at 1 expected no star, found yes", 3)
+    for words in ([], ["--could"]):
+        refused([*words, "empty.json", "broken.json"], "empty.json: start 1 Json: empty")
+        refused([*words, STANDARD, "broken.json"], "broken.json: start 1 Json")
+    not_understood([STANDARD], [], [STANDARD, STANDARD, "j", "k"], ["--at", "0", STANDARD, STANDARD], ["--could", STANDARD, STANDARD, "first.journal"])
 
 
 def examples_compared():
@@ -232,4 +258,5 @@ def examples_compared():
             told(words, "")
 
 
-CHECKS = [starts_that_are_compared, example_of_the_documents, journals_that_are_asked_of_another_start, examples_compared, faults_of_a_comparison]
+CHECKS = [starts_that_are_compared, what_could_by_one_start_alone, examples_of_the_documents, journals_that_are_asked_of_another_start,
+          examples_compared, faults_of_a_comparison]

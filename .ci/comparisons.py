@@ -1,6 +1,7 @@
 """What `mls compare` prints, in Python from docs/FORMATS.md over the policy of policy.py."""
 import copy
 
+import closures
 from policy import KINDS, MODES, words_of
 
 
@@ -63,11 +64,27 @@ def only_lines(words, first, second):
     return lines
 
 
+def pairs_of_gets(first, second):
+    """The gets of subjects and objects that two starts share, by the numbers that these have in each."""
+    subjects, objects = by_name(first.subjects, second.subjects), by_name(first.objects, second.objects)
+    return [(s, t, o, p, x) for s, t in subjects.items() for o, p in objects.items() for x in range(len(MODES))]
+
+
+def gets_of(first, second):
+    """Those gets by the first's numbers, with the replies of both openings."""
+    for s, t, o, p, x in pairs_of_gets(first, second):
+        yield s, o, x, first.decide(s, (f"get-{MODES[x]}", x, o)), second.decide(t, (f"get-{MODES[x]}", x, p))
+
+
+def get_words(first, s, o, x):
+    return f"{first.subjects[s]} {MODES[x]} {first.objects[o]}"
+
+
 def starts(words, first, second):
     """What is printed of two starts, and the status."""
     subjects, objects = by_name(first.subjects, second.subjects), by_name(first.objects, second.objects)
-    gets = [(s, t, o, p, x) for s, t in subjects.items() for o, p in objects.items() for x in range(len(MODES))]
-    named = lambda s, o, x: f"{first.subjects[s]} {MODES[x]} {first.objects[o]}"
+    gets = pairs_of_gets(first, second)
+    named = lambda s, o, x: get_words(first, s, o, x)
     lines = changed("profile", first.profile, second.profile)
     lines += order("security", first.security.levels, second.security.levels)
     lines += order("integrity", first.integrity.levels, second.integrity.levels)
@@ -80,8 +97,7 @@ def starts(words, first, second):
             if file := alone(words, (s, o, x) in here, (t, p, x) in there):
                 lines.append(f"{word} {named(s, o, x)}: only in {file}\n")
     lines += only_lines(words, first, second)
-    for s, t, o, p, x in gets:
-        here, there = first.decide(s, (f"get-{MODES[x]}", x, o)), second.decide(t, (f"get-{MODES[x]}", x, p))
+    for s, o, x, here, there in gets_of(first, second):
         lines += changed(named(s, o, x), here, there)
     return ended(lines)
 
@@ -116,16 +132,40 @@ def objects_after(objects, here, there):
     return left if None in (made(here), made(there)) else {**left, made(here): made(there)}
 
 
-def journal(first, second, entries):
-    """What is printed of a journal of the first of two starts, and the status."""
+def replies_there(first, second, entries):
+    """The replies of the second of two starts to entries of the first, each beside its entry."""
     subjects, objects = by_name(first.subjects, second.subjects), by_name(first.objects, second.objects)
-    second, lines = copy.deepcopy(second), []
+    second = copy.deepcopy(second)
     for it in entries:
         asked = action_there(first, second, subjects, objects, it.action)
         known = asked is not None and it.subject in subjects
         there = second.apply(subjects[it.subject], asked) if known else "undefined"
-        agrees = it.reply == there or None not in (made(it.reply), made(there))
-        if not agrees:
-            lines.append(f"entry {it.number} {first.subject(it.subject)} {words_of(first, it.action)}: {it.reply} > {there}\n")
+        yield it, there
         objects = objects_after(objects, it.reply, there)
+
+
+def agree(here, there):
+    """Whether two replies agree: whatever the numbers of objects that were made."""
+    return here == there or None not in (made(here), made(there))
+
+
+def entry_line(first, it, there):
+    return f"entry {it.number} {first.subject(it.subject)} {words_of(first, it.action)}: {it.reply} > {there}\n"
+
+
+def journal(first, second, entries):
+    """What is printed of a journal of the first of two starts, and the status."""
+    return ended([entry_line(first, it, there) for it, there in replies_there(first, second, entries) if not agree(it.reply, there)])
+
+
+def coulds(words, first, second):
+    """What `compare --could` prints, and its status."""
+    one, other = (closures.closure(it, closures.untrusted(it))[0] for it in (first, second))
+    subjects, objects = by_name(first.subjects, second.subjects), by_name(first.objects, second.objects)
+    lines = []
+    for s in subjects:
+        for o in objects:
+            for x, mode in enumerate(MODES):
+                word = alone(words, (s, o, x) in one, (subjects[s], objects[o], x) in other)
+                lines += [f"could {first.subjects[s]} {mode} {first.objects[o]}: only in {word}\n"] if word else []
     return ended(lines)

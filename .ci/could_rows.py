@@ -1,7 +1,7 @@
 """What could ever come about of an object: `mls who --could`, with answers by hand, and with those that futures.py finds by a fixpoint over
 all triples of random states."""
 import futures
-from asking import HELD, OPENED, STANDARD, asks, journal_of, put_faulty, shown_below
+from asking import GONE, HELD, OPENED, STANDARD, asks, journal_of, put_faulty, shown_below
 from outside import in_its_folder, put
 from policy import MODES
 
@@ -56,7 +56,7 @@ def could_from_a_state_of_a_journal():
 def faults_of_could_in_their_order():
     put_faulty()
     for words, told, status in (
-        ("no.json file", "no.json: file", 1), ("empty.json file", "empty.json: start 1 Json", 1),
+        ("no.json file", f"no.json: {GONE}", 1), ("empty.json file", "empty.json: start 1 Json: empty", 1),
         (f"--journal torn.journal {HELD} file", "torn.journal: line 5: entry 1 BadForm", 1),
         (f"--by bobb {HELD} file", "file: bad name", 1), (f"--by bobb {HELD} memo", "bobb: bad name (bob?)", 1),
         (f"--by ann,,bob {HELD} memo", ": bad name", 1), (f"--without ann,#9 {HELD} memo", "#9: bad name", 1),

@@ -51,7 +51,8 @@ def killed_while_it_serves(rnd, run, due, said, latest=LATEST_KILL):
 def are_marked(journal, before, due, output, written):
     """Each entry of which something was answered has a mark in m that agrees."""
     noted = content("m") if os.path.exists("m") else b""
-    covered = marks.covered(journal, marks.read(noted[: noted.rfind(b"\n") + 1]))
+    older = content("m.1") if os.path.exists("m.1") else b""
+    covered = marks.checked(journal, noted[: noted.rfind(b"\n") + 1], older)
     needed = count_of(before + due.behind(written))
     assert not output or covered >= needed, f"{needed} entries were answered, {covered} have a mark"
 

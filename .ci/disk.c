@@ -98,7 +98,7 @@ static void note(const char *asked, int fd, long bytes, int is_done) {
 /* Whether a name is the one of DISK_OF, or none is given. */
 static int is_name_of(const char *name) {
     const char *of = getenv("DISK_OF"), *last = strrchr(name, '/');
-    return !of || (last && !strcmp(last + 1, of));
+    return !of || !strcmp(last ? last + 1 : name, of);
 }
 
 /* Whether an open file is the one of DISK_OF, or none is given. */

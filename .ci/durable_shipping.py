@@ -119,7 +119,9 @@ def journal_that_lost_what_was_shipped():
         with open("lost", "r+b") as file:
             file.write(other)
         shipping.until("kept", other)
-    same((content("kept.old"), content("kept.old.1"), os.path.exists("kept.old.2")), (first, front, False))
+    # (lines that were written between the look at what was sent and the next lines may have been sent, too, by then)
+    assert content("kept.old.1") in (front, front + other[len(front):])
+    same((content("kept.old"), os.path.exists("kept.old.2")), (first, False))
     same(shipping.told, 2 * b"ship-journal: lost: what was sent isn't there any more\n")
 
 

@@ -2,7 +2,7 @@
 journals."""
 import evers
 import time_rows
-from asking import HELD, NO_TIME, OPENED, REUSED, STANDARD, asks, documents, journal_of, part_by_chance, put_faulty, put_marks, shown_below
+from asking import GONE, HELD, NO_TIME, OPENED, REUSED, STANDARD, asks, documents, journal_of, part_by_chance, put_faulty, put_marks, shown_below
 from outside import in_its_folder, put
 from policy import MODES
 
@@ -56,7 +56,6 @@ MARKED = [
     ("--since 2026-11-28 #4", f"bob read: 14 {NOON} to 15 [-]\n", 0),
     ("--since 2026-11-28 plans read", f"ann read: 8 {ELEVEN} on\naud read: start on\n", 0), ("--until 2026-11-26 memo read", NEVER, 4),
     ("--until 2026-11-26 plans read", f"ann read: start to 7 {ELEVEN}\naud read: start on\n", 0),
-    ("--since 2026-11-27T12:00:00Z --until 2026-11-27T10:00:00Z plans", "", 4),
 ]
 
 
@@ -114,15 +113,17 @@ def who_could_ever_get_a_number_that_is_used_again():
 def faults_of_ever_in_their_order():
     put_faulty()
     for words, told, status in (
-        ("no.journal no.json file", "no.json: file", 1), ("no.journal empty.json file", "no.journal: file", 1),
-        (f"opened.journal --marks no.marks {HELD} file", "no.marks: file", 1),
+        ("no.journal no.json file", f"no.json: {GONE}", 1), ("no.journal empty.json file", f"no.journal: {GONE}", 1),
+        (f"opened.journal --marks no.marks {HELD} file", f"no.marks: {GONE}", 1),
         (f"opened.journal --marks none.marks {HELD} file", "none.marks: line 1: mark", 1),
-        ("torn.journal empty.json file", "empty.json: start 1 Json", 1),
+        ("torn.journal empty.json file", "empty.json: start 1 Json: empty", 1),
         (f"torn.journal {HELD} file", "torn.journal: line 5: entry 1 BadForm", 1),
-        (f"forged.journal {HELD} file", "forged.journal: replay 2 Differs at 1 expected no star", 3),
-        (f"opened.journal --from 6 {HELD} file", "opened.journal: at most 5", 1), (f"opened.journal --from 5 {HELD} file", "file: bad name", 1),
+        (f"forged.journal {HELD} file", "forged.journal: replay 2 Differs at 1 expected no star, found yes", 3),
+        (f"opened.journal --from 6 {HELD} file", "opened.journal: the journal has 5 entries", 1), (f"opened.journal --from 5 {HELD} file", "file: bad name", 1),
         (f"opened.journal {HELD} memmo", "memmo: bad name (memo?)", 1), ("no.journal --from 3 --to 2 no.json file", "--from 3: above --to 2", 2),
         ("no.journal --marks no.marks --since now no.json file", f"--since now: {NO_TIME}", 2),
+        ("no.journal --marks no.marks --since 2026-11-27T12:00:00Z --until 2026-11-27T10:00:00Z no.json file",
+         "--since 2026-11-27T12:00:00Z: behind --until 2026-11-27T10:00:00Z", 2),
         ("no.journal --marks no.marks --until now no.json file", f"--until now: {NO_TIME}", 2),
     ):
         refused(["--ever", "--journal", *words.split()], told, status)

@@ -4,7 +4,7 @@ import subprocess
 
 import question_texts as texts
 import question_worlds as worlds
-from asking import HELD, STANDARD, asks, put_faulty, shown_below
+from asking import GONE, HELD, STANDARD, asks, put_faulty, shown_below
 from outside import PROGRAM, SECONDS, in_its_folder, put, ran_program, same
 from question_rows import EXPLAINED, GIVEN, MEMO, STRANGE
 
@@ -15,21 +15,22 @@ MEMO_LINES = ["0 session 0 ann get-read plans: yes\n" + READ, "1 session 0 bob g
               "2 session 0 ann release read plans: yes\n"]
 GIVEN_LINES = [
     "0 session 0 sec get-write root: yes\n  discretionary holds: sec is permitted write of root\n  simple holds: maximum T:A,B dominates U of root\n"
-    "  star holds: sec is trusted\n  integrity holds: hi of sec equals hi of root\n",
+    "  star holds: current U equals U of root\n  integrity holds: hi of sec equals hi of root\n",
     "1 session 0 sec give read bob plans: yes\n  authority holds: sec holds write on root\n",
     "2 session 0 sec rescind read bob plans: yes\n  authority holds: sec holds write on root\n",
     "3 session 0 bob get-read plans: no discretionary\n  discretionary fails: bob is not permitted read of plans\n"
     "  simple fails: maximum C does not dominate S:A of plans\n  star fails: current U does not dominate S:A of plans\n"
     "  integrity holds: hi of plans dominates lo of bob\n  remedy: none by level\n",
-    "4 session 0 ann give read bob plans: no authority\n  authority fails: ann does not hold write on root\n",
+    "4 session 0 ann give read bob plans: no authority\n  authority fails: ann does not hold write on root\n"
+    "  remedy: sec gives read plans to bob instead\n",
 ]
-UNDEFINED = ("2 session 1 sec relabel #4 9:7: undefined\n  security label outside the scheme: 9:7\n"
+UNDEFINED = ("2 session 1 sec relabel #4 #9:#7: undefined\n  security label outside the scheme: #9:#7\n"
               "3 session 1 #9 give read #9 #9: undefined\n  unknown subject: #9\n  inactive object: #9\n")
 # Of examples/held.json, in which ann holds read on plans: accesses in the way stand below their condition here too.
 IN_THE_WAY = b"0 0 0 level 0 no star\n1 0 0 release read 1 yes\n2 0 0 level 0 yes\n"
 IN_THE_WAY_LINES = [
     "0 session 0 ann level U: no star\n  ceiling holds: maximum S:A dominates new U\n"
-    "  star fails: not all that ann holds meets star at new U\n    plans read\n",
+    "  star fails: not all that ann holds meets star at new U\n    plans read\n  remedy: ann release read plans\n",
     "1 session 0 ann release read plans: yes\n",
     "2 session 0 ann level U: yes\n  ceiling holds: maximum S:A dominates new U\n  star holds: all that ann holds meets star at new U\n",
 ]
@@ -65,9 +66,9 @@ def faults_of_entries_that_are_explained():
     put_journals()
     put_faulty(MEMO)
     names = ["--explain", "--object", "file", "--by", "yan"]
-    refused([*names, "no.json", "memo.journal"], "no.json: file")
+    refused([*names, "no.json", "memo.journal"], f"no.json: {GONE}")
     refused([*names, STANDARD, "torn.journal"], "torn.journal: line 3: entry 1 BadForm")
-    refused([*names, STANDARD, "forged.journal"], "forged.journal: replay 2 Differs at 1 expected no star", 3)
+    refused([*names, STANDARD, "forged.journal"], "forged.journal: replay 2 Differs at 1 expected no star, found yes", 3)
     refused([*names, "--subject", "zoe", STANDARD, "memo.journal"], "zoe: bad name (bob?)")
     refused([*names, STANDARD, "memo.journal"], "yan: bad name (ann?)")
     refused([*names[:3], STANDARD, "memo.journal"], "file: bad name")
@@ -101,7 +102,17 @@ def entries_listed_and_explained(world):
     same("".join(line + texts.under(told) for line, told in zip(lines, alone)), text)
 
 
+def entries_that_trust_granted(world):
+    """Those of some entries of a random journal that would not have been granted if the subject that asked were not trusted."""
+    words, asked = worlds.some_filter(world.rnd, world.opening, world.entries)
+    found = [it for it in texts.listed(world.opening, world.entries, **asked) if world.before(it.number).uses_trust(it.subject, it.action)]
+    files = ["--used-trust", *words, world.start, world.journal]
+    text, status = texts.journal(world.opening, found)
+    same(ran_program(["journal", *files]), (status, text.encode(), b""))
+    same(ran_program(["journal", "--summary", *files]), (status, texts.summary(world.opening, found)[0].encode(), b""))
+
+
 CHECKS = [*map(in_its_folder, [entries_that_are_listed_and_explained, faults_of_entries_that_are_explained,
            entries_that_are_written_in_pieces, ])]
 # (it is asked of random starts and journals)
-OF_WORLDS = [entries_listed_and_explained]
+OF_WORLDS = [entries_listed_and_explained, entries_that_trust_granted]

@@ -45,7 +45,8 @@ def check_lines(row):
 
 def verify_lines(row):
     times = f"from {row['from']} to {row['to']}\n" if "from" in row else ""
-    return f"entries {row['entries']}\nlast {row['last']}\n{times}" + (f"unmarked {row['unmarked']}\n" if "unmarked" in row else "")
+    counts = [f"{name} {row[name]}\n" for name in ("back", "unmarked") if name in row]
+    return f"entries {row['entries']}\nlast {row['last']}\n{times}{''.join(counts)}"
 
 
 def ask_lines(row):
@@ -53,7 +54,7 @@ def ask_lines(row):
 
 
 def condition_lines(row):
-    lines = [f"{row['reason']} {'holds' if row['holds'] else 'fails'}: {row['basis']}\n"]
+    lines = [f"{row['reason']} {'holds by trust' if row.get('by_trust') else 'holds' if row['holds'] else 'fails'}: {row['basis']}\n"]
     for it in row.get("accesses", []):
         lines.append(f"  {named(it, 'object' if 'object' in it or 'object_name' in it else 'subject')} {it['mode']}\n")
     return "".join(lines)
@@ -69,11 +70,26 @@ def missing_line(row):
 def explain_lines(row, subject):
     """The subject that asks is told by the words alone."""
     lines = [ask_lines(row), *map(condition_lines, row.get("conditions", [])), *map(missing_line, row.get("missing", []))]
-    if "remedy" in row:
-        asked = [f"{subject} release {it['mode']} {named(it, 'object')}" for it in row.get("releases", [])]
-        asked.append("none by level" if row["remedy"] is None else f"{subject} level {row['remedy']}")
-        lines += [f"remedy: {it}\n" for it in asked]
-    return "".join(lines)
+    steps = [step_words(it) for it in row.get("steps", [])]
+    if row.get("remedy") is not None:
+        releases = [f"{subject} release {it['mode']} {named(it, 'object')}" for it in row.get("releases", [])]
+        same(steps, [*releases, f"{subject} level {row['remedy']}"])
+    if "instead" in row:
+        steps.append(f"{step_words(row['instead'])} instead")
+    if "none" in row:
+        steps.append({"level": lambda: "none by level", "request": lambda: "none", "giver": lambda: f"none now: nobody {gives(row['lacks'])}"}[row["none"]]())
+    return "".join([*lines, *(f"remedy: {it}\n" for it in steps)])
+
+
+def gives(row):
+    """What is given to whom."""
+    return f"gives {row['mode']} {named(row, 'object')} to {named(row, 'whose')}"
+
+
+def step_words(row):
+    """A request of a remedy, with the subjects of whom any may make it."""
+    who = " or ".join(named(it, "subject") for it in [row, *row.get("or", [])])
+    return f"{who} {gives(row) if row['action'] == 'give' else asked(row).partition(' ')[2]}"
 
 
 def get_words(row):
@@ -106,6 +122,13 @@ def future_line(row):
     return f"{named(row, 'subject')} {row['mode']}: {row['future']}\n"
 
 
+def could_line(row):
+    """Whether an access could come about; a request of the script, or a reason."""
+    if "answer" in row:
+        return f"{row['answer']}\n"
+    return f"{row['reason']}: {row['basis']}\n" if "reason" in row else f"{asked(row)}\n"
+
+
 def powers_line(row):
     words = {
         "give": lambda: f"gives and rescinds {named(row, 'object')}",
@@ -123,6 +146,7 @@ def lint_line(row):
         "unused": lambda: f"unused: {named(row, 'object')}",
         "idle": lambda: f"idle: {named(row, 'subject')}",
         "downflow": lambda: f"downflow: {named(row, 'subject')}: {row['pairs']} pair{'s' * (row['pairs'] != 1)}, as {named(row, 'from')} to {named(row, 'to')}",
+        "could": lambda: f"could: {str(row['more']) + ' more' if 'more' in row else access(row)}, by untrusted subjects",
         "syntax": lambda: f"{row['pointer']}: line {row['line']}, column {row['column']}",
     }
     return words.get(row["finding"], lambda: f"{row['pointer']}: {row['finding']}")() + "\n"
@@ -174,6 +198,9 @@ def held_line(row):
 def usage_line(row):
     if "permissions" in row:
         return f"{row['permissions']} permission{'s' * (row['permissions'] != 1)}, {row['never_granted']} never granted\n"
+    if "by_trust" in row:
+        used = "never used" if row["last"] is None else f"{row['by_trust']} granted, last {at(row, 'last')}"
+        return f"{named(row, 'subject')} trust: {used}\n"
     if row["granted"] == row["denied"] == 0:
         return f"{access(row)}: never asked\n"
     return f"{access(row)}: {row['granted']} granted, {row['denied']} denied, last {'start' if row['last'] is None else at(row, 'last')}\n"
@@ -192,7 +219,7 @@ def compare_line(row, *files):
     sides = lambda shown: f"{shown(first)} > {shown(second)}"
     if difference == "name":
         return f"only in {file}: {row['scheme'] + ' ' if 'scheme' in row else ''}{row['kind']} {row['name']}\n"
-    if difference in ("permit", "access"):
+    if difference in ("permit", "access", "could"):
         return f"{difference} {access(row)}: only in {file}\n"
     if difference == "profile":
         return f"profile: {sides(str)}\n"
@@ -207,15 +234,23 @@ def compare_line(row, *files):
     return f"{kind} {named(row, kind)} {difference}: {sides(shown)}\n"
 
 
+def counts_line(row):
+    """How much differs between two starts: in all, of a subject by the first words of both replies, or by the second's reason."""
+    for kind in ("changes", "gets", "entries"):
+        if kind in row:
+            return f"{kind} {row[kind]}\n"
+    return f"no {row['reason']} {row['count']}\n" if "reason" in row else f"{named(row, 'subject')} {row['first']} > {row['second']} {row['count']}\n"
+
+
 def summary_lines(row):
     lines = [f"entries {row['entries']}\n", *(f"{named(it, 'subject')} {it['reply']} {it['entries']}\n" for it in row.get("replies", []))]
     return "".join(lines + [f"no {it['reason']} {it['entries']}\n" for it in row.get("reasons", [])])
 
 
 LINES = {
-    "check": check_lines, "verify": verify_lines, "ask": ask_lines, "explain": explain_lines, "who": who_line, "ever": ever_line, "future": future_line, "powers": powers_line,
-    "about": about_line, "lint": lint_line,
-    "state": state_line, "held": held_line, "usage": usage_line, "compare": compare_line, "summary": summary_lines,
+    "check": check_lines, "verify": verify_lines, "ask": ask_lines, "explain": explain_lines, "who": who_line, "ever": ever_line,
+    "future": future_line, "could": could_line, "powers": powers_line, "about": about_line, "lint": lint_line,
+    "state": state_line, "held": held_line, "usage": usage_line, "compare": compare_line, "counts": counts_line, "summary": summary_lines,
 }
 # The objects that were met, by their schema, each once; all of them are held to it at the end.
 MET = {}
@@ -292,6 +327,8 @@ def told_of_state(words, state, lines):
         if "--journal" in words and "--at" not in words:
             told("ever", ["who", "--ever", *words, f"#{o}"])
         told("future", ["who", "--could", "--all", *words, f"#{o}"])
+        for actors in ([], ["--all"]):
+            told("could", ["could", *actors, *words, f"#0 get-read #{o}"])
     told("powers", ["powers", *words])
     for name in state.subjects[:3]:
         told("about", ["about", *words, name])
@@ -326,7 +363,13 @@ def worlds_told(world):
     told_of_state([world.start, "--journal", world.journal], world.last, lines)
     other = put("other.json", worlds.other(world.rnd, world.text).encode())
     told("compare", ["compare", world.start, other], world.start, other)
+    told("compare", ["compare", "--could", world.start, other], world.start, other)
     told("compare", ["compare", world.start, other, world.journal], world.start, other)
+    for files in ([world.start, other], [world.start, other, world.journal]):
+        told("counts", ["compare", "--summary", *files])
+        told("compare", ["compare", "--broken", *files], world.start, other)
+    told("usage", ["usage", "--never", "--subject", "#0", world.start, world.journal])
+    told("lint", ["lint", "--journal", world.journal, world.start])
     told_of_names(world.start, world.journal, [world.rnd.choice(world.opening.subjects)], [world.rnd.choice(world.opening.objects)])
     words = ["--journal", world.journal, "--marks", time_rows.noted(time_rows.marks_by_chance(world.rnd, world)), world.start]
     told("about", ["about", *words, world.rnd.choice(world.opening.subjects)])
@@ -356,10 +399,12 @@ def files_of_the_documents():
     put("held.journal", OPENED)
     put("ever.journal", OPENED + b"5 0 1 level 1 yes\n")
     put("level.journal", b"0 0 0 get-read 1 yes\n")
+    put("trust.journal", b"0 0 3 get-read 1 yes\n1 0 2 get-write 0 yes\n")
     put("staff.journal", b"0 0 0 get-read 1 yes\n")
     put("given.journal", b"0 0 2 get-write 0 yes\n1 0 2 give read 2 1 yes\n")
-    put("j", b"0 0 0 get-read 1 yes\n1 0 1 get-read 2 no star\n")
-    put("m", b"1 2026-11-27T11:12:26.736512Z 765eb9d97a9b040bee356c47e7004317d02df95214218903b329cc21a3edec2d\n")
+    journal, head = b"0 0 0 get-read 1 yes\n1 0 1 get-read 2 no star\n", marks.head(example("standard.json"))
+    put("j", journal)
+    put("m", marks.text_of(marks.headed(journal, [2], TIMES[:1], head), head))
     same(ran_program(["run", "--journal", "standard.journal", STANDARD, f"{EXAMPLES}/standard.script"])[0], 0)
     variant("new.json", newer)
 
@@ -379,7 +424,7 @@ def objects_of_the_documents():
         count = int(words[-1]) if "|" in words else 0
         words = words[: words.index("|")] if "|" in words else words
         _, output, _ = ran_program(words)
-        options = {"--summary": "summary", "--ever": "ever", "--could": "future"}
+        options = {"--summary": "counts" if words[0] == "compare" else "summary", "--ever": "ever", "--could": "future"}
         schema = next((options[it] for it in words if it in options), words[0])
         rows_of(schema, output)
         same((command, output.decode().splitlines()[-count:]), (command, wanted))
@@ -397,13 +442,17 @@ def objects_of_each_form():
     put("key.json", example("standard.json").replace(b'"profile"', b'"a\\"b\\\\c:"').replace(b' "matrix"', b' "a\\"b\\\\c: d": 1, "matrix"'))
     put("broken.json", b'{"security": [1,]')
     put("twice.json", example("standard.json").replace(b'"trusted": false', b'"trusted": true, "trusted": false'))
-    for file in ("key.json", "broken.json", "refused.json", "twice.json"):
+    put("again.json", example("standard.json").replace(b'"modes": ["read", "write"]', b'"modes": ["read", "write", "read"]'))
+    for file in ("key.json", "broken.json", "refused.json", "twice.json", "again.json"):
         told("lint", ["lint", file])
     told("verify", ["verify", STANDARD, "j", "m"])
-    put("k", b"0 0 0 get-read 1 yes\n1 0 1 get-read 2 no star\n2 0 1 get-read 2 no star\n")
+    journal = b"0 0 0 get-read 1 yes\n1 0 1 get-read 2 no star\n2 0 1 get-read 2 no star\n"
+    put("k", journal)
     told("verify", ["verify", STANDARD, "k", "m"])
     put("none", b"")
     told("verify", ["verify", STANDARD, "k", "none"])
+    put("back", marks.text_of(marks.made(journal, [1, 2], [TIMES[1], TIMES[0]])))
+    told("verify", ["verify", STANDARD, "k", "back"])
     rows_of("journal", ran_program(["journal", "--json", "--marks", "m", STANDARD, "k"])[1])
     for ends in ([1], [1, 2]):
         put("e", LEVELS)

@@ -2,12 +2,12 @@
 compares, what it refuses, and what only mls verify finds."""
 import os
 import signal
-from errno import EIO, ENOSPC
+from errno import EIO, ENOENT, ENOSPC
 
 import crashing
 import marks
 from crashing import CALLS, KILLS_OF_A_JOURNAL, count_of, killed_once, kills, run_of_lines
-from durable_marks import flip, verified, verify
+from durable_marks import HEAD, flip, verified, verify
 from durable_segments import CUT, SEGMENT, drawn, is_cut_well
 from outside import in_its_folder, needs_proof, put, ran_program, same
 from segments import joined, numbered, remove, segment, state
@@ -18,8 +18,8 @@ BOTH = (*CUT, "--marks", "m")
 
 def emptied(journal):
     """Takes a journal and its marks away."""
-    remove(journal)
-    remove("m")
+    for name in (journal, "m", "m.1"):
+        remove(name)
 
 
 def asked(journal, due, *flags):
@@ -51,13 +51,15 @@ def in_small_batches(journal, count=500):
 
 
 def is_marked(journal):
-    """The marks agree with all files together and cover all of them, and each closed one ends with a mark; returns them."""
-    whole, found = joined(journal), marks.read(content("m"))
-    count = whole.count(b"\n")
-    same(marks.covered(whole, found), count)
+    """The marks agree with all files together and cover all of them, and each closed one ends with a mark; returns them, with older ones."""
+    whole, text = joined(journal), content("m")
+    older = content("m.1") if marks.after_of(text) else b""
+    found, count = marks.read(older) + marks.read(text), whole.count(b"\n")
+    same(marks.checked(whole, text, older), count)
     firsts = {*numbered(journal), *([first_of(journal)] if content(journal) else [])}
     same({number - 1 for number in firsts if number} - {it.number for it in found}, set())
-    same(verify(journal), (0, verified(count, found), b""))
+    last = marks.begin_of(text) if not marks.read(text) else None
+    same(verify(journal), (0, verified(count, found, last=last), b""))
     return found
 
 
@@ -86,11 +88,11 @@ def marks_of_a_journal_that_is_cut():
 
 
 def put_marks(found):
-    put("m", marks.text_of(found))
+    put("m", marks.text_of(found, HEAD))
 
 
 def content_of(found):
-    """The lines of marks."""
+    """The lines of marks, without the head's."""
     return marks.text_of(found).splitlines(keepends=True)
 
 
@@ -125,16 +127,16 @@ def starts_over_marks(due):
     for place in (0, border // 2, border - 1):
         lines = content_of(true)
         lines[place] = b"x" + lines[place]
-        put("m", b"".join(lines))
+        put("m", HEAD + b"".join(lines))
         same(served(b"", "s", *BOTH), (0, ready(count), b""))
-        same(verify("s"), (1, b"", b"mls: m: line %d: mark\n" % (place + 1)))
+        same(verify("s"), (1, b"", b"mls: m: line %d: mark\n" % (place + 2)))
     for place in (border + 1, len(true) - 1):
         lines = content_of(true)
         lines[place] = b"x" + lines[place]
-        put("m", b"".join(lines))
+        put("m", HEAD + b"".join(lines))
         same(served(b"", "s", *BOTH), (1, b"", b"mls: m: line %d: mark\n" % (place - border)))
     # (a torn end is that of the live file's marks)
-    put("m", marks.text_of(true[:-1]) + marks.text_of(true[-1:])[:30])
+    put("m", marks.text_of(true[:-1], HEAD) + marks.text_of(true[-1:])[:30])
     last = true[-2].number
     same(served(b"", "s", *BOTH), (1, b"", b"mls: m: torn after entry %d\n" % last))
     same(served(b"", "s", *BOTH, "--recover"), (0, ready(count), b"mls: m: cut after entry %d\n" % last))
@@ -160,12 +162,16 @@ def are_no_end():
     rows = [([], last), (true[:border], last), (true[: border // 2], last), (true[:border] + true[border + 1 :], after)]
     if after != last:
         # (one that spans it)
-        rows.append((marks.made(whole, ends, times[: len(ends)]), after))
+        rows.append((marks.headed(whole, ends, times[: len(ends)], HEAD), after))
     for found, entry in rows:
         put_marks(found)
         for flags in ((), ("--recover",)):
             same((entry, served(b"", "e", *BOTH, *flags)), (entry, (3, b"", b"mls: m: differs at entry %d\n" % entry)))
-        same(content("m"), marks.text_of(found))
+        same(content("m"), marks.text_of(found, HEAD))
+    for text in (b"", HEAD[:30]):
+        put("m", text)
+        same((text, served(b"", "e", *BOTH, "--recover")), (text, (3, b"", b"mls: m: differs at entry %d\n" % last)))
+        same(content("m"), text)
     put_marks(true)
     same(served(b"", "e", *BOTH), (0, ready(count), b""))
 
@@ -207,7 +213,7 @@ def segment_that_is_forged_with_its_marks():
     refused = (3, b"", b"mls: m: differs at entry %d\n" % differs)
     same((verify("f"), verify("f", "m", "--digest", yesterday)), (refused, refused))
     same(served(b"", "f", *BOTH), (0, ready(more.next), b""))
-    anew = marks.made(forged, [it.number + 1 for it in found], [it.time for it in found])
+    anew = marks.headed(forged, [it.number + 1 for it in found], [it.time for it in found], HEAD)
     put_marks(anew)
     same(verify("f"), (0, verified(more.next, anew), b""))
     same(verify("f", "m", "--digest", yesterday), (3, b"", b"mls: m: no such digest\n"))
@@ -246,6 +252,76 @@ def marks_of_an_archive():
     put_marks(found[len(gone):])
     same(verify("a", "m", "--from", ended), (0, output, lacking))
     same(verify("a", "m", "--from", "0" * 64)[0], 3)
+
+
+def older(found):
+    """The text of marks with the same numbers and times, of the journal o, whose digests are of the entries alone."""
+    return marks.text_of(marks.made(joined("o"), [it.number + 1 for it in found], [it.time for it in found]))
+
+
+def older_marks_in_segments():
+    """A start goes on from older marks, behind the mark of the entry before its own file, and mls verify compares both files. Where that mark is
+    in the own file the older one isn't looked at; else it must be there, and end as is told."""
+    for fill in (filled, in_small_batches):
+        are_older(fill("o"))
+
+
+def are_older(due):
+    while not content("o"):
+        due = drawn(10, due.next)
+        asked("o", due)
+    count, true = joined("o").count(b"\n"), is_marked("o")
+    text = older(true)
+    put("m", text)
+    same(served(b"", "o", *BOTH), (0, ready(count), b""))
+    same((content("m.1"), marks.read(content("m"))), (text, []))
+    is_marked("o")
+    # (the next start, whose own file begins before the older marks end)
+    same(served(b"", "o", *BOTH), (0, ready(count), b""))
+    before, first = len(numbered("o")), first_of("o")
+    more = drawn(20, count)
+    asked("o", more)
+    same(len(numbered("o")), before)
+    count, both = more.next, content("m")
+    is_marked("o")
+    place = next(place for place, it in enumerate(marks.read(text)) if it.number == first - 1)
+    lines = text.splitlines(keepends=True)
+    torn = b"torn after entry %d" % marks.read(text)[-2].number
+    rows = [(b"".join(lines[:-1]), b"another end", 3), (b"".join(lines[:place]), b"differs at entry %d" % (first - 1), 3), (text[:-1], torn, 1)]
+    for changed, told, status in rows:
+        put("m.1", changed)
+        same((told, served(b"", "o", *BOTH, "--recover")), (told, (status, b"", b"mls: m.1: " + told + b"\n")))
+        assert verify("o")[0] == status and content("m") == both
+    remove("m.1")
+    same(served(b"", "o", *BOTH), (1, b"", failed("m.1", "open", ENOENT)))
+    same(verify("o"), (1, b"", b"mls: m.1: file\n"))
+    put("m.1", text)
+    # (a file that begins behind them)
+    more = drawn(1_500, count)
+    asked("o", more)
+    count = more.next
+    found = is_marked("o")
+    for digest in (found[0].digest, found[place].digest, marks.read(text)[-1].digest, marks.begin_of(content("m")), found[-1].digest):
+        same((digest, verify("o", "m", "--digest", digest.hex())[0]), (digest, 0))
+    put("m.1", b"x\n")
+    same(served(b"", "o", *BOTH), (0, ready(count), b""))
+    same(verify("o"), (1, b"", b"mls: m.1: line 1: mark\n"))
+    put("m.1", text)
+    # (the first files moved away: fewer than the older marks cover, as many, and more)
+    last = marks.read(text)[-1].number
+    for number in numbered("o")[:-1]:
+        os.remove(segment("o", number))
+        here = numbered("o")[0]
+        gone = [it for it in found if it.number < here]
+        lacking = b"mls: o: entries before %d are not here\n" % here
+        (status, output, error) = verify("o", "m", "--from", gone[-1].digest.hex())
+        same((here, status, error, output.splitlines()[1]), (here, 0, lacking, b"last %s" % found[-1].digest.hex().encode()))
+        same((here, verify("o", "m", "--from", gone[0].digest.hex())[0]), (here, 3 if gone[1:] else 0))
+        if here > last + 1:
+            remove("m.1")
+            same((here, verify("o", "m", "--from", gone[-1].digest.hex())), (here, (0, output, lacking)))
+            put("m.1", text)
+    assert numbered("o")[0] > last
 
 
 def state_that_is_forged_under_marks():
@@ -298,8 +374,8 @@ def sync_of_marks_before_a_segment_is_closed():
         same(steps[place - 1], "sync m")
     # (where the machine is slow MARKS is synced once more before, since a second has passed)
     same(next(step for step in reversed(steps[: closings[0]]) if step != "sync m"), "write m")
-    # (of the syncs those that are always there: before the first mark, and before each file is closed)
-    counts = {"write": steps[: closings[1]].count("write m"), "sync": steps[: steps.index("write m")].count("sync m") + 2}
+    # (of the syncs those that are always there: before the head, behind it, and before each file is closed)
+    counts = {"write": steps[: closings[1]].count("write m"), "sync": steps[: steps.index("write m")].count("sync m") + 3}
     for call, place in [(it, count) for it, most in counts.items() for count in range(1, most + 1)]:
         for errno in (ENOSPC, EIO):
             due, status, said, written, error, _ = run_over_a_disk(of="m", call=call, fail=place, errno=errno)
@@ -318,12 +394,14 @@ def kill_before_each_call_on_marks():
     _, _, _, _, _, calls = run_over_a_disk()
     for call in ("write", "sync"):
         for place in range(1, min(sum(note[:2] == (call, "m") for note in calls), 12) + 1):
-            due, status, _, written, _, _ = run_over_a_disk(of="m", call=call, kill=place)
-            same((call, place, status), (call, place, -signal.SIGKILL))
+            due, status, _, written, _, noted = run_over_a_disk(of="m", call=call, kill=place)
+            # (MARKS is synced once more after a second: so a run on a slow machine has calls that another hasn't)
+            is_there = status != 0 or sum(note[:2] == (call, "m") for note in noted) >= place
+            same((call, place, status), (call, place, -signal.SIGKILL if is_there else 0))
             goes_on("d", b"", due, written)
 
 
 CHECKS = [*map(in_its_folder, [marks_of_a_journal_that_is_cut, start_over_marks, marks_that_are_no_end_of_a_segment,
-           marks_begun_later, segment_that_is_forged_with_its_marks, marks_of_an_archive,
+           marks_begun_later, segment_that_is_forged_with_its_marks, marks_of_an_archive, older_marks_in_segments,
            state_that_is_forged_under_marks, kills_between_segments_that_are_marked])]
 OVER_THE_SHIM = [*map(in_its_folder, [sync_of_marks_before_a_segment_is_closed, kill_before_each_call_on_marks])]

@@ -12,7 +12,7 @@ import time
 
 import marks
 from crashing import CALLS, LATEST_KILL, are_marked, asked_in_batches, count_of, cut_line, killed_once, kills, notes_of
-from durable_marks import FRONT, MARKED, ONE, TORN_ENTRY, TORN_MARK, is_marked, marked, pair, put_pair
+from durable_marks import FRONT, HEAD, MARKED, OLD_ONE, ONE, TORN_ENTRY, TORN_MARK, is_marked, is_put_aside, marked, pair, put_pair
 from outside import IS_PROVED, PROGRAM, SECONDS, Started, in_its_folder, put, rounds, same, shown, some
 from serving import IN_SESSIONS, LINES, STANDARD, Due, Serving, content, failed, is_kept, ready, shim, status_of
 
@@ -67,7 +67,7 @@ def kills_under_a_client_that_is_marked():
 def run_over_a_disk(flags=("--sessions",), batches=None, **words):
     """Recovers a torn journal with torn marks over the shim, and asks batches. Returns the status, whether it was ready, what was answered,
     and the error text."""
-    put_pair(FRONT + TORN_ENTRY, ONE + TORN_MARK)
+    put_pair(FRONT + TORN_ENTRY, HEAD + ONE + TORN_MARK)
     for name in ("notes", "f.copy", "m.copy"):
         if os.path.exists(name):
             os.remove(name)
@@ -139,10 +139,10 @@ def both_disks_that_fail():
 def lock_and_read_of_marks_that_fail():
     """It is told, and nothing is changed."""
     for call, of_system, number in (("lock", "flock", errno.ENOLCK), ("read", "read", errno.EIO)):
-        put_pair(FRONT, ONE)
+        put_pair(FRONT, HEAD + ONE)
         env = shim(refuse=of_system, errno=number, of="m", journal=os.path.abspath("m"))
         same((call, marked("--recover", env=env)), (call, (1, b"", failed("m", call, number))))
-        same((pair(), glob.glob("[fm].torn*")), ((FRONT, ONE), []))
+        same((pair(), glob.glob("[fm].torn*")), ((FRONT, HEAD + ONE), []))
 
 
 def recovery_of_both_that_is_killed():
@@ -152,9 +152,38 @@ def recovery_of_both_that_is_killed():
     for call, file, place in some(failing_calls(before), 2):
         status, is_ready, _, _ = run_over_a_disk(of=file, call=call, kill=place, batches=[])
         same((call, file, place, status), (call, file, place, -signal.SIGKILL))
-        assert content("f") in (FRONT + TORN_ENTRY, FRONT) and content("m").startswith(ONE)
+        assert content("f") in (FRONT + TORN_ENTRY, FRONT) and content("m").startswith(HEAD + ONE)
         torn_are_kept([("f", TORN_ENTRY), ("m", TORN_MARK)] if not is_ready else [])
         same(is_lost_nothing(FRONT, Due([]), b""), FRONT)
+
+
+def putting_aside_that_fails_or_is_killed():
+    """Older marks are put aside by five calls. Before each a kill may come, and each may fail: the file of marks is then the older one or the
+    new one, and the next start goes on."""
+
+    def run(**words):
+        put_pair(FRONT, OLD_ONE)
+        if os.path.exists("notes"):
+            os.remove("notes")
+        return marked("--recover", env=shim(notes=os.path.abspath("notes"), **words))
+
+    same(run(), (0, ready(3), b""))
+    calls, folder = [note[:2] for note in notes_of("notes") if note[1] != "out"], os.path.basename(os.getcwd())
+    begin = calls.index(("write", "m.new"))
+    wanted = [("write", "m.new"), ("sync", "m.new"), ("link", "m.1"), ("rename", "m"), ("sync", folder)]
+    same(calls[begin : begin + len(wanted)], wanted)
+    for step, (call, file) in enumerate(wanted):
+        place = calls[: begin + step + 1].count((call, file))
+        same((call, file, run(of=file, call=call, kill=place)[0]), (call, file, -signal.SIGKILL))
+        assert content("m") == OLD_ONE or marks.after_of(content("m")), (call, file, shown(content("m")))
+        same(marked("--recover"), (0, ready(3), b""))
+        is_put_aside(OLD_ONE, FRONT)
+        for number in (errno.ENOSPC, errno.EIO):
+            told = failed("m" if file == folder else file, CALLS[call], number)
+            same((call, file, run(of=file, call=call, fail=place, errno=number)), (call, file, (status_of(CALLS[call]), b"", told)))
+            assert content("m") == OLD_ONE or marks.after_of(content("m")), (call, file, shown(content("m")))
+            same(marked("--recover"), (0, ready(3), b""))
+            is_put_aside(OLD_ONE, FRONT)
 
 
 def marks_before_answers():
@@ -207,7 +236,7 @@ def marks_that_are_synced():
     put_pair(b"", b"")
     env = shim(marks=os.path.abspath("m"), marks_copy=os.path.abspath("m.copy"))
     took, answered, first = [], [], 0
-    synced = lambda: marks.read(content("m.copy"))[-1].number + 1 if content("m.copy") else 0
+    synced = lambda: next((it.number + 1 for it in reversed(marks.read(content("m.copy")))), 0)
     with Disk() as disk, Serving("f", "--sessions", *MARKED, env=env) as run:
         run.says(ready(0))
         for turn in range(3 + rounds(100)):
@@ -233,7 +262,7 @@ def marks_that_are_synced():
 def sync_of_marks_that_fails_while_it_waits():
     """The service ends by itself with status 5, though its input is open and nothing comes. What was answered is there."""
     for number in some([errno.EIO, errno.ENOSPC], 2):
-        put_pair(FRONT, ONE)
+        put_pair(FRONT, HEAD + ONE)
         due = Due(IN_SESSIONS, 3)
         with Disk() as disk, Serving("f", "--sessions", *MARKED, env=shim(of="m", call="sync", fail=2, errno=number)) as run:
             run.says(ready(3))
@@ -282,7 +311,7 @@ def states_after_a_crash(rnd, journal, noted):
     lines, ends = journal.splitlines(keepends=True), [0, *(it.number + 1 for it in found)]
     synced = b"".join(lines[: ends[batches]])
     rest = b"".join(lines[ends[batches] : ends[min(batches + 1, len(found))]])
-    return synced, synced + damaged(rnd, rest), damaged(rnd, marks.text_of(found[:batches]))
+    return synced, synced + damaged(rnd, rest), damaged(rnd, marks.text_of(found[:batches], HEAD))
 
 
 def damaged(rnd, text):
@@ -315,8 +344,7 @@ def crashes_of_the_machine():
             kept = content(f"{name}.torn") if os.path.exists(f"{name}.torn") else b""
             same((state, before.endswith(kept), after.startswith(before[: len(before) - len(kept)])), (state, True, True))
             same((state, b"mls: %s: cut " % name.encode() in error), (state, bool(kept)))
-        found = marks.read(content("m"))
-        same((state, marks.covered(now, found)), (state, count_of(now)))
+        same((state, marks.checked(now, content("m"))), (state, count_of(now)))
 
 
 def marks_torn_at_each_byte():
@@ -325,14 +353,14 @@ def marks_torn_at_each_byte():
     torn = [TWO_MARK[:at] for at in places if at] + [TWO_MARK[:at] + b"\0" + TWO_MARK[at + 1:] for at in places]
     torn += [TWO_MARK[:at] + bytes(len(TWO_MARK) - at) for at in places]
     for tail in torn:
-        put_pair(FRONT, ONE + tail)
+        put_pair(FRONT, HEAD + ONE + tail)
         same((tail, marked("--recover")), (tail, (0, ready(3), b"mls: m: cut after entry 0\n")))
         same((tail, content("m.torn"), content("f")), (tail, tail, FRONT))
         found = marks.read(content("m"))
-        same((tail, [it.number for it in found], marks.covered(FRONT, found)), (tail, [0, 2], 3))
+        same((tail, [it.number for it in found], marks.checked(FRONT, content("m"))), (tail, [0, 2], 3))
 
 
-TWO_MARK = marks.text_of(marks.made(FRONT, [1, 3], [b"2026-11-26T08:00:01.203944Z"] * 2)[1:])
+TWO_MARK = marks.text_of(marks.headed(FRONT, [1, 3], [b"2026-11-26T08:00:01.203944Z"] * 2, HEAD)[1:])
 
 
 def loop_of_a_supervisor():
@@ -354,5 +382,5 @@ def loop_of_a_supervisor():
 
 CHECKS = [*map(in_its_folder, [kills_under_a_client_that_is_marked, crashes_of_the_machine, marks_torn_at_each_byte])]
 OVER_THE_SHIM = [*map(in_its_folder, [both_disks_that_fail, lock_and_read_of_marks_that_fail,
-                  recovery_of_both_that_is_killed, marks_before_answers, marks_that_are_synced,
+                  recovery_of_both_that_is_killed, putting_aside_that_fails_or_is_killed, marks_before_answers, marks_that_are_synced,
                   sync_of_marks_that_fails_while_it_waits, clock_that_goes_back_and_fails, loop_of_a_supervisor])]

@@ -1,4 +1,4 @@
-"""The page of `mls report`, read: its tags, which must be balanced, and the lines of other questions that its tables tell."""
+"""The page of `mls report`, read: its tags, which must be balanced, and the rows of its tables."""
 import html.parser
 import re
 
@@ -8,7 +8,10 @@ ELEMENTS = set("""html head meta title style body header h1 p code nav ul li a m
 VOID = {"meta"}
 ATTRIBUTES = set("""lang charset name content http-equiv href id class style aria-label aria-labelledby aria-hidden role tabindex scope
     colspan viewbox preserveaspectratio d transform""".split())
-HEADINGS = ["Verified", "Entries", "Lattice", "Powers", "Denied entries", "Held", "Use of permissions"]
+HEADINGS = ["In short", "Denied entries", "Trust", "Use of permissions", "Held", "Powers", "What could come about",
+            "Entries", "Lattice", "Verified"]
+# The parts that stand in an appendix, which isn't printed.
+APPENDIX = "appendix"
 
 
 class Element:
@@ -86,7 +89,10 @@ def table_is_told(table):
     elements = [it for it in table.children if isinstance(it, Element)]
     assert elements[0].name == "caption", f"a table begins with {elements[0].name}"
     for it in table.all("th"):
-        assert it.attributes.get("scope") in ("col", "row", "rowgroup"), f"th with {it.attributes}"
+        assert it.attributes.get("scope") in ("col", "row"), f"th with {it.attributes}"
+    bodies, heads = table.all("tbody"), table.all("thead")
+    columns = {sum(int(it.attributes.get("colspan", 1)) for it in row.all("th", "td")) for row in [*heads, *bodies[0].all("tr")]}
+    assert len(columns) <= 1, f"rows of {columns} columns"
 
 
 def page_of(output):
@@ -120,82 +126,83 @@ def tables(part):
 
 
 def more(part):
-    """How many more there are, by the line that tells it."""
+    """How many more rows there are than the table that is printed has, by the line that tells it."""
     found = [it.text() for it in part.all("p") if it.attributes.get("class") == "more"]
-    return int(re.match(r"(\d+) more: ", found[0])[1]) if found else 0
+    return int(re.match(r"(\d+) more, ", found[0])[1]) if found else 0
+
+
+def has_class(element, name):
+    return name in element.attributes.get("class", "").split()
+
+
+def appendix(part):
+    """What a section has in its appendix, where it has one."""
+    found = [it for it in part.all("details") if has_class(it, APPENDIX)]
+    assert len(found) <= 1
+    return found[0] if found else Element("", {})
+
+
+def rows_of(part):
+    """The rows of the table that is printed, and those of the appendix: of each the texts of its cells. Without a table none."""
+    behind = appendix(part).all("tr")
+    rows = [row for body in part.all("tbody") for row in body.all("tr")]
+    texts = lambda found: [it.texts("th", "td") for it in found]
+    return texts(it for it in rows if it not in behind), texts(it for it in rows if it in behind)
+
+
+def titles_of(part):
+    """The titles of the columns of a section's first table."""
+    return part.all("thead")[0].texts("th")
+
+
+def stretches_of(svg):
+    """The stretches of a bar, each by where it begins and how long it is, and of how many units it is."""
+    units = re.fullmatch(r"0 0 (\d+) 1", svg.attributes["viewbox"])[1]
+    found = []
+    for it in svg.all("path"):
+        begin, length, back = re.fullmatch(r"M(\d+) 0h(\d+)v1h-(\d+)z", it.attributes["d"]).groups()
+        assert length == back, it.attributes
+        found.append((int(begin), int(length)))
+    return found, int(units)
 
 
 def bar_of(svg):
-    """Where the bar begins, how long it is, and of how many; none where nothing is drawn."""
-    units = re.fullmatch(r"0 0 (\d+) 1", svg.attributes["viewbox"])[1]
-    if not svg.all("path"):
-        return None
-    begin, length, back = re.fullmatch(r"M(\d+) 0h(\d+)v1h-(\d+)z", svg.one("path").attributes["d"]).groups()
-    assert length == back, svg.one("path").attributes
-    return int(begin), int(length), int(units)
+    """Where the only stretch of a bar begins, how long it is, and of how many; none where nothing is drawn."""
+    found, units = stretches_of(svg)
+    assert len(found) <= 1
+    return (*found[0], units) if found else None
+
+
+def columns_of(svg):
+    """The heights of the columns of a drawing, each at its place."""
+    width = int(re.fullmatch(r"0 0 (\d+) 102", svg.attributes["viewbox"])[1])
+    heights = [0] * (width // 10)
+    for it in svg.all("path"):
+        left, height, back = re.fullmatch(r"M(\d+) 102v-(\d+)h8v(\d+)z", it.attributes["d"]).groups()
+        assert height == back and int(left) % 10 == 1, it.attributes
+        heights[int(left) // 10] = int(height)
+    return heights
+
+
+def grid_of(part):
+    """The subjects of a grid, by columns, and its rows: of each object, what stands in its cells."""
+    return titles_of(part)[1:], {it[0]: it[1:] for it in rows_of(part)[0]}
+
+
+def beside(part):
+    """How many objects and subjects a grid doesn't have, by the line that tells it."""
+    found = [it.text() for it in part.all("p") if has_class(it, "more")]
+    return tuple(map(int, re.match(r"(\d+) more objects and (\d+) more subjects, ", found[0]).groups())) if found else (0, 0)
 
 
 # what a page says, as lines of the commands
 
 
-def summary_counts(lines):
-    """Of the lines of `mls journal --summary`: entries, and by reason, and by subject how many were granted, denied and undefined."""
-    entries, reasons, subjects = 0, [], {}
-    for line in lines:
-        words = line.split()
-        if len(words) == 2:
-            entries = int(words[1])
-        elif words[1] in ("yes", "created", "no", "undefined"):
-            counts = subjects.setdefault(words[0], [0, 0, 0])
-            counts[{"no": 1, "undefined": 2}.get(words[1], 0)] += int(words[2])
-        else:
-            reasons.append([words[1], words[2]])
-    return entries, reasons, subjects
-
-
-def denial_lines(page):
-    """The lines of the denied entries: what stands above each, and what is folded under it. Times stand behind."""
-    lines = []
-    for it in section(page, "Denied entries").all("details"):
-        head, time = it.one("summary"), [span.text() for span in it.all("span")]
-        text = "".join(part if isinstance(part, str) else part.text() for part in head.children if getattr(part, "name", "") != "span")
-        lines.append(f"[{time[0]}] {text.strip()}" if time else text)
-        lines += [f"  {line}" for line in it.one("pre").text().splitlines()]
-    return lines
-
-
-def power_lines(page):
-    found = []
-    for row in section(page, "Powers").all("tr")[1:]:
-        found += [f"{row.one('th').text()} {it}" for it in row.texts("li")]
-    return found
-
-
-def span_lines(page):
-    """The lines of spans, object by object, and the bar of each: where it begins, how long it is, and of how many."""
-    found, bars = [], []
-    for body in section(page, "Held").all("tbody"):
-        group, *rows = body.all("tr")
-        for row in rows:
-            who, told = row.texts("th", "td")[:2]
-            found.append(f"{who} {group.text().strip()}: {told}")
-            bars.append(bar_of(row.one("svg")))
-    return found, bars
-
-
-def usage_lines(page):
-    part = section(page, "Use of permissions")
-    found = []
-    for permission, *told in next(iter(tables(part).values()), []):
-        found.append(f"{permission}: " + ("{} granted, {} denied, last {}".format(*told) if len(told) == 3 else told[0]))
-    return [*found, part.all("p")[1].text()]
-
-
 def lattice_lines(page):
     """The labels, each with those that have it, and the pairs of which the second covers the first."""
-    rows = section(page, "Lattice").one("tbody").all("tr")
+    part = section(page, "Lattice")
     nodes, pairs = {}, set()
-    for row in rows:
+    for row in [it for body in part.all("tbody") for it in body.all("tr")]:
         covered, holders = row.all("td")
         nodes[row.one("th").text()] = holders.texts("li")
         pairs |= {(it, row.one("th").text()) for it in covered.texts("li")}

@@ -12,13 +12,22 @@ SEED, DAMAGES = 1977, 240
 NAME = "s.json"
 
 
+def told_beside(file, text, told):
+    """What mls lint says of a file for which mls check says this: that it is empty, or that mls complete takes it, where it does."""
+    if not text:
+        return told[:-1] + b": empty\n"
+    if b"2 Members" in told and ran_program(["complete", file])[0] == 0:
+        return told + f"mls: mls complete {file} fills in what is left out\n".encode()
+    return told
+
+
 def places(text):
-    """The places that mls lint tells of a refused file. Its fault is told as by mls check, byte for byte, and the status is 1."""
+    """The places that mls lint tells of a refused file. Its fault is told as by mls check, and the status is 1."""
     file = put(NAME, text)
     checked = ran_program(["check", file])
     status, output, error = ran_program(["lint", file])
     same(checked[:2], (1, b""))
-    same((status, error), (1, checked[2]))
+    same((status, error), (1, told_beside(file, text, checked[2])))
     assert output.endswith(b"\n") and not re.search(rb"[^ -~\n]", output), f"{output} isn't lines of ASCII"
     return output.decode().splitlines()
 
@@ -31,11 +40,21 @@ def changed(changes, text=rows.SMALL):
     return text.encode()
 
 
+def listed(place):
+    """A place alone, or several."""
+    return place if isinstance(place, list) else [place]
+
+
 def are_told(table, wanted):
-    """Each change of the small file has its place, which is its only one."""
+    """Each change of the small file has its place, or its places, and no other."""
     same(len(table), len(wanted))
     for changes, place in zip(table, wanted):
-        same((changes, places(changed(changes))), (changes, [place]))
+        same((changes, places(changed(changes))), (changes, listed(place)))
+
+
+def renamed(part, member, other):
+    """The places of a member that has another key."""
+    return [f"{part}/{member}: missing", f"{part}/{other}: unknown member"]
 
 
 def times(count, *lines):
@@ -50,10 +69,11 @@ MISSING = [f"{it}: missing" for it in (
 )]
 
 UNKNOWN_MEMBERS = [*[f"{it}/extra: unknown member" for it in ("", "/security", "/integrity", "/subjects/0",
-                    "/objects/0", "/objects/1", "/matrix/0")], "/security: missing", "/subjects: missing",
-                   "/matrix: missing", "/matrix: missing", "/access: unknown member", "/security/levels: missing",
-                   "/security/categories: missing", "/subjects/0/maximum: missing", "/subjects/0/trusted: missing",
-                   "/objects/0/parent: missing", "/matrix/0/modes: missing", "/objects/1/name: missing"]
+                    "/objects/0", "/objects/1", "/matrix/0")], renamed("", "security", "Security"), renamed("", "subjects", "subject"),
+                   renamed("", "matrix", "cells"), "/matrix: missing", "/access: unknown member", renamed("/security", "levels", "level"),
+                   renamed("/security", "categories", "category"), renamed("/subjects/0", "maximum", "maximal"),
+                   renamed("/subjects/0", "trusted", "trust"), renamed("/objects/0", "parent", "above"),
+                   renamed("/matrix/0", "modes", "mode"), renamed("/objects/1", "name", "")]
 
 TYPES = [*times(5, "/security: not an object"), *times(3, "/security/levels: not a list"),
          *times(3, "/security/levels/0: not a string"), "/security/levels/1: not a string",
@@ -75,7 +95,9 @@ TYPES = [*times(5, "/security: not an object"), *times(3, "/security/levels: not
 # (a member that the file has twice counts as its last value)
 TWICE_WRONG = ["/subjects/0/trusted: not true or false"]
 
-OTHER_JSON = ["/security: missing", *times(6, "/: not an object"), "/security/levels: missing", "/: not an object"]
+FILE_MEMBERS = ["/integrity: missing", "/subjects: missing", "/objects: missing", "/matrix: missing"]
+OTHER_JSON = [["/security: missing", *FILE_MEMBERS], *times(6, "/: not an object"),
+              ["/security/levels: missing", "/security/categories: missing", *FILE_MEMBERS], "/: not an object"]
 
 # Where JSON breaks off: at the end, where a part begins that is no whole one, behind a number out of range, behind the bracket that nests too deep.
 NO_JSON = ["line 1, column 0", "line 1, column 1", "line 1, column 1", "line 1, column 1", "line 1, column 3", "line 1, column 4", "line 1, column 11",
@@ -111,7 +133,8 @@ STARTS = ["/subjects: no subject", "/objects/1/parent: not before it, in a cycle
           "/objects/1/integrity: the parent's does not dominate it"]
 
 ACCESSES = [
-    *times(4, "/accesses: not a list"), *times(3, "/accesses/0: not an object"), "/accesses/0/subject: missing", "/accesses: not a list",
+    *times(4, "/accesses: not a list"), *times(3, "/accesses/0: not an object"),
+    [f"/accesses/0/{it}: missing" for it in ("subject", "object", "modes")], "/accesses: not a list",
     "/accesses/0/modes: missing", "/accesses/0/modes: not a list", "/accesses/0/modes/0: not a string", "/accesses/0/subject: not a string",
     "/accesses/0/extra: unknown member", "/accesses/0/subject: no such subject", "/accesses/0/object: no such object",
     "/accesses/0/modes/0: no such mode", "/accesses/0/object: no such object", "/accesses/0/modes/0: discretionary",
@@ -121,10 +144,10 @@ STANDARD_ACCESSES = ["star", "discretionary", "integrity"]
 
 PROFILES = [*times(18, "/profile: not 1 or 2"), "/: line 1, column 12", "/: line 1, column 12"]
 
-TWO_FAULTS = ["/matrix/0/modes: missing", "/subjects/0/trusted: not true or false", "/integrity/levels: no level",
+TWO_FAULTS = [renamed("/matrix/0", "modes", "mode"), "/subjects/0/trusted: not true or false", "/integrity/levels: no level",
               "/security/levels/1: repeated name", "/objects/1/name: repeated name", "/objects/1/name: bad name",
               "/objects/1/integrity: unknown level", "/objects/1/integrity: unknown category",
-              "/matrix/0/modes/0: no such mode", "/matrix/0/object: no such object", "/matrix/0/modes: missing"]
+              "/matrix/0/modes/0: no such mode", "/matrix/0/object: no such object", renamed("/matrix/0", "modes", "mode")]
 
 COUNTS = ["/subjects: more than 256", "/objects: more than 4096", "/subjects: more than 256", "/subjects: no subject",
           "/objects/4096/security: unknown level", "/objects/4096/parent: no such object", "/objects: more than 4096",
@@ -137,6 +160,14 @@ KEYS = [("a/b", "a~1b"), ("a~b", "a~0b"), ("~1", "~01"), ("", ""), ("a b", r"a\x
 # Several places at once: changes of the small file.
 TWO_SUBJECTS = rows.SUBJECT + "," + rows.SUBJECT.replace('"s"', '"t"')
 SEVERAL = [
+    ([('"levels":["U"]', '"levels":[1,"U",[]],"b":0,"a":0'), ('"trusted":false', '"trusted":"no"'), ('"name":"s",', ""), ('"parent":null', '"parent":"x"'),
+      ('"subject":"s",', ""), ("{", '{"profile":"2","frob":{},')],
+     ["/security/levels/0: not a string", "/security/levels/2: not a string", "/security/a: unknown member", "/security/b: unknown member",
+      "/subjects/0/name: missing", "/subjects/0/trusted: not true or false", "/objects/0/parent: not null", "/matrix/0/subject: missing",
+      "/profile: not 1 or 2", "/frob: unknown member"]),
+    ([(rows.SUBJECT, f'{rows.SUBJECT},{{}},7'), (f"[{rows.CELL}]", '{"modes":[]}')],
+     [*[f"/subjects/1/{it}: missing" for it in ("name", "maximum", "current", "integrity", "trusted")], "/subjects/2: not an object",
+      "/matrix: not a list"]),
     ([(rows.LEVELS, '["U","a b","","U"]'), (rows.CATEGORIES, '"categories":["A","A","é"]'), ('["lo"]', '["lo","x.y"]')],
      ["/security/levels/1: bad name", "/security/levels/2: bad name", "/security/categories/2: bad name", "/integrity/levels/1: bad name"]),
     ([(rows.LEVELS, '["U","U","C","C","U"]'), (rows.CATEGORIES, '"categories":["A","A"]'), ('["lo"]', '["lo","lo"]')],
@@ -190,15 +221,16 @@ def unknown_members():
 
 @needs_proof
 def many_unknown_members():
-    many = "".join(f'"x{number}":null,' for number in range(100_000))
-    same(places(rows.SMALL.replace("{", "{" + many, 1).encode()), ["/x0: unknown member"])
+    keys = [f"x{number}" for number in range(100_000)]
+    many = "".join(f'"{key}":null,' for key in keys)
+    same(places(rows.SMALL.replace("{", "{" + many, 1).encode()), [f"/{key}: unknown member" for key in sorted(keys)])
 
 
 def values_of_other_types():
     are_told(rows.TYPES, TYPES)
     are_told(rows.TWICE_WRONG, TWICE_WRONG)
     for text, place in zip(rows.OTHER_JSON, OTHER_JSON, strict=True):
-        same((text, places(text)), (text, [place]))
+        same((text, places(text)), (text, listed(place)))
 
 
 def texts_that_are_no_json():
@@ -261,7 +293,7 @@ def with_accesses(text, accesses):
 def accesses():
     small, standard = rows.SMALL.encode(), example("standard.json")
     for text, place in zip([text for wanted, text in rows.ACCESSES if isinstance(wanted, str)], ACCESSES, strict=True):
-        same((text, places(with_accesses(small, text))), (text, [place]))
+        same((text, places(with_accesses(small, text))), (text, listed(place)))
     cell = lambda s, o, modes: {"subject": s, "object": o, "modes": modes}
     faulty = [cell(s, o, [x]) for wanted, s, o, x in rows.STANDARD_ACCESSES if isinstance(wanted, str)]
     for access, words in zip(faulty, STANDARD_ACCESSES, strict=True):
@@ -351,26 +383,35 @@ class Damage:
         """Each cell with the list that it stands in, and its place there."""
         return [(name, n, cell) for name in ("matrix", "accesses") for n, cell in enumerate(self.data[name])]
 
+    def security(self, text):
+        """A security label by the names that the start has, given by those that stand there in the first scheme of the worlds."""
+        (levels, categories), own = worlds.SCHEMES[0], self.data["security"]
+        level, _, rest = text.partition(":")
+        found = ",".join(own["categories"][categories.index(it)] for it in rest.split(",") if it)
+        return own["levels"][levels.index(level)] + (f":{found}" if found else "")
+
     def member(self):
-        """A member that is left out, is added or is of another type, of a row; another is left out of a later row."""
+        """Members that are left out, are added or are of another type, of a row; another is left out of a later row."""
         rows_of = [(name, n, row) for name in ("subjects", "objects", "matrix", "accesses") for n, row in enumerate(self.data[name])]
         first, second = (rows_of[it] for it in sorted(self.rnd.sample(range(len(rows_of)), 2)))
         order = {"subjects": ["name", "maximum", "current", "integrity", "trusted"], "objects": ["name", "parent", "security", "integrity"]}
         keys = order.get(first[0], ["subject", "object", "modes"])
-        second[2].popitem()
+        left_out, _ = second[2].popitem()
+        last = f"/{second[0]}/{second[1]}/{left_out}: missing"
         words = self.rnd.choice(("missing", "unknown member", "type"))
         if words == "unknown member":
             first[2]["b"] = first[2]["aa"] = 0
-            return [f"/{first[0]}/{first[1]}/aa: unknown member"]
-        chosen = [keys[it] for it in self.some(len(keys))]
-        for key in chosen:
+            return [*[f"/{first[0]}/{first[1]}/{it}: unknown member" for it in ("aa", "b")], last]
+        found = []
+        for key in (keys[it] for it in self.some(len(keys))):
             if words == "missing":
                 del first[2][key]
             else:
                 first[2][key] = {}
-        root = (first[0], first[1], chosen[0]) == ("objects", 0, "parent")
-        other = {"trusted": "not true or false", "modes": "not a list"}.get(chosen[0], "not null" if root else "not a string")
-        return [f"/{first[0]}/{first[1]}/{chosen[0]}: {words if words == 'missing' else other}"]
+            root = (first[0], first[1], key) == ("objects", 0, "parent")
+            other = {"trusted": "not true or false", "modes": "not a list"}.get(key, "not null" if root else "not a string")
+            found.append(f"/{first[0]}/{first[1]}/{key}: {words if words == 'missing' else other}")
+        return [*found, last]
 
     def scheme(self):
         """Names of a scheme that are none, or that stand before in their list."""
@@ -407,7 +448,8 @@ class Damage:
         for kind, keys in (("subjects", ("maximum", "current", "integrity")), ("objects", ("security", "integrity"))):
             for n in self.some(len(self.data[kind])):
                 for key in (keys[it] for it in self.some(len(keys))):
-                    level, category = ("lo", "I") if key == "integrity" else ("S", "N")
+                    scheme = self.data["integrity" if key == "integrity" else "security"]
+                    level, category = scheme["levels"][0], scheme["categories"][0]
                     words = self.rnd.choice(list(wrong))
                     self.data[kind][n][key] = wrong[words].format(level, category, category)
                     found.append(f"/{kind}/{n}/{key}: {words}")
@@ -444,7 +486,8 @@ class Damage:
         """Subjects whose maximum lacks a level or a category that their current label has."""
         found = []
         for n in self.some(len(self.data["subjects"])):
-            self.data["subjects"][n].update(self.rnd.choice(({"maximum": "S:A,B", "current": "T:A"}, {"maximum": "T:A", "current": "U:B"})))
+            maximum, current = self.rnd.choice((("S:A,B", "T:A"), ("T:A", "U:B")))
+            self.data["subjects"][n].update({"maximum": self.security(maximum), "current": self.security(current)})
             found.append(f"/subjects/{n}/current: maximum does not dominate it")
         return found
 
@@ -454,11 +497,12 @@ class Damage:
         key, words = self.rnd.choice((("security", "does not dominate the parent's"), ("integrity", "the parent's does not dominate it")))
         if key == "integrity":
             for row in objects:
-                row["security"] = "U"
+                row["security"] = self.security("U")
         for n, row in enumerate(objects):
-            row[key] = {"security": "C:A", "integrity": "lo"}[key]
+            row[key] = {"security": self.security("C:A"), "integrity": "lo"}[key]
             if n and self.rnd.random() < 0.5:
-                row[key] = {"security": self.rnd.choice(("T:B", "U:A")), "integrity": self.rnd.choice(("hi", "lo:I"))}[key]
+                security, integrity = self.security(self.rnd.choice(("T:B", "U:A"))), self.rnd.choice(("hi", "lo:I"))
+                row[key] = {"security": security, "integrity": integrity}[key]
                 found.append(f"/objects/{n}/{key}: {words}")
             if n:
                 row["parent"] = objects[0]["name"]

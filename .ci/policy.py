@@ -20,7 +20,7 @@ class Scheme(NamedTuple):
     def text(self, label):
         level, categories = label
         if level >= len(self.levels) or any(it >= len(self.categories) for it in categories):
-            return number_text(label)
+            return outside_text(label)
         return joined(self.levels[level], [self.categories[it] for it in sorted(categories)])
 
     def has(self, label):
@@ -33,6 +33,11 @@ def joined(level, categories):
 
 def number_text(label):
     return joined(str(label[0]), [str(it) for it in sorted(label[1])])
+
+
+def outside_text(label):
+    """The text of a label that a scheme hasn't: by numbers, each behind a #."""
+    return joined(f"#{label[0]}", [f"#{it}" for it in sorted(label[1])])
 
 
 def number_label(text):
@@ -129,6 +134,19 @@ class State:
                       "security": self.security.has, "integrity": self.integrity.has}[kind](value)
         return known
 
+    def untrusted(self, s):
+        """The same state, but for the trust of a subject."""
+        other = copy.copy(self)
+        other.trusted = self.trusted - {s}
+        return other
+
+    def uses_trust(self, s, action):
+        """Whether a request is granted, and would not be if the subject that asks were not trusted."""
+        return self.grants(s, action) and not self.untrusted(s).grants(s, action)
+
+    def grants(self, s, action):
+        return self.decide(s, action).split()[0] in ("yes", "created")
+
     def conditions(self, s, action):
         """The conditions of a request in its domain: reason, whether it holds, what it rests on, and the accesses in the way."""
         return getattr(self, "of_" + action[0].partition("-")[0])(s, *action[1:])
@@ -153,9 +171,7 @@ class State:
         else:
             simple = f"{word} does not observe"
         here, there = f"current {sec(current)}", f"{sec(label)} of {thing}"
-        if s in self.trusted:
-            star = f"{name} is trusted"
-        elif mode == 0:
+        if mode == 0:
             star = "execute neither observes nor alters"
         elif mode == 1:
             star = said(dominates(current, label), here, "dominates", there)
@@ -215,23 +231,20 @@ class State:
         ceiling = dominates(self.maximum[s], label)
         new = f"new {self.security.text(label)}"
         failing = [it for it in sorted(self.accesses) if it[0] == s and not self.star(s, label, self.label[it[1]], it[2])]
-        if s in self.trusted:
-            basis = self.trusts(s)[1]
-        else:
-            basis = f"{'not ' if failing else ''}all that {self.subject(s)} holds meets star at {new}"
+        basis = f"{'not ' if failing else ''}all that {self.subject(s)} holds meets star at {new}"
         return [("ceiling", ceiling, said(ceiling, f"maximum {self.security.text(self.maximum[s])}", "dominates", new),
                  []), ("star", not failing, basis, [f"{self.object(o)} {MODES[x]}" for _, o, x in failing])]
 
     def of_relabel(self, s, o, label):
         name, thing, sec = self.subject(s), self.object(o), self.security.text
         new, old = f"new {sec(label)}", f"{sec(self.label[o])} of {thing}"
-        if s in self.trusted or o == 0:
+        if o == 0:
             holds, authority = self.trusts(s)
         else:
             parts = [(self.controls(s, o), holding(self.controls(s, o), name, self.object(self.parent[o]))),
                      (dominates(self.current[s], self.label[o]), f"current {sec(self.current[s])}"),
                      (dominates(label, self.label[o]), new)]
-            holds = all(it for it, _ in parts)
+            holds = s in self.trusted or all(it for it, _ in parts)
             authority = ", ".join([parts[0][1]] + [said(it, word, "dominates", old) for it, word in parts[1:]])
         below = all(dominates(self.label[it], label) for it in self.children(o))
         fits = f"{'' if below else 'not '}each child of {thing} dominates {new}"
@@ -337,6 +350,91 @@ class State:
         self.current[s] = kept
         return granted
 
+    # the remedy of a request that is denied: steps, each with the subjects of whom any may make it; and what they lead to, None
+    # where the request is granted then, the same request of others, or the words that say that there is none
+
+    def after(self, steps):
+        """The state after steps, of which each has to be granted, whoever makes it."""
+        then = copy.copy(self)
+        for name in ("matrix", "accesses", "current", "label", "trust", "parent"):
+            setattr(then, name, copy.copy(getattr(self, name)))
+        for subjects, action in steps:
+            assert subjects and all(then.grants(it, action) for it in subjects), "each step of a remedy is granted"
+            then.apply(subjects[0], action)
+        return then
+
+    def able(self, action):
+        """The first three subjects that are granted an action."""
+        return [it for it in sorted(self.maximum) if self.grants(it, action)][:3]
+
+    def remedy_steps(self, s, action):
+        found = self.get_steps(s, *action[1:]) if action[0].startswith("get-") else self.change_steps(s, action)
+        if found[1] is None:
+            assert self.after(found[0]).grants(s, action), "after a remedy the request is granted"
+        elif isinstance(found[1], tuple):
+            self.after(found[0] + [found[1]])
+        return found
+
+    def own_steps(self, s, mode, o):
+        way = self.way(s, mode, o)
+        if way is None:
+            return [], "none by level"
+        return [([s], ("release", it, p)) for _, p, it in way[0]] + [([s], ("level", way[1]))], None
+
+    def get_steps(self, s, mode, o):
+        get, give = (f"get-{MODES[mode]}", mode, o), ("give", mode, s, o)
+        if (s, o, mode) in self.matrix:
+            return self.own_steps(s, mode, o)
+        if not self.simple(s, self.label[o], mode) or not self.strict(s, o, mode):
+            return [], "none by level"
+        giving = self.by_others(give)
+        if not giving:
+            return [], f"none now: nobody gives {MODES[mode]} {self.object(o)} to {self.subject(s)}"
+        given = self.after(giving)
+        if given.grants(s, get):
+            return giving, None
+        steps, ending = given.own_steps(s, mode, o)
+        return (giving if steps else []) + steps, ending
+
+    def change_steps(self, s, action):
+        word, free = action[0], []
+        if word == "level":
+            free = [(s, p, it) for t, p, it in sorted(self.accesses) if t == s and not self.star(s, action[1], self.label[p], it)]
+        if word == "relabel":
+            o, label = action[1:]
+            free = [(t, p, it) for t, p, it in sorted(self.accesses)
+                    if p == o and not (self.simple(t, label, it) and self.star(t, self.current[t], label, it))]
+        free = [([t], ("release", it, p)) for t, p, it in free]
+        freed = self.after(free)
+        if freed.grants(s, action):
+            return free, None
+        own = freed.own_get(s, action)
+        if own is not None:
+            return free + [([s], own)], None
+        others = freed.by_others(action) if word != "level" else []
+        return (free + others[:-1], others[-1]) if others else ([], "none")
+
+    def own_get(self, s, action):
+        """The get of append or write of the parent after which a subject is granted an action."""
+        place = {"create": 1, "give": 3, "rescind": 3, "delete": 1, "relabel": 1}.get(action[0])
+        parent = None if place is None else action[place] if action[0] == "create" else self.parent.get(action[place])
+        for mode in (2, 3) if parent is not None else ():
+            get = (f"get-{MODES[mode]}", mode, parent)
+            if self.grants(s, get) and self.after([([s], get)]).grants(s, action):
+                return get
+        return None
+
+    def by_others(self, action):
+        """The steps of those who are granted an action; where nobody is, of the first that is after a get of its own."""
+        now = self.able(action)
+        if now:
+            return [(now, action)]
+        for t in sorted(self.maximum):
+            own = self.own_get(t, action)
+            if own is not None:
+                return [([t], own), ([t], action)]
+        return []
+
 
 KINDS = {**{f"get-{mode}": ("mode", "object") for mode in MODES}, "release": ("mode", "object"),
          "give": ("mode", "subject", "object"), "rescind": ("mode", "subject", "object"),
@@ -391,20 +489,37 @@ def explained(state, s, action):
     if reply == "undefined":
         lines += unknowns(state, s, action)
     else:
-        for reason, holds, basis, failing in state.conditions(s, action):
-            lines.append(f"{reason} {'holds' if holds else 'fails'}: {basis}")
-            lines += [] if holds else [f"  {it}" for it in failing]
-        if action[0].startswith("get-") and reply != "yes":
-            lines += remedies(state, s, state.way(s, action[1], action[2]))
+        lines += condition_lines(state, s, action)
+        if reply.startswith("no"):
+            lines += [f"remedy: {it}" for it in remedies(state, s, action)]
     return "".join(f"{it}\n" for it in lines), 0 if reply == "yes" or reply.startswith("created") else 4
 
 
-def remedies(state, s, way):
-    """The lines of what a get that is denied takes of its subject."""
-    if way is None:
-        return ["remedy: none by level"]
-    asked = [f"release {MODES[x]} {state.object(o)}" for _, o, x in way[0]] + [f"level {state.security.text(way[1])}"]
-    return [f"remedy: {state.subject(s)} {it}" for it in asked]
+def condition_lines(state, s, action):
+    """The lines of the conditions, each with what it rests on without trust in the subject that asks. One that holds by trust alone says so; what
+    rests on trust itself tells it as it is."""
+    lines = []
+    for (reason, holds, basis, failing), (_, alone, plain, _) in zip(state.conditions(s, action), state.untrusted(s).conditions(s, action)):
+        word = "fails" if not holds else "holds" if alone else "holds by trust"
+        lines.append(f"{reason} {word}: {basis if plain == state.untrusted(s).trusts(s)[1] else plain}")
+        lines += [] if holds else [f"  {it}" for it in failing]
+    return lines
+
+
+def remedies(state, s, action):
+    """The lines of the remedy of a request that is denied."""
+    steps, ending = state.remedy_steps(s, action)
+    lines = [step_text(state, *it) for it in steps]
+    if ending is None:
+        return lines
+    return lines + [ending if isinstance(ending, str) else f"{step_text(state, *ending)} instead"]
+
+
+def step_text(state, subjects, action):
+    names = " or ".join(map(state.subject, subjects))
+    if action[0] == "give":
+        return f"{names} gives {MODES[action[1]]} {state.object(action[3])} to {state.subject(action[2])}"
+    return f"{names} {words_of(state, action)}"
 
 
 def way_text(state, way):
@@ -423,7 +538,7 @@ def unknowns(state, s, action):
         if kind == "object" and value not in state.label:
             lines.append(f"inactive object: {state.object(value)}")
         if kind in ("security", "integrity") and not getattr(state, kind).has(value):
-            lines.append(f"{kind} label outside the scheme: {number_text(value)}")
+            lines.append(f"{kind} label outside the scheme: {outside_text(value)}")
     return lines
 
 

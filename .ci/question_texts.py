@@ -3,6 +3,7 @@ import copy
 
 import json
 
+import closures
 from policy import KINDS, MODES, REASONS, below, dominates, explained, number_label, words_of
 
 REPLIES = ("yes", "created", "no", "undefined")
@@ -149,7 +150,15 @@ def lint(state):
         if pairs:
             count = "1 pair" if len(pairs) == 1 else f"{len(pairs)} pairs"
             lines.append(f"downflow: {state.subject(s)}: {count}, as {state.object(pairs[0][0])} to {state.object(pairs[0][1])}\n")
+    lines += brought(state)
     return "".join(lines), 4 if lines else 0
+
+
+def brought(state):
+    """What `mls lint` prints of what untrusted subjects could bring about."""
+    found = [f"{state.subject(s)} {MODES[x]} {state.object(o)}" for s, o, x in closures.brought(state)]
+    more = [f"{len(found) - 20} more"] if len(found) > 20 else []
+    return [f"could: {it}, by untrusted subjects\n" for it in found[:20] + more]
 
 
 def covering(labels):

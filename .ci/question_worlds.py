@@ -6,11 +6,17 @@ from question_texts import Entry
 
 # The integrity label that dominates all.
 HIGHEST = 1, frozenset([0])
-LEVELS, CATEGORIES = ["U", "C", "S", "T"], ["A", "B", "N"]
+# The names of levels and categories: letters, or numbers that stand for others.
+SCHEMES = (["U", "C", "S", "T"], ["A", "B", "N"]), (["3", "2", "1", "7"], ["0", "5", "4"])
 
 
 def any_label(rnd, levels, categories):
     return rnd.randrange(levels), frozenset(it for it in range(categories) if rnd.random() < 0.4)
+
+
+def asked_label(rnd, levels, categories, is_any):
+    """A label of a scheme, or where any may be asked for now and then one that it may lack."""
+    return any_label(rnd, 16, 9) if is_any and rnd.random() < 0.1 else any_label(rnd, levels, categories)
 
 
 def subject_rows(rnd, security, integrity):
@@ -39,7 +45,8 @@ def object_rows(rnd, security, integrity):
 
 def start(rnd):
     """The text of a start file that is accepted."""
-    data = {"security": {"levels": LEVELS, "categories": CATEGORIES}, "integrity": {"levels": ["lo", "hi"], "categories": ["I"]}}
+    levels, categories = rnd.choice(SCHEMES)
+    data = {"security": {"levels": levels, "categories": categories}, "integrity": {"levels": ["lo", "hi"], "categories": ["I"]}}
     text = lambda names: lambda label: names["levels"][label[0]] + (
         ":" + ",".join(names["categories"][it] for it in sorted(label[1])) if label[1] else "")
     data["subjects"] = subject_rows(rnd, text(data["security"]), text(data["integrity"]))
@@ -95,7 +102,7 @@ def changed(rnd, data):
         row["parent"] = root["name"] if rnd.random() < 0.2 else row["parent"]
     for row in others:
         if rnd.random() < 0.1 and all(it["parent"] != row["name"] for it in others):
-            row["security"] = f"{LEVELS[-1]}:{','.join(CATEGORIES)}"
+            row["security"] = f"{data['security']['levels'][-1]}:{','.join(data['security']['categories'])}"
 
 
 def other(rnd, text):
@@ -106,7 +113,7 @@ def other(rnd, text):
     data["profile"] = rnd.choice((1, 2))
     shuffled(rnd, data)
     names = {**swaps(rnd, [it["name"] for it in data["subjects"]]), **swaps(rnd, [it["name"] for it in data["objects"]])}
-    for some in (LEVELS, CATEGORIES, ["lo", "hi"], ["I"]):
+    for some in (data["security"]["levels"], data["security"]["categories"], ["lo", "hi"], ["I"]):
         names |= swaps(rnd, some)
     data = renamed(data, names)
     for rows in (data["security"]["levels"], data["security"]["categories"], data["integrity"]["levels"]):
@@ -115,12 +122,12 @@ def other(rnd, text):
     return json.dumps(data, indent=1)
 
 
-def action(rnd, state):
-    """A request of a subject, most of whose operands are there."""
+def action(rnd, state, is_any=False):
+    """A request of a subject, most of whose operands are there; where any may be asked for, some of its labels aren't its scheme's."""
     word = rnd.choice([*[f"get-{it}" for it in MODES] * 2, *list(KINDS)])
     some = lambda known: rnd.choice(sorted(known)) if rnd.random() < 0.95 else rnd.randrange(9)
     make = {"mode": lambda: rnd.randrange(4), "subject": lambda: some(state.maximum), "object": lambda: some(state.label),
-            "security": lambda: any_label(rnd, 4, 3), "integrity": lambda: any_label(rnd, 2, 1)}
+            "security": lambda: asked_label(rnd, 4, 3, is_any), "integrity": lambda: asked_label(rnd, 2, 1, is_any)}
     operands = [make[kind]() for kind in KINDS[word]]
     if word.startswith("get-"):
         operands[0] = MODES.index(word[4:])
@@ -129,10 +136,10 @@ def action(rnd, state):
     return some(state.maximum), (word, *operands)
 
 
-def some_action(rnd, state):
+def some_action(rnd, state, is_any=False):
     """A request; half of them are tried until one is granted, or some times."""
     for _ in range(rnd.choice((1, 12))):
-        s, asked = action(rnd, state)
+        s, asked = action(rnd, state, is_any)
         if state.decide(s, asked) == "yes" or state.decide(s, asked).startswith("created"):
             break
     return s, asked
@@ -142,7 +149,7 @@ def journal(rnd, state, count):
     """So many random requests, asked of a state: their entries."""
     entries = []
     for number in range(count):
-        s, asked = some_action(rnd, state)
+        s, asked = some_action(rnd, state, is_any=True)
         entries.append(Entry(number, rnd.randrange(3), s, asked, state.apply(s, asked)))
     return entries
 

@@ -10,7 +10,7 @@ import question_worlds as worlds
 import snapshot_rows as snapshots
 import spans
 import usages
-from asking import REUSED, STANDARD, asks, documents, shown_below
+from asking import GONE, REUSED, STANDARD, asks, documents, shown_below
 from outside import in_its_folder, put, ran_program, same
 from policy import MODES, State
 
@@ -97,11 +97,12 @@ def files_that_are_there():
     """No file is made anew, and no start is printed without its map."""
     put("reused.journal", JOURNAL)
     put("there", b"kept\n")
-    for path in ("there", ".", "none/map", ""):
-        refused(["state", "--start", f"--map={path}", REUSED, "reused.journal"], f"{path}: file")
+    there = "File exists (os error 17)"
+    for path, why in (("there", there), (".", there), ("none/map", GONE), ("", GONE)):
+        refused(["state", "--start", f"--map={path}", REUSED, "reused.journal"], f"{path}: {why}")
     same(content("there"), b"kept\n")
     os.symlink("nowhere", "link")
-    refused(["state", "--start", "--map", "link", REUSED, "reused.journal"], "link: file")
+    refused(["state", "--start", "--map", "link", REUSED, "reused.journal"], f"link: {there}")
     put("torn.journal", JOURNAL[:-1])
     refused(["state", "--start", "--map", "unmade", REUSED, "torn.journal"], "torn.journal: line 3: entry 1 BadForm")
     same((os.path.exists("unmade"), os.path.exists("nowhere")), (False, False))
@@ -134,11 +135,11 @@ def maps_that_do_not_fit():
         for text in UNFIT:
             put("other.map", text)
             refused([command, "--after", "other.map", "next.json", "torn.journal"], "other.map: map")
-        refused([command, "--after", "other.map", "empty.json", "torn.journal"], "empty.json: start 1 Json")
-        refused([command, "--after", "none.map", "empty.json", "torn.journal"], "none.map: file")
-        refused([command, "--after", "none.map", "next.json", "none.journal"], "none.journal: file")
+        refused([command, "--after", "other.map", "empty.json", "torn.journal"], "empty.json: start 1 Json: empty")
+        refused([command, "--after", "none.map", "empty.json", "torn.journal"], f"none.map: {GONE}")
+        refused([command, "--after", "none.map", "next.json", "none.journal"], f"none.journal: {GONE}")
         refused([command, "--after", "reused.map", "next.json", "torn.journal"], "torn.journal: line 4: entry 1 BadForm")
-    refused(["held", "--after", "reused.map", "--at", "9", "next.json", "next.journal"], "next.journal: at most 4")
+    refused(["held", "--after", "reused.map", "--at", "9", "next.json", "next.journal"], "next.journal: the journal has 4 entries")
 
 
 def words_that_have_no_map():

@@ -4,7 +4,7 @@ import json
 
 import question_worlds as worlds
 from asking import REUSED as IN_REUSED
-from asking import STANDARD, asks, said, shown_below
+from asking import GONE, STANDARD, asks, said, shown_below
 from outside import EXAMPLES, example, examples, needs_proof, put, ran_program, same
 from policy import KINDS, MODES, State, words_of
 
@@ -247,10 +247,10 @@ def faults_of_snapshots():
     put("one.journal", b"0 0 0 get-read 1 yes\n")
     put("torn.journal", b"0 0 0 get-read 1 yes")
     put("forged.journal", b"0 0 0 get-read 1 no star\n")
-    refused(["--at", "2", STANDARD, "one.journal"], "one.journal: at most 1")
+    refused(["--at", "2", STANDARD, "one.journal"], "one.journal: the journal has 1 entry")
     refused([STANDARD, "torn.journal"], "torn.journal: line 1: entry 1 BadForm")
-    refused([STANDARD, "forged.journal"], "forged.journal: replay 2 Differs at 0 expected yes", 3)
-    refused(["no.json", "one.journal"], "no.json: file")
+    refused([STANDARD, "forged.journal"], "forged.journal: replay 2 Differs at 0 expected yes, found no star: another start's journal?", 3)
+    refused(["no.json", "one.journal"], f"no.json: {GONE}")
     not_understood([STANDARD])
 
 

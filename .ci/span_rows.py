@@ -2,7 +2,7 @@
 import spans
 import time_rows
 from asking import (
-    HELD, NO_TIME, OPENED, REUSED, STANDARD, asks, journal_of, packed, part_by_chance, put_faulty, put_marks, shown_below,
+    GONE, HELD, NO_TIME, OPENED, REUSED, STANDARD, asks, journal_of, packed, part_by_chance, put_faulty, put_marks, shown_below,
 )
 from outside import example, in_its_folder, put, same
 from policy import MODES
@@ -48,7 +48,7 @@ MARKED = packed("""
     : 0 1 2 3 4 | --when 2026-11-27T10:00:00Z : 0 1 2 | --when 2026-11-27T12:59:59+01:00 : 0 1 2 3 | --when 2026-11-28 : 0
     --since 2026-11-27T11:30:00Z : 0 1 2 3 4 | --since 2026-11-28 : 0 | --until 2026-11-27T10:30:00Z : 0 1 2
     --until 2026-11-26 : | --since 2026-11-27T10:30:00Z --until 2026-11-27T11:00:00Z --mode write : 0 3
-    --since 2026-11-28 --until 2026-11-27T11:00:00Z : | --since 2026-11-27T10:30:00Z --to 5 : 0 1 2
+    --since 2026-11-27T10:30:00Z --to 5 : 0 1 2 | --on 2026-11-27 : 0 1 2 3 4 | --on 2026-11-28 : 0 | --on 2026-11-26 :
     --from 13 --until 2026-11-27T11:00:00Z : | --from 13 --since 2026-11-27 --subject ann : | --at 12 --subject sec : 0 3
 """)
 answered, refused, not_understood = asks("held")
@@ -109,21 +109,21 @@ def objects_that_have_a_number_again():
 def faults_of_spans_in_their_order():
     put_faulty()
     names = ["--subject", "zoe", "--object", "file"]
-    refused([*names, "no.json", "no.journal"], "no.json: file")
-    refused([*names, "empty.json", "no.journal"], "no.journal: file")
-    refused([*names, "empty.json", "torn.journal"], "empty.json: start 1 Json")
+    refused([*names, "no.json", "no.journal"], f"no.json: {GONE}")
+    refused([*names, "empty.json", "no.journal"], f"no.journal: {GONE}")
+    refused([*names, "empty.json", "torn.journal"], "empty.json: start 1 Json: empty")
     refused([*names, HELD, "torn.journal"], "torn.journal: line 5: entry 1 BadForm")
-    refused([*names, HELD, "forged.journal"], "forged.journal: replay 2 Differs at 1 expected no star", 3)
+    refused([*names, HELD, "forged.journal"], "forged.journal: replay 2 Differs at 1 expected no star, found yes", 3)
     for option in ("--at", "--from"):
-        refused([*names, option, "6", HELD, "opened.journal"], "opened.journal: at most 5")
+        refused([*names, option, "6", HELD, "opened.journal"], "opened.journal: the journal has 5 entries")
     refused([*names, "--at", "5", HELD, "opened.journal"], "zoe: bad name (bob?)")
     refused([*names, "--to", "6", HELD, "opened.journal"], "zoe: bad name (bob?)")
     refused([*names[2:], "--subject", "ann", HELD, "opened.journal"], "file: bad name")
-    for word, meant in (("", ""), ("#", ""), ("#01", ""), ("#65536", ""), ("$x", ""), ("Plans", " (plans?)"), ("plans ", " (plans?)"), ("ann", "")):
+    for word, meant in (("", ""), ("#", ""), ("#01", ""), ("#65536", ""), ("$x", ""), ("Plans", " (plans?)"), ("plans ", " (plans?)"), ("ann", ": it is a subject: mls about")):
         refused([f"--object={word}", HELD, "opened.journal"], f"{word}: bad name{meant}")
     refused(["--from", "3", "--to", "2", "no.json", "no.journal"], "--from 3: above --to 2", 2)
     put_marks("early.marks", OPENED, [3], TIMES[1:2])
-    refused([*names, "--marks", "no.marks", "empty.json", "no.journal"], "no.marks: file")
+    refused([*names, "--marks", "no.marks", "empty.json", "no.journal"], f"no.marks: {GONE}")
     refused([*names, "--marks", "none.marks", HELD, "opened.journal"], "none.marks: line 1: mark")
     refused([*names, "--marks", "early.marks", "--when", "2026-11-27", HELD, "opened.journal"], "early.marks: no mark by then")
     for option in ("--when", "--since", "--until"):

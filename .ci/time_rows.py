@@ -6,7 +6,7 @@ import subprocess
 import marks
 import question_texts as texts
 import question_worlds as worlds
-from asking import NO_TIME, STANDARD, asks, packed, put_marks, said
+from asking import GONE, NO_REPLY, NO_TIME, STANDARD, asks, packed, put_marks, said
 from outside import PROGRAM, SECONDS, in_its_folder, put, ran_program, same, some
 from policy import explained, who, words_of
 
@@ -36,11 +36,11 @@ def instant_by_chance(rnd, found):
     return at + rnd.choice((0, 0, 1, -1, 999, MICROSECOND, -MICROSECOND, SECOND, -SECOND, DAY, -DAY, 400 * DAY, -400 * DAY))
 
 
-def word_of(rnd, at):
-    """A word for an instant, with any offset; and for one that begins a day in UTC perhaps its date."""
-    date, *rest = marks.parts(at)
+def word_of(rnd, at, is_last=False):
+    """A word for an instant, with any offset; and for one that begins a day in UTC perhaps its date, or for one that ends it."""
+    date, *rest = marks.parts(at + 1 if is_last else at)
     if rest == [0, 0, 0, 0] and rnd.random() < 0.5:
-        return date.isoformat()
+        return marks.parts(at)[0].isoformat()
     minutes = rnd.choice((0, 0, 60, -60, 330, -1439, 1439))
     date, hour, minute, second, nanos = marks.parts(at + minutes * 60 * SECOND)
     digits = f"{nanos:09}".rstrip("0")
@@ -57,9 +57,9 @@ def noted(found):
 def states_by_chance(rnd, found, asked, is_range):
     """Words that tell marks, and perhaps by time from which state on and up to which; and what then is asked for beside what was: states
     from `first` to `last`."""
-    words = ["--marks", noted(found)]
+    words, first = ["--marks", noted(found)], None
     if is_range and rnd.random() < 0.5:
-        at = instant_by_chance(rnd, found)
+        first = at = instant_by_chance(rnd, found)
         number = marks.since(found, at)
         behind = found[-1].number + 1 if found else 0
         words.append(f"--since={word_of(rnd, at)}")
@@ -68,7 +68,9 @@ def states_by_chance(rnd, found, asked, is_range):
         at = instant_by_chance(rnd, found)
         number = marks.until(found, at)
         last = 0 if number is None else number + 1
-        words += ["--until", word_of(rnd, at)]
+        if first is not None and first > at:
+            return words, asked
+        words += ["--until", word_of(rnd, at, is_last=True)]
         asked = {**asked, "last": min(asked.get("last", last), last)}
     return words, asked
 
@@ -110,7 +112,10 @@ def entries_by_times(world):
     for _ in range(2):
         since, until = (instant_by_chance(rnd, found) if rnd.random() < 0.6 else None for _ in range(2))
         words = [] if since is None else [f"--since={word_of(rnd, since)}"]
-        words += [] if until is None else ["--until", word_of(rnd, until)]
+        words += [] if until is None else ["--until", word_of(rnd, until, is_last=True)]
+        if since is not None and until is not None and since > until:
+            refused(["journal", *files[:2], *words, *files[2:]], f"--since {words[0].partition('=')[2]}: behind --until {words[2]}", 2)
+            continue
         entries = between(world.entries, found, since, until)
         if rnd.random() < 0.4:
             number = rnd.randrange(len(world.entries))
@@ -189,14 +194,16 @@ LISTED = packed("""
     --since 2026-11-27T11:00:00.000001001Z : | --since 2026-11-27T11:00:00.000000999Z : 0 1 2 | --since 2026-11-28 :
     --since 2026-11-27 : 0 1 2 | --since=0000-01-01T00:00:00Z : 0 1 2 | --until 2026-11-27T10:30:00Z : 0 1
     --until 2026-11-27T10:00:00Z : 0 1 | --until 2026-11-27T11:00:00+01:00 : 0 1 | --until 2026-11-27T09:59:59.999999999Z :
-    --until 2026-11-27T15:30:00+05:30 : 0 1 | --until 9999-12-30T22:00:00.999999999Z : 0 1 | --until 2026-11-27 :
+    --until 2026-11-27T15:30:00+05:30 : 0 1 | --until 9999-12-30T22:00:00.999999999Z : 0 1 | --until 2026-11-27 : 0 1 | --until 2026-11-26 :
+    --on 2026-11-27 : 0 1 | --on 2026-11-26 : | --on 2026-11-28 : | --since 2026-11-27 --until 2026-11-27 : 0 1
+    --until 2026-11-26T23:59:59.999999999Z : | --since 2026-11-27T23:59:59.999999Z --until 2026-11-27 :
     --since 2026-11-27T10:30:00Z --until 2026-11-27T10:30:00Z : 0 1
     --since 2026-11-27T10:30:00Z --until 2026-11-27T10:30:00Z --from 1 : 1 | --since 2026-11-27T10:30:00Z --to 0 : 0
     --until 2026-11-27T10:59:60Z --subject bob : 1 | --until 2026-11-27T10:30:00Z --session 1 :
 """)
 WORDS = [
     "", "x", "now", "2026", "2026-11", "2026-11-31", "2026-02-29", "2026-13-01", "2026-00-01", "2026-01-00", "2026-1-27", "2026.11.27", "20261127",
-    "2026-11-27Z", " 2026-11-27", "2026-11-27 ", "2026-11-27T11:00:00", "2026-11-27T11:00:00Z ", "2026-11-27T24:00:00Z", "2026-11-27T11:60:00Z",
+    "2026-11-27Z", " 2026-11-27", "2026-11-27 ", "2026-11-27T11:00:00Z ", "2026-11-27T24:00:00Z", "2026-11-27T11:60:00Z",
     "2026-11-27T11:00:61Z", "2026-11-27T1:00:00Z", "2026-11-27T11:00:00.Z", "2026-11-27T11:00:00.1234567890Z", "2026-11-27T11:00:00+1:00",
     "2026-11-27T11:00:00+01:60", "2026-11-27T11:00:00+26:00", "2026-11-27T11:00:00 Z", "-001-01-01T00:00:00Z", "9999-12-30T22:00:01Z", "9999-12-31",
     "2026-W48-5", "1764241200", "@1764241200", "2026-11-27T11:00:00Zx", "2026-11-27T11:00:00\u00a0Z", "2026-11-27T\u0661\u0661:00:00Z",
@@ -263,9 +270,21 @@ def words_that_are_no_times():
     for command in ("ask", "explain", "who"):
         refused([command, "--journal", "no.journal", "--marks", "no.marks", "--when", "x", "no.json", LINE], f"--when x: {NO_TIME}", 2)
     # (of two the first in this order)
-    for words, told in (([], f"--since x: {NO_TIME}"), (["--reply=z"], "--reply z: begins no reply"),
+    for words, told in (([], f"--since x: {NO_TIME}"), (["--reply=z"], f"--reply z: {NO_REPLY}"),
                         (["--from=2", "--to=1"], "--from 2: above --to 1")):
         refused(["journal", "--marks", "m", "--since=x", "--until=y", *words, "no.json", "no.journal"], told, 2)
+
+
+def words_that_are_no_days():
+    """--on takes a date alone; a time without a zone says so; the first time isn't behind the last."""
+    for words in (["journal"], ["held"], ["usage"]):
+        for day in ("2026-11-27T11:00:00Z", "27.11.2026", "2026-13-01", "2026-11-31", "x", ""):
+            refused([*words, "--marks=m", f"--on={day}", "no.json", "j"], f"--on {day}: not a date; write it as 2026-11-27", 2)
+        for option in ("since", "until"):
+            refused([*words, "--marks=m", f"--{option}=2026-11-27T14:02:00", "no.json", "j"],
+                    f"--{option} 2026-11-27T14:02:00: no zone: add Z or +01:00", 2)
+        for since, until in (("2026-11-28", "2026-11-27"), ("2026-11-28T00:00:00Z", "2026-11-27"), ("2026-11-27T12:00:00+01:00", "2026-11-27T10:59:59Z")):
+            refused([*words, "--marks=m", f"--since={since}", f"--until={until}", "no.json", "j"], f"--since {since}: behind --until {until}", 2)
 
 
 def words_that_no_question_of_times_has():
@@ -276,7 +295,9 @@ def words_that_no_question_of_times_has():
     not_understood(["state", *when, STANDARD, "j"], ["journal", "--since", time, STANDARD, "j"], ["journal", "--until", time, STANDARD, "j"])
     not_understood(["state", *noted, "--at", "0", *when, STANDARD, "j"], ["journal", *noted, *when, STANDARD, "j"])
     not_understood(["ask", "--journal", "j", *noted, "--at", "0", *when, STANDARD, LINE], ["explain", "--journal", "j", *noted, *when, STANDARD])
-    not_understood(["compare", *noted, STANDARD, STANDARD, "j"], ["state", *noted, "--since", time, STANDARD, "j"])
+    not_understood(*([*it, *noted, "--on=2026-11-27", option, time, STANDARD, "j"] for it in (["journal"], ["held"], ["usage"]) for option in ("--since", "--until")))
+    not_understood(["held", *noted, "--on=2026-11-27", "--at=1", STANDARD, "j"], ["held", *noted, "--on=2026-11-27", *when, STANDARD, "j"], ["usage", "--on=2026-11-27", STANDARD, "j"])
+    not_understood(["compare", *noted, *when, STANDARD, STANDARD, "j"], ["state", *noted, "--since", time, STANDARD, "j"])
 
 
 def faults_of_times_in_their_order():
@@ -287,25 +308,25 @@ def faults_of_times_in_their_order():
     put_marks("of-forged.marks", forged, [2], [BACK[0].time])
     when = ["--when", "2026-11-26"]
     asked = lambda start, noted, journal, *more: ["state", "--marks", noted, *more, start, journal]
-    refused(asked("no.json", "no.marks", "no.journal"), "no.json: file")
-    refused(asked("empty.json", "no.marks", "no.journal"), "no.marks: file")
-    refused(asked("empty.json", "none.marks", "no.journal"), "no.journal: file")
+    refused(asked("no.json", "no.marks", "no.journal"), f"no.json: {GONE}")
+    refused(asked("empty.json", "no.marks", "no.journal"), f"no.marks: {GONE}")
+    refused(asked("empty.json", "none.marks", "no.journal"), f"no.journal: {GONE}")
     refused(asked("empty.json", "torn.marks", "back.journal"), "torn.marks: torn after entry 0")
     refused(asked("empty.json", "none.marks", "back.journal"), "none.marks: line 1: mark")
     refused(asked("empty.json", "back.marks", "forged.journal", *when), "back.marks: differs at entry 1", 3)
     refused(asked("empty.json", "of-forged.marks", "forged.journal", *when), "of-forged.marks: no mark by then")
-    refused(asked("empty.json", "of-forged.marks", "forged.journal"), "empty.json: start 1 Json")
-    refused(asked(STANDARD, "of-forged.marks", "forged.journal"), "forged.journal: replay 2 Differs at 1 expected no star", 3)
+    refused(asked("empty.json", "of-forged.marks", "forged.journal"), "empty.json: start 1 Json: empty")
+    refused(asked(STANDARD, "of-forged.marks", "forged.journal"), "forged.journal: replay 2 Differs at 1 expected no star, found yes", 3)
     refused(asked(STANDARD, "back.marks", "back.journal", *when), "back.marks: no mark by then")
-    refused(asked(STANDARD, "back.marks", "back.journal", "--at", "4"), "back.journal: at most 3")
+    refused(asked(STANDARD, "back.marks", "back.journal", "--at", "4"), "back.journal: the journal has 3 entries")
     refused(["journal", "--subject", "zoe", *files[:1], "none.marks", *files[2:]], "none.marks: line 1: mark")
     refused(["journal", "--subject", "zoe", *files], "zoe: bad name (bob?)")
     os.mkdir("folder.marks")
-    refused(asked(STANDARD, "folder.marks", "back.journal"), "folder.marks: file")
+    refused(asked(STANDARD, "folder.marks", "back.journal"), "folder.marks: Is a directory (os error 21)")
 
 
 CHECKS = [*map(in_its_folder, [entries_of_a_clock_that_goes_back, states_of_a_clock_that_goes_back,
-           marks_beside_a_number, words_that_are_no_times, words_that_no_question_of_times_has,
+           marks_beside_a_number, words_that_are_no_times, words_that_are_no_days, words_that_no_question_of_times_has,
            faults_of_times_in_their_order, ])]
 # (each is asked of random starts and journals)
 OF_WORLDS = [entries_by_times, states_by_times, marks_that_differ]

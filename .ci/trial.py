@@ -13,7 +13,7 @@ import time
 from outside import EXAMPLES, IS_PROVED, PROGRAM, SECONDS, TOP, Started, needs_proof, put, ran, same, shown
 
 SECONDS_OF_A_TRIAL = 900
-VERSION = b"mls 0.2.0, a checked trial, not proved\n"
+VERSION = b"mls 0.3.0, a checked trial, not proved\n"
 SECONDS_OF_NOTHING = 30
 FOUR = b"ann get-read plans\nbob get-read memo\nann release read plans\nann check read plans\n"
 ANSWERS = b"yes\nno star\nyes\nnot held\n"
@@ -110,8 +110,8 @@ def read_until(terminal, wanted):
 
 
 def lines_that_are_typed():
-    """At a terminal it is told each time that a trial answers, unless that is to be quiet, and each line is answered
-    before the next is typed."""
+    """At a terminal it is told each time that a trial answers, unless that is to be quiet. Then help is shown, and each
+    line is asked for, and answered before the next is typed."""
     copy = with_a_trial("typed")
     for quiet, told in (("", TOLD), ("quiet", b"")):
         copy.env["MLS_TRIAL"] = quiet
@@ -121,11 +121,12 @@ def lines_that_are_typed():
         termios.tcsetattr(other, termios.TCSANOW, attributes)
         with copy.start(stdin=other, stdout=other, stderr=other) as run:
             os.close(other)
-            said = told.replace(b"\n", b"\r\n")
+            head = told.replace(b"\n", b"\r\n") + b"subjects ann bob sec aud\r\n"
+            shown_first = read_until(terminal, b"mls> ")
+            assert shown_first.startswith(head) and shown_first.endswith(b" quit ends.\r\nmls> "), shown(shown_first)
             for line, answer in zip(FOUR.splitlines(), ANSWERS.splitlines()):
                 os.write(terminal, line + b"\n")
-                same((line, read_until(terminal, answer + b"\r\n")), (line, said + answer + b"\r\n"))
-                said = b""
+                same((line, read_until(terminal, b"mls> ")), (line, answer + b"\r\nmls> "))
             os.write(terminal, b"\x04")
             same(run.wait(SECONDS), 0)
         os.close(terminal)

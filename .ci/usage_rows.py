@@ -3,7 +3,7 @@ import json
 
 import time_rows
 import usages
-from asking import HELD, NO_TIME, OPENED, REUSED, STANDARD, asks, journal_of, part_by_chance, put_faulty, put_marks
+from asking import GONE, HELD, NO_TIME, OPENED, REUSED, STANDARD, asks, journal_of, part_by_chance, put_faulty, put_marks
 from outside import example, in_its_folder, put, ran_program, same
 from span_rows import ANSWERS, SCRIPT
 
@@ -20,6 +20,8 @@ sec write plans: never asked
 sec append memo: never asked
 sec write memo: never asked
 aud read plans: never asked
+sec trust: never used
+aud trust: never used
 12 permissions, 10 never granted
 """
 # Over the journal of the script of span_rows.py: of each permission the line, where it isn't `never asked`.
@@ -43,9 +45,13 @@ def answered(words, text):
     told_as(words, text, 0 if text.endswith(", 0 never granted\n") else 4)
 
 
-def text_of(rows):
+# What is told of the trust in sec and in aud, where it isn't used.
+UNUSED = "sec trust: never used\naud trust: never used\n"
+
+
+def text_of(rows, trust="never used"):
     lines = "".join(f"{access}: {uses or 'never asked'}\n" for access, uses in rows.items())
-    return lines + f"{len(rows)} permissions, {sum(not it for it in rows.values())} never granted\n"
+    return lines + UNUSED.replace("never used", trust, 1) + f"{len(rows)} permissions, {sum(not it for it in rows.values())} never granted\n"
 
 
 def start_of(name, **members):
@@ -58,9 +64,11 @@ def permissions_and_their_uses():
     journal_of(STANDARD, SCRIPT, ANSWERS, "held.journal")
     order = ["ann read plans", "ann write plans", "ann read memo", "ann execute tool"]
     assert list(WHOLE)[:4] == order
-    answered([STANDARD, "held.journal"], text_of(WHOLE))
-    answered(["--from", "0", "--to", "18446744073709551615", STANDARD, "held.journal"], text_of(WHOLE))
-    answered(["--from", "5", "--to", "9", STANDARD, "held.journal"], text_of(PART))
+    # (sec gets write of #4, which is S:A, at U)
+    trust = "1 granted, last 6"
+    answered([STANDARD, "held.journal"], text_of(WHOLE, trust))
+    answered(["--from", "0", "--to", "18446744073709551615", STANDARD, "held.journal"], text_of(WHOLE, trust))
+    answered(["--from", "5", "--to", "9", STANDARD, "held.journal"], text_of(PART, trust))
     answered(["--from", "15", STANDARD, "held.journal"], text_of(ENDED))
     answered(["--from", "14", "--to", "14", STANDARD, "held.journal"], text_of({**ENDED, "sec write root": "1 granted, 0 denied, last start"}))
     answered(["--to", "0", STANDARD, "held.journal"], text_of({"ann read plans": "", **BEGUN}))
@@ -70,7 +78,7 @@ def uses_of_what_a_start_opens_with():
     put("opened.journal", OPENED)
     put("empty.journal", b"")
     answered([HELD, "opened.journal"], OF_OPENED)
-    text = "".join(f"{it}: never asked\n" for it in ("ann read plans", *ENDED)) + "12 permissions, 12 never granted\n"
+    text = "".join(f"{it}: never asked\n" for it in ("ann read plans", *ENDED)) + UNUSED + "12 permissions, 12 never granted\n"
     answered([STANDARD, "empty.journal"], text)
     held = text.replace("plans: never asked", "plans: 1 granted, 0 denied, last start", 1).replace("12 never", "11 never")
     answered([HELD, "empty.journal"], held)
@@ -78,19 +86,22 @@ def uses_of_what_a_start_opens_with():
 
 
 def gets_without_the_permission():
-    """A get before a permission is given, and one after it is rescinded, are no uses of it; without permissions there is nothing to grant."""
+    """A get before a permission is given, and one after it is rescinded, are no uses of it; without permissions there is nothing to grant.
+    Over the root trust alone gives authority."""
     start = start_of("few.json", matrix=[{"subject": "sec", "object": "root", "modes": ["write"]}])
     script = b"ann get-read root\nsec give read ann root\nann get-read root\nsec rescind read ann root\nann get-read root\n"
     journal_of(start, script, b"no discretionary\nyes\nyes\nyes\nno discretionary\n", "held.journal")
-    last = "sec write root: never asked\n"
-    answered([start, "held.journal"], f"ann read root: 1 granted, 0 denied, last 2\n{last}2 permissions, 1 never granted\n")
-    answered(["--from", "3", start, "held.journal"], f"ann read root: 1 granted, 0 denied, last start\n{last}2 permissions, 1 never granted\n")
-    answered(["--to", "1", start, "held.journal"], f"ann read root: never asked\n{last}2 permissions, 2 never granted\n")
+    never = "sec write root: never asked\n"
+    last = never + UNUSED
+    twice, once, given = (never + UNUSED.replace("never used", it, 1) for it in ("2 granted, last 3", "1 granted, last 3", "1 granted, last 1"))
+    answered([start, "held.journal"], f"ann read root: 1 granted, 0 denied, last 2\n{twice}2 permissions, 1 never granted\n")
+    answered(["--from", "3", start, "held.journal"], f"ann read root: 1 granted, 0 denied, last start\n{once}2 permissions, 1 never granted\n")
+    answered(["--to", "1", start, "held.journal"], f"ann read root: never asked\n{given}2 permissions, 2 never granted\n")
     answered(["--from", "4", start, "held.journal"], f"{last}1 permission, 1 never granted\n")
     answered(["--to", "0", start, "held.journal"], f"{last}1 permission, 1 never granted\n")
     journal_of(start, b"sec get-write root\nsec get-write root\n", b"yes\nyes\n", "held.journal")
-    answered([start, "held.journal"], "sec write root: 2 granted, 0 denied, last 1\n1 permission, 0 never granted\n")
-    answered([start_of("none.json", matrix=[]), put("empty.journal", b"")], "0 permissions, 0 never granted\n")
+    answered([start, "held.journal"], f"sec write root: 2 granted, 0 denied, last 1\n{UNUSED}1 permission, 0 never granted\n")
+    answered([start_of("none.json", matrix=[]), put("empty.journal", b"")], f"{UNUSED}0 permissions, 0 never granted\n")
 
 
 def permissions_of_a_number_that_is_used_again():
@@ -116,24 +127,24 @@ def uses_with_times():
     early = early.replace("last 1\n", "last 1 [2026-11-27T10:00:00.000000Z]\n").replace("1 granted, 0 denied, last 4\n", "never asked\n")
     early = early.replace("10 never", "11 never")
     answered(["--until", "2026-11-27T10:30:00Z", *files], early)
-    late = "".join(f"{line.split(':')[0]}: never asked\n" for line in OF_OPENED.splitlines()[:-1]) + "12 permissions, 10 never granted\n"
+    late = "".join(f"{line.split(':')[0]}: never asked\n" for line in OF_OPENED.splitlines()[:-3]) + UNUSED + "12 permissions, 10 never granted\n"
     late = late.replace("ann read plans: never asked", "ann read plans: 1 granted, 0 denied, last start")
     late = late.replace("sec write root: never asked", "sec write root: 1 granted, 0 denied, last 4 [-]")
     answered(["--since", "2026-11-28", *files], late)
-    answered(["--since", "2026-11-28", "--until", "2026-11-27", *files], "0 permissions, 0 never granted\n")
+    refused(["--since", "2026-11-28", "--until", "2026-11-27", *files], "--since 2026-11-28: behind --until 2026-11-27", 2)
     answered(["--from", "4", "--until", "2026-11-27T10:00:00Z", *files], "0 permissions, 0 never granted\n")
 
 
 def faults_of_uses_in_their_order():
     put_faulty()
-    refused(["no.json", "no.journal"], "no.json: file")
-    refused(["empty.json", "no.journal"], "no.journal: file")
-    refused(["empty.json", "torn.journal"], "empty.json: start 1 Json")
+    refused(["no.json", "no.journal"], f"no.json: {GONE}")
+    refused(["empty.json", "no.journal"], f"no.journal: {GONE}")
+    refused(["empty.json", "torn.journal"], "empty.json: start 1 Json: empty")
     refused([HELD, "torn.journal"], "torn.journal: line 5: entry 1 BadForm")
-    refused(["--from", "9", HELD, "forged.journal"], "forged.journal: replay 2 Differs at 1 expected no star", 3)
-    refused(["--from", "6", HELD, "opened.journal"], "opened.journal: at most 5")
+    refused(["--from", "9", HELD, "forged.journal"], "forged.journal: replay 2 Differs at 1 expected no star, found yes", 3)
+    refused(["--from", "6", HELD, "opened.journal"], "opened.journal: the journal has 5 entries")
     refused(["--from", "3", "--to", "2", "no.json", "no.journal"], "--from 3: above --to 2", 2)
-    refused(["--marks", "no.marks", "empty.json", "no.journal"], "no.marks: file")
+    refused(["--marks", "no.marks", "empty.json", "no.journal"], f"no.marks: {GONE}")
     refused(["--marks", "none.marks", HELD, "opened.journal"], "none.marks: line 1: mark")
     for option in ("--since", "--until"):
         refused(["--marks", "no.marks", option, "now", "no.json", "no.journal"], f"{option} now: {NO_TIME}", 2)
@@ -142,7 +153,7 @@ def faults_of_uses_in_their_order():
 def words_that_ask_for_no_uses():
     put("opened.journal", OPENED)
     asked = [HELD, "opened.journal"]
-    not_understood([], [HELD], [*asked, "x"], ["--at", "1", *asked], ["--subject", "ann", *asked], ["--marks", "m", "--when", "2026-11-27", *asked])
+    not_understood([], [HELD], [*asked, "x"], ["--at", "1", *asked], ["--marks", "m", "--when", "2026-11-27", *asked])
     not_understood(*([option, it, *asked] for option in ("--from", "--to") for it in ("-1", "x", "", "18446744073709551616")))
     not_understood(*([option, "2026-11-27", *asked] for option in ("--since", "--until")))
 

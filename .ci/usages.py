@@ -22,6 +22,13 @@ def use_of(opening, first, access, asked, found):
     return f"{opening.subject(s)} {MODES[x]} {opening.object(o)}: {text}\n", granted > 0
 
 
+def trust_of(states, entries, s, found):
+    """The line of a subject's trust: those of some entries that it grants."""
+    used = [it for it in entries if it.subject == s and states[it.number].uses_trust(s, it.action)]
+    text = f"{len(used)} granted, last {entry_text(used[-1].number, found)}" if used else "never used"
+    return f"{states[0].subject(s)} trust: {text}\n"
+
+
 def listed(states, entries, first=0, last=None, marks=None):
     """What `mls usage` prints of the permissions of the states from `first` to `last`, and its status."""
     last = len(entries) if last is None else min(last, len(entries))
@@ -29,4 +36,5 @@ def listed(states, entries, first=0, last=None, marks=None):
     rows = [use_of(states[0], states[first], it, uses(states, entries[first:last], it), marks) for it in permissions]
     unused = sum(not granted for _, granted in rows)
     ending = f"{len(rows)} permission{'s' * (len(rows) != 1)}, {unused} never granted\n"
-    return "".join(text for text, _ in rows) + ending, 4 if unused else 0
+    trust = [trust_of(states, entries[first:last], it, marks) for it in sorted(states[0].trusted) if first <= last]
+    return "".join([text for text, _ in rows] + trust) + ending, 4 if unused else 0

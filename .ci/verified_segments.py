@@ -5,7 +5,7 @@ import subprocess
 import threading
 
 import marks
-from durable_marks import flip, verified, verify
+from durable_marks import HEAD, flip, verified, verify
 from marked_segments import BOTH, filled, in_small_batches, is_marked, put_marks
 from outside import IS_PROVED, PROGRAM, SECONDS, in_its_folder, needs_proof, put, ran_program, same, some
 from segments import joined, numbered, remove, segment, state
@@ -36,7 +36,7 @@ def times_of(count):
 
 def made(journal, ends):
     """The marks of all files as one, whose batches end there."""
-    return marks.made(joined(journal), ends, times_of(len(ends)))
+    return marks.headed(joined(journal), ends, times_of(len(ends)), HEAD)
 
 
 def marks_of_each_file():
@@ -52,19 +52,19 @@ def marks_of_each_file():
             digest = line.split()[2]
             for other, status, told in some([
                 (line.replace(digest, flip(digest)), 3, b"differs at entry %d" % true[place].number),
-                (b"x" + line, 1, b"line %d: mark" % (place + 1)),
-                (b"\n" + line, 1, b"line %d: mark" % (place + 1)),
+                (b"x" + line, 1, b"line %d: mark" % (place + 2)),
+                (b"\n" + line, 1, b"line %d: mark" % (place + 2)),
                 (line[:40] + b"\0" + line[41:], 1, b"torn " + last),
-                (70_000 * b"y" + b"\n" + line, 1, b"line %d: mark" % (place + 1)),
+                (70_000 * b"y" + b"\n" + line, 1, b"line %d: mark" % (place + 2)),
                 (70_000 * b"y" + b"\0\n" + line, 1, b"torn " + last),
                 (line + line, 3, b"differs at entry %d" % true[place].number),
             ], 3):
-                put("m", b"".join([*text[:place], other, *text[place + 1 :]]))
+                put("m", HEAD + b"".join([*text[:place], other, *text[place + 1 :]]))
                 same((place, other[:20], is_alike("s")), (place, other[:20], (status, b"mls: m: " + told + b"\n")))
-            put("m", b"".join(text[:place]))
+            put("m", HEAD + b"".join(text[:place]))
             same((place, is_alike("s")), (place, (0, b"")))
             for end in some([line[:-1], line[:30], 70_000 * b"z"], 3):
-                put("m", b"".join(text[:place]) + end)
+                put("m", HEAD + b"".join(text[:place]) + end)
                 same((place, is_alike("s")), (place, (1, b"mls: m: torn " + last + b"\n")))
 
 
@@ -83,7 +83,7 @@ def marks_over_files():
                 same((chosen, is_alike("o")[0]), (chosen, 3))
     # (of the files from the second on alone)
     later = joined("o").splitlines(keepends=True)[first:]
-    begun = [it._replace(number=it.number + first) for it in marks.made(b"".join(later), [second - first, count - first], times_of(2))]
+    begun = [it._replace(number=it.number + first) for it in marks.headed(b"".join(later), [second - first, count - first], times_of(2), HEAD)]
     for found in (begun, begun[1:]):
         put_marks(found)
         same(is_alike("o"), (3, b"mls: m: differs at entry %d\n" % found[0].number))
@@ -96,15 +96,21 @@ def digests_of_each_file():
     """A digest is found in whichever file it is, and the chain may begin elsewhere."""
     filled("d", LINES)
     ends = ends_of("d")
-    for begins in (marks.ZEROS, marks.after(marks.ZEROS, b"another journal\n")):
-        found = marks.made(joined("d"), ends, times_of(len(ends)), begins)
-        put_marks(found)
+    other = marks.after(marks.ZEROS, b"another journal\n")
+    next_head = marks.head(content(STANDARD), other)
+    # (what is told without --from: a chain that begins elsewhere differs at its first mark, and one that goes on from older marks needs them)
+    differs = (3, b"mls: m: differs at entry %d\n" % (ends[0] - 1))
+    rows = [(marks.ZEROS, b"", marks.ZEROS, (0, b"")), (other, b"", other, differs),
+            (marks.digest(HEAD), HEAD, marks.digest(HEAD), (0, b"")), (other, next_head, marks.digest(next_head), (1, b"mls: m.1: file\n"))]
+    for begins, head, first, told in rows:
+        found = marks.made(joined("d"), ends, times_of(len(ends)), first, bool(head))
+        put("m", marks.text_of(found, head))
         of = ["--from", begins.hex()]
-        for digest in (begins, *some([it.digest for it in found], 3)):
+        for digest in (begins, first, *some([it.digest for it in found], 3)):
             same((digest, is_alike("d", *of, "--digest", digest.hex())), (digest, (0, b"")))
         same(is_alike("d", *of, "--digest", "5f0c" * 16), (3, b"mls: m: no such digest\n"))
-    same(is_alike("d")[0], 3)
-    put_marks([])
+        same((head, is_alike("d")), (head, told))
+    put("m", b"")
     same(is_alike("d", *of, "--digest", begins.hex()), (0, b""))
 
 
@@ -114,8 +120,8 @@ def faults_of_files():
     true, closed = is_marked("f"), numbered("f")
     put("bad.json", content(STANDARD).replace(b'"T:A,B"', b'"T:A,A"'))
     lines = marks.text_of(true).splitlines(keepends=True)
-    put("m", b"x" + b"".join(lines))
-    same(is_alike("f", "--digest", "5f0c" * 16), (1, b"mls: m: line 1: mark\n"))
+    put("m", HEAD + b"x" + b"".join(lines))
+    same(is_alike("f", "--digest", "5f0c" * 16), (1, b"mls: m: line 2: mark\n"))
     for number in (closed[1], closed[-1]):
         path = segment("f", number)
         os.chmod(path, 0o600)
@@ -180,13 +186,14 @@ def written(journal, files, bytes_of_each):
     """A journal in so many files of long lines, with a mark for each thousand entries; returns how many entries it has, and the marks."""
     label = b"15:" + b",".join(b"%d" % number for number in range(256))
     entry = b"0 0 create 0 " + label + b" " + label + b" undefined\n"
-    number, digest, found = 0, marks.ZEROS, []
+    number, digest, found = 0, marks.digest(HEAD), []
     for place in range(files):
         with open(journal if place + 1 == files else segment(journal, number), "wb") as file:
             while file.tell() < bytes_of_each:
                 batch = b"".join(b"%d " % it + entry for it in range(number, number + 1_000))
                 file.write(batch)
-                digest, number = marks.after(digest, batch), number + 1_000
+                number += 1_000
+                digest = marks.after(digest, batch, marks.stamp(number - 1, times_of(1)[0]))
                 found.append(marks.Mark(number - 1, times_of(1)[0], digest))
     put(f"{journal}.start", content(STANDARD))
     return number, found

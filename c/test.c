@@ -1755,7 +1755,7 @@ static void words(void) {
     CHECK(strcmp(mls_reply_word(3), "?") == 0 && strcmp(mls_reply_word(26), "?") == 0);
     CHECK(strcmp(mls_reason_word(MLS_FULL), "full") == 0 && strcmp(mls_reason_word(10), "?") == 0 && strcmp(mls_reason_word(0), "?") == 0);
     CHECK(strcmp(mls_reason_word(MLS_DISCRETIONARY), "discretionary") == 0);
-    CHECK(MLS_VERSION_MAJOR == 0 && MLS_VERSION_MINOR == 2 && strcmp(mls_version(), "0.2") == 0);
+    CHECK(MLS_VERSION_MAJOR == 0 && MLS_VERSION_MINOR == 3 && strcmp(mls_version(), "0.3") == 0);
 }
 
 /* Submits a request, and compares the line of its entry with the words of its numbers. */

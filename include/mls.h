@@ -34,7 +34,7 @@ extern "C" {
 
 /* The version of this header. Numbers that stand here keep their meaning from 0.2 on. */
 #define MLS_VERSION_MAJOR 0
-#define MLS_VERSION_MINOR 2
+#define MLS_VERSION_MINOR 3
 
 /* Statuses: MLS_OK, or a number below 0. With a status below 0 the handle is unchanged, and the
  * call writes only the output that its comment names for that status: the fault of MLS_ESTART,
@@ -247,7 +247,7 @@ typedef struct {
     mls_label label;
 } mls_remedy;
 
-/* The same types by their names of version 0.2, which the next version no longer has: POSIX keeps
+/* The same types by their names of version 0.2, which version 0.4 no longer has: POSIX keeps
  * names that end in _t for itself. */
 typedef mls_monitor mls_t;
 typedef mls_label mls_label_t;

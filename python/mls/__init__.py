@@ -87,4 +87,4 @@ __all__ = [
     "Undefined",
     "UnknownName",
 ]
-__version__ = "0.2.0"
+__version__ = "0.3.0"

@@ -5,6 +5,7 @@ from typing import Union
 
 from . import library as lib
 from .actions import Actions
+from .faults import BadRequest
 from .numbering import label_struct
 from .requests import ACTIONS, Create, Get, Give, Level, Name, Relabel, Release, Request, Rescind
 from .values import Kind, Label, Mode
@@ -27,6 +28,8 @@ class Asking(Actions):
 
     def _struct(self, request: Request) -> lib.Request:
         """The struct of a request, its names and texts read."""
+        if type(request) not in ACTIONS:
+            raise BadRequest(f"no request: {request!r}")
         struct = lib.Request(action=ACTIONS.index(type(request)), subject=self.subject(request.subject))
         if isinstance(request, (Get, Release, Give, Rescind)):
             struct.mode = Mode.of(request.mode)

@@ -24,7 +24,7 @@ def checked(line: str) -> bytes:
     """The bytes of a line that has one answer."""
     if "\n" in line or not line.strip(" ") or line.lstrip(" ").startswith(";"):
         raise BadRequest(f"no line that is answered: {line!r}")
-    return line.encode() + b"\n"
+    return line.encode("utf-8", "surrogatepass") + b"\n"
 
 
 class Client(Actions):
@@ -159,7 +159,7 @@ class Client(Actions):
             if self.is_closed:
                 raise Closed("the session is closed")
             try:
-                self._send(b"; " + text.replace("\n", " ").encode() + b"\n")
+                self._send(b"; " + text.replace("\n", " ").encode("utf-8", "surrogatepass") + b"\n")
             except BaseException:
                 self.close()
                 raise

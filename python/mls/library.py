@@ -7,10 +7,10 @@ import os
 from ctypes import POINTER, c_char_p, c_int, c_size_t, c_uint8, c_uint16, c_uint32, c_uint64, c_void_p
 
 from .faults import NoLibrary
+from .versions import refuse_others
 
 # The name that the loader looks for, unless the environment names a file.
 NAME, VARIABLE = "libmls.so.0", "MLS_LIBRARY"
-VERSION = (0, 2)
 HELP = f"install the package libmls0, or name the file of libmls by {VARIABLE} or by the argument library"
 CLOSED, NO_MEMORY, INVALID = -1, -3, -4
 START_REFUSED, JOURNAL_REFUSED, REPLAY_DIFFERS = -5, -6, -7
@@ -143,19 +143,17 @@ CALLS = {
 @functools.lru_cache(maxsize=None)
 def load(name: str | None = None) -> ctypes.CDLL:
     """Loads the library: of this file's name, of that in MLS_LIBRARY, or as the loader finds it. NoLibrary where there is
-    none, and where it has another version than this package is for."""
+    none, where it has another minor version than this package is for, and where it lacks a call."""
     asked = os.environ.get(VARIABLE)
     where = f"library={name!r}" if name else f"{VARIABLE}={asked}" if asked else f"{NAME} in the loader's folders"
     try:
         library = ctypes.CDLL(name or asked or NAME)
-        library.mls_version.restype = c_char_p
-        found = tuple(int(it) for it in library.mls_version().split(b"."))
+        refuse_others(library, where, HELP)
+        for call, (result, arguments) in CALLS.items():
+            function = getattr(library, call)
+            function.restype, function.argtypes = result, arguments
+    except NoLibrary:
+        raise
     except (OSError, AttributeError) as error:
         raise NoLibrary(f"{where}: {error}: {HELP}") from error
-    if found[0] != VERSION[0] or found < VERSION:
-        version, wanted = (".".join(map(str, it)) for it in (found, VERSION))
-        raise NoLibrary(f"{where}: libmls has version {version}, and {wanted} is wanted: {HELP}")
-    for call, (result, arguments) in CALLS.items():
-        function = getattr(library, call)
-        function.restype, function.argtypes = result, arguments
     return library

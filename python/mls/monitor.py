@@ -13,7 +13,7 @@ from .faults import NoSuchEntry, Undefined, UnknownName
 from .handle import Handle, is_ok
 from .infos import Counts, ObjectInfo, PairInfo, StateStart, SubjectInfo
 from .numbering import (answer_of, counts_of, entry_of, explanation_of, label_of, label_struct, number, object_of,
-                        pair_of, subject_of)  # fmt: skip
+                        pair_of, subject_of, text_bytes)  # fmt: skip
 from .requests import Name, Request
 from .values import Answer, Entry, Kind, Label, Mode
 
@@ -47,7 +47,7 @@ class Monitor(Handle, Asking):
     def _number(self, call: Callable[..., int], name: Name) -> int:
         if isinstance(name, int):
             return number(name)
-        found, text = c_uint16(), name.encode()
+        found, text = c_uint16(), text_bytes(name)
         if self._call(call, text, len(text), byref(found)) == lib.NOT_FOUND:
             raise UnknownName(name)
         return found.value
@@ -64,7 +64,7 @@ class Monitor(Handle, Asking):
         """The label of a text in the start's scheme of this kind; a label is its own."""
         if isinstance(label, Label):
             return label
-        struct, text = lib.Label(), label.encode()
+        struct, text = lib.Label(), text_bytes(label)
         is_ok(self._call(self._library.mls_read_label, kind, text, len(text), byref(struct)), f"no label: {label!r}")
         return label_of(struct)
 

@@ -19,6 +19,14 @@ def number(value: int, bits: int = 16) -> int:
     return value
 
 
+def text_bytes(text: str) -> bytes:
+    """The bytes of a name or of a label's text. A text that is no Unicode, as a file's name may be, has bytes that no
+    name and no label has."""
+    if not isinstance(text, str):
+        raise BadRequest(f"no text: {text!r}")
+    return text.encode("utf-8", "surrogatepass")
+
+
 def label_struct(label: Label) -> library.Label:
     struct = library.Label(level=label.level)
     for it in label.categories:

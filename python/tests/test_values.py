@@ -8,7 +8,7 @@ import unittest
 import unittest.mock
 
 import mls
-from mls import library, numbering
+from mls import library, numbering, versions
 
 HEADER = pathlib.Path(__file__).resolve().parent.parent.parent / "include" / "mls.h"
 CODE = re.sub(r"/\*.*?\*/", "", HEADER.read_text(), flags=re.S)
@@ -153,6 +153,13 @@ class Values(unittest.TestCase):
             with self.assertRaises(mls.BadRequest):
                 numbering.number(value, bits)
 
+    def test_texts_that_no_name_has(self):
+        for text in ("\udc80", "\ud800", "\0", "\xe9"):
+            self.assertIsInstance(numbering.text_bytes(text), bytes)
+        for value in (None, 1.5, b"x"):
+            with self.assertRaises(mls.BadRequest):
+                numbering.text_bytes(value)
+
     def test_requests_of_each_action(self):
         low, high = mls.Label(0), mls.Label(3, frozenset({200}))
         wanted = [
@@ -182,6 +189,26 @@ class Libraries(unittest.TestCase):
             told = str(caught.exception)
             self.assertTrue(told.startswith(front) and "libmls0" in told and "MLS_LIBRARY" in told, told)
         library.load.cache_clear()
+
+    def test_other_versions(self):
+        """Each other version is refused, with both versions and the file that it was loaded from."""
+        for said in ("0.2", "0.4", "1.3", "0.3.1", "0.30", "0", ""):
+            other = unittest.mock.MagicMock()
+            other.mls_version.return_value = said.encode()
+            with unittest.mock.patch.object(versions, "file_of", return_value="/usr/lib/libmls.so.9"):
+                with self.assertRaises(mls.NoLibrary) as caught:
+                    versions.refuse_others(other, "MLS_LIBRARY=x", library.HELP)
+            wanted = f"MLS_LIBRARY=x: libmls of /usr/lib/libmls.so.9 has version {said}, and this package wants 0.3: "
+            self.assertEqual(str(caught.exception), wanted + library.HELP)
+        other.mls_version.return_value = b"0.3"
+        versions.refuse_others(other, "", "")
+
+    def test_a_file_is_named(self):
+        """The loader is asked where a function is; a library that has none of that name isn't found."""
+        given = ctypes.CDLL("libc.so.6")
+        given.mls_version = given.abs
+        self.assertRegex(versions.file_of(given), r"/libc\.so\.6$")
+        self.assertEqual(versions.file_of(object()), "")
 
 
 if __name__ == "__main__":

@@ -1,5 +1,7 @@
-//! Finds libmls: in the folder that MLS_LIB_DIR names, or else by pkg-config.
+//! Finds libmls: in the folder that MLS_LIB_DIR names, or else by pkg-config. A library whose `mls.pc` names another
+//! minor version than this crate's is refused.
 use std::env;
+use std::fs;
 use std::path::Path;
 use std::process::Command;
 
@@ -31,6 +33,16 @@ fn kind_asked() -> Result<Option<String>, String> {
     }
 }
 
+/// Refuses a version of the library, MAJOR.MINOR, that isn't this crate's. The place is that of the file that names it.
+fn is_wanted(found: &str, place: &str) -> Result<(), String> {
+    let wanted = concat!(env!("CARGO_PKG_VERSION_MAJOR"), ".", env!("CARGO_PKG_VERSION_MINOR"));
+    if found == wanted {
+        Ok(())
+    } else {
+        Err(format!("{place}: libmls has version {found}, and this crate wants {wanted}"))
+    }
+}
+
 fn link_in(folder: &str) -> Result<(), String> {
     let file_of = |kind: &str| Path::new(folder).join(if kind == "static" { "libmls.a" } else { "libmls.so" });
     if !Path::new(folder).is_absolute() {
@@ -42,7 +54,13 @@ fn link_in(folder: &str) -> Result<(), String> {
     if !file.exists() {
         return Err(format!("{FOLDER} is {folder}, which has no {}", file.display()));
     }
+    let described = Path::new(folder).join("pkgconfig/mls.pc");
+    if let Ok(text) = fs::read_to_string(&described) {
+        let found = text.lines().find_map(|line| line.strip_prefix("Version: "));
+        is_wanted(found.unwrap_or("none"), &described.display().to_string())?;
+    }
     println!("cargo:rerun-if-changed={}", file.display());
+    println!("cargo:rerun-if-changed={}", described.display());
     println!("cargo:rustc-link-search=native={folder}");
     println!("cargo:rustc-link-lib={kind}=mls");
     Ok(())
@@ -57,6 +75,9 @@ fn link_by_pkg_config() -> Result<(), String> {
     if !done.status.success() {
         return Err(format!("{}{help}", String::from_utf8_lossy(&done.stderr)));
     }
+    let told = |word: &str| Command::new(&command).args([word, "mls"]).output();
+    let told = |word| told(word).map_or(String::new(), |told| String::from_utf8_lossy(&told.stdout).trim().to_string());
+    is_wanted(&told("--modversion"), &format!("{}/mls.pc", told("--variable=pcfiledir")))?;
     for word in String::from_utf8_lossy(&done.stdout).split_whitespace() {
         if let Some(folder) = word.strip_prefix("-L") {
             println!("cargo:rustc-link-search=native={folder}");

@@ -7,8 +7,8 @@ mod commands;
 ghost use Rattle.std.specs.Prelude.{◌<◌, ◌≤◌, length, vec_len, All};
 
 use crate::commands::{
-    RunJournal, check, discard, ended_run, lent, open_run_journal, read_scripts, replay,
-    serve_standard, verify,
+    RunJournal, check, complete, discard, ended_run, init, lent, open_run_journal, read_scripts,
+    replay, serve_standard, verify,
 };
 use mls_command_line::{Asked, Job, RunWords, read_words};
 use mls_files::start_file;
@@ -55,7 +55,7 @@ fn run_texts<R: Threads + Wait + Sync>(
     } else {
         run_threads(threads, alloc, start, texts, words.journal.is_some())
     };
-    ended_run(progress, done, words.start, journal)
+    ended_run(progress, done, start, words, journal)
 }
 
 /// Runs scripts over the bytes of a start file, once they were read and the journal's file was opened.
@@ -144,6 +144,19 @@ fn run<R: Threads + Wait + Sync>(
     status
 }
 
+/// Whether the lines that tell of a fault of a job are fixed.
+fn has_fixed_lines(job: &Job<'_>) -> bool {
+    match job {
+        Job::Question(_) | Job::Init { .. } | Job::Complete { .. } => false,
+        Job::Answer
+        | Job::Check { .. }
+        | Job::Run(_)
+        | Job::Replay { .. }
+        | Job::Verify(_)
+        | Job::Serve(_) => true,
+    }
+}
+
 /// Does a job. Threads are started by a run of scripts, and by a service that makes marks.
 fn run_job<R: Threads + Wait + Clock + Sync>(
     threads: &R,
@@ -151,6 +164,8 @@ fn run_job<R: Threads + Wait + Clock + Sync>(
     job: Job<'_>,
 ) -> ExitCode {
     match job {
+        Job::Init { folder } => init(progress, folder),
+        Job::Complete { short } => complete(progress, short),
         Job::Check { start } => check(progress, start),
         Job::Run(words) => {
             let status = run(threads, progress, &words);
@@ -173,7 +188,8 @@ fn run_words<R: Threads + Wait + Clock + Sync>(
 ) -> ExitCode {
     match read_words(rt, words) {
         Ok(Asked { job, is_json }) => {
-            let mut progress = Progress::new(rt, is_json);
+            let has_fixed_lines = has_fixed_lines(&job);
+            let mut progress = Progress::new(rt, is_json, has_fixed_lines);
             let status = run_job(threads, &mut progress, job);
             drop(progress);
             status

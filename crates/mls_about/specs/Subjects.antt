@@ -46,8 +46,8 @@ pub record ShowsSubject (form : Form) (names : Names) (v : State) (s : ℕ) (tol
       ++ (cells_bytes form (codes "access") names v.accesses s MAX_OBJECTS
       ++ changes_bytes form names (powers v (all_of s))))
 
--- Bytes tell of a subject in a form: what there is of it in a state, and where there is a journal what it asked, and the
--- entries about its permissions. (own)
+-- Bytes tell of a subject in a form: what there is of it in a state, and where there is a journal what it asked, and
+-- the entries about its permissions. (own)
 pub record TellsSubject (form : Form) (names : Names) (v : State) (s : ℕ) (rows : Option (List Row))
     (entries : Option (List Entry)) (told : List ℕ) : Type 0 where
   pub standing : List ℕ

@@ -55,11 +55,11 @@ fn thing_rows(
 }
 
 /// All that there is to tell of a subject or of an object, which a word names, in the state that a replay looks at. It
-/// is a row each in a form. Of a subject: itself, its permissions with what their gets would be answered, what it holds,
-/// what it may change; and where entries are told of, how many of the first so many it asked and how many of these were
-/// denied, and those that ask for a permission for it or that one be rescinded. Of an object: itself, its children, who
-/// may get it, who holds it, and those of the first entries that changed it. With marks the times of entries are told.
-/// The answer is positive where there is a row.
+/// is a row each in a form. Of a subject: itself, its permissions with what their gets would be answered, what it
+/// holds, what it may change; and where entries are told of, how many of the first so many it asked and how many of
+/// these were denied, and those that ask for a permission for it or that one be rescinded. Of an object: itself, its
+/// children, who may get it, who holds it, and those of the first entries that changed it. With marks the times of
+/// entries are told. The answer is positive where there is a row.
 ///
 /// # Errors
 /// - `Object` where the word is to name an object, and is neither a name of the start's objects nor `#` and a number;

@@ -43,6 +43,12 @@ module _ (h : History) (is : IsOfFiles h) (lent : Replayed) (same : lent ≡ h.r
   states_ok first last P (Ok x) from so = states_that first last (λ r states. P r states x) from so
   states_ok first last P (Err f) from so = tt
 
+  pub states_err : {T E : Type 0} (first : ℕ) (last : Option ℕ) (P : Replayed → States → E → Type 0) (result : Result T E)
+      → first ≡ place_of h.at h.replayed.entries → IfErr result (λ f. P lent (record { first = first; last = last }) f)
+      → IfErr result (λ f. ReplaysThat h.files h.at (λ r. P r (states_from r h.at last) f))
+  states_err first last P (Ok x) from so = tt
+  states_err first last P (Err f) from so = states_that first last (λ r states. P r states f) from so
+
   pub written_ok : (P : Replayed → List ℕ → Bool → Type 0) (result : Result Bool WriteFault) (held holds : Option (List ℕ))
       → IfOk result (λ any. Writes (λ told. P lent told any) held holds)
       → IfOk result (λ any. Writes (λ told. ReplaysThat h.files h.at (λ r. P r told any)) held holds)

@@ -9,7 +9,7 @@ use Rattle.mls_rows.specs.declared.form.Form.TheVariants.{Text}
 use Rattle.mls_rows.specs.declared.listing.Listing.{Listing}
 use Rattle.mls_seen.specs.Files.{Files, SeesThat, place_of}
 use Rattle.mls_spans.specs.EverListings.{ListsWord}
-use Rattle.mls_spans.specs.UsageListings.{IsUsage, usages_seen}
+use Rattle.mls_spans.specs.UsageListings.{IsUsage, trust_seen, usages_seen}
 use Rattle.mls_spans.specs.declared.states.States.{States}
 use Rattle.mls_tables.specs.declared.mode.Mode.{Mode}
 use Rattle.mls_answers.specs.Answers.{ExplainsNext}
@@ -20,7 +20,8 @@ states_from r at last = record { first = place_of at r.entries; last = last }
 
 -- The permissions of these states of a replay are listed, and how they were used. (own)
 abbrev pub ListsUsage : Form → Replayed → Option (List Row) → Option ℕ → Option ℕ → Listing → Type 0
-ListsUsage form r rows at last listing = IsUsage form r.names rows (usages_seen r (states_from r at last)) listing
+ListsUsage form r rows at last listing =
+    IsUsage form r.names rows (usages_seen r (states_from r at last)) (trust_seen r (states_from r at last)) listing
 
 -- It is listed who could get the object that a word names in these states of a replay. (own)
 abbrev pub ListsEver : Form → Replayed → Option (List Row) → Option ℕ → Option ℕ → Option Mode → List ℕ → Listing

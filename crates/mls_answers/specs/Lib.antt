@@ -4,4 +4,6 @@ pub mod Describing
 pub mod Histories
 pub mod Starts
 pub mod States
+pub mod Tightening
+pub mod Used
 pub mod Verified

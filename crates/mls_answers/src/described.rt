@@ -28,8 +28,8 @@ fn number_told(history: &History, has_journal: bool) -> Option<u64>
 }
 
 /// All that there is to tell of a subject or of an object, which a word names, in the state that is looked at; where
-/// there is a journal, also of the entries before that state, with their times where there are marks. The answer is that
-/// of [`list_about`], in the form.
+/// there is a journal, also of the entries before that state, with their times where there are marks. The answer is
+/// that of [`list_about`], in the form.
 ///
 /// # Errors
 /// Those of [`list_about`].

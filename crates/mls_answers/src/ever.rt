@@ -14,8 +14,8 @@ use mls_tables::Mode;
 use std::alloc::Global;
 
 /// Who could ever get the object that a word names, and when, in the states from the one on that a history looks at, up
-/// to another, where one is told, with times where there are marks; without a mode all are asked for. The answer is that
-/// of [`list_ever`], in the form.
+/// to another, where one is told, with times where there are marks; without a mode all are asked for. The answer is
+/// that of [`list_ever`], in the form.
 ///
 /// # Errors
 /// Those of [`list_ever`].

@@ -46,7 +46,8 @@ fn list(alloc: Global, form: Form, seen: &Seen) -> Result<Listing, QuestionFault
     })
 }
 
-/// What there is in the state that is seen, in a form: a line or an object for each thing. The answer is a positive one.
+/// What there is in the state that is seen, in a form: a line or an object for each thing. The answer is a positive
+/// one.
 ///
 /// # Errors
 /// `Files` with `Memory` where an allocation failed.

@@ -2,7 +2,8 @@
 ghost use Rattle.std.specs.Prelude.{◌≡◌, ◌++◌, codes, string_bytes, IfOk, OnOk};
 ghost use Rattle.mls_replay.specs.Checked.{count_line};
 ghost use Rattle.mls_rows.specs.Members.{Adds, number_member, text_member};
-ghost use Rattle.mls_answers.specs.Verified.{last_line, times_line, times_members, unmarked_line, unmarked_members};
+ghost use Rattle.mls_answers.specs.Verified.{back_line, back_members, last_line, times_line, times_members};
+ghost use Rattle.mls_answers.specs.Verified.{unmarked_line, unmarked_members};
 ghost use Rattle.mls_answers.specs.Verified.{verified_bytes, verified_line, verified_members};
 
 use json::Writer;
@@ -82,6 +83,16 @@ fn push_times(
     }
 }
 
+/// Appends the line of how many marks are earlier than the one before, where there are any.
+fn push_back(text: &mut String, count: u64) -> Result<(), AllocError>
+    ensures { OnOk result (string_bytes text.new ≡ string_bytes text.old ++ back_line count) }
+{
+    if count == 0 {
+        return Ok(());
+    }
+    push_count(text, "back ", count)
+}
+
 /// Appends the line of how many entries no mark covers, where there are any.
 fn push_unmarked(text: &mut String, count: u64) -> Result<(), AllocError>
     ensures { OnOk result (string_bytes text.new ≡ string_bytes text.old ++ unmarked_line count) }
@@ -146,6 +157,23 @@ fn write_times(
     }
 }
 
+/// Writes how many marks are earlier than the one before.
+fn write_back_count(writer: &mut Writer, count: u64) -> Result<(), AllocError>
+    ensures { Adds result writer.old writer.new (number_member (codes "back") count) }
+{
+    write_number(writer, "back", count)
+}
+
+/// Writes how many marks are earlier than the one before, where there are any.
+fn write_back(writer: &mut Writer, count: u64) -> Result<(), AllocError>
+    ensures { Adds result writer.old writer.new (back_members count) }
+{
+    if count == 0 {
+        return Ok(());
+    }
+    write_back_count(writer, count)
+}
+
 /// Writes how many entries no mark covers.
 fn write_count(writer: &mut Writer, count: u64) -> Result<(), AllocError>
     ensures { Adds result writer.old writer.new (number_member (codes "unmarked") count) }
@@ -173,6 +201,7 @@ impl Plain for VerifiedRow {
         push_count(text, "entries ", self.entries)?;
         push_last(text, &found.chain.digest)?;
         push_times(text, &found.first, &found.last)?;
+        push_back(text, found.back)?;
         push_unmarked(text, self.entries.saturating_sub(found.chain.entries))
     }
 
@@ -181,13 +210,14 @@ impl Plain for VerifiedRow {
         write_entries(writer, self.entries)?;
         write_ascii(writer, "last", &found.chain.digest.text())?;
         write_times(writer, &found.first, &found.last)?;
+        write_back(writer, found.back)?;
         write_unmarked(writer, self.entries.saturating_sub(found.chain.entries))
     }
 }
 
 /// What is said in a form of marks that agree with a journal of so many entries: how many entries there are, the last
-/// digest of the chain, the times of the first mark and of the last, where there are marks, and how many entries no
-/// mark covers, where there are any.
+/// digest of the chain, the times of the first mark and of the last, where there are marks, and how many marks are
+/// earlier than the one before, and how many entries no mark covers, where there are any.
 ///
 /// # Errors
 /// `AllocError` where an allocation failed.

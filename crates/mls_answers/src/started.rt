@@ -6,20 +6,26 @@ ghost use Rattle.mls_seen.specs.Files.{SeesThat};
 ghost use Rattle.mls_snapshots.specs.Starts.{IsStartBy};
 
 use crate::snapshot_fault::SnapshotFault;
+use mls_lines::Names;
 use mls_replay::{CommandFault, QuestionFault, START_LIMIT};
 use mls_seen::Seen;
 use mls_snapshots::{StateStart, StateStartFault, start_of_state};
+use mls_state::State;
 use std::alloc::Global;
 
-/// The start file of the state that is seen, and the order of its objects.
-#[tactic(auto, using(crate::proofs::Starts::start_is, crate::proofs::Starts::long_is))]
-fn start_seen(alloc: Global, seen: &Seen) -> Result<StateStart, SnapshotFault>
+/// The start file of a state by these names, and the order of its objects.
+#[tactic(auto, using(crate::proofs::Starts::long_is))]
+pub(crate) fn start_of(
+    alloc: Global,
+    names: &Names,
+    state: &State,
+) -> Result<StateStart, SnapshotFault>
     ensures ok { IfOk result
-        (λ made. IsStartBy seen.now.names seen.now.state made.order.items (string_bytes made.text)) }
+        (λ made. IsStartBy names.now state.now made.order.items (string_bytes made.text)) }
     ensures few { IfOk result (λ made. string_len made.text ≤ START_LIMIT) }
-    ensures fault { IfErr result (λ fault. RefusesStart seen.now.names seen.now.state fault) }
+    ensures fault { IfErr result (λ fault. RefusesStart names.now state.now fault) }
 {
-    match start_of_state(alloc, seen.names(), seen.state()) {
+    match start_of_state(alloc, names, state) {
         Ok(made) => {
             if made.text.len() > START_LIMIT {
                 return Err(SnapshotFault::TooLong);
@@ -31,6 +37,16 @@ fn start_seen(alloc: Global, seen: &Seen) -> Result<StateStart, SnapshotFault>
         ))),
         Err(StateStartFault::Differs) => Err(SnapshotFault::Differs),
     }
+}
+
+/// The start file of the state that is seen, and the order of its objects.
+fn start_seen(alloc: Global, seen: &Seen) -> Result<StateStart, SnapshotFault>
+    ensures ok { IfOk result
+        (λ made. IsStartBy seen.now.names seen.now.state made.order.items (string_bytes made.text)) }
+    ensures few { IfOk result (λ made. string_len made.text ≤ START_LIMIT) }
+    ensures fault { IfErr result (λ fault. RefusesStart seen.now.names seen.now.state fault) }
+{
+    start_of(alloc, seen.names(), seen.state())
 }
 
 /// A start file of the state that is seen, of at most [`START_LIMIT`] bytes, as [`start_of_state`] has it, with the

@@ -5,7 +5,7 @@ ghost use Rattle.mls_replay.specs.declared.command.CommandFault.TheVariants.{Mem
 ghost use Rattle.mls_replay.specs.declared.question_fault.QuestionFault.TheVariants.{Files};
 ghost use Rattle.mls_rows.specs.Times.{rows_lent};
 ghost use Rattle.mls_seen.specs.Histories.{ReplaysThat};
-ghost use Rattle.mls_spans.specs.UsageListings.{IsUsage, usages_seen};
+ghost use Rattle.mls_spans.specs.UsageListings.{IsUsage, trust_seen, usages_seen};
 
 use mls_marks::Marks;
 use mls_replay::{QuestionFault, Replay};
@@ -23,7 +23,8 @@ fn tell_states(
     states: States,
 ) -> Result<Listing, QuestionFault>
     ensures ok { IfOk result (λ listing.
-        IsUsage form replay.now.names (rows_lent marks.entry) (usages_seen replay.now states) listing) }
+        IsUsage form replay.now.names (rows_lent marks.entry) (usages_seen replay.now states)
+        (trust_seen replay.now states) listing) }
     ensures fault { IfErr result (λ fault. fault ≡ Files Memory) }
 {
     Ok(list_usage(alloc, form, replay.names(), replay, marks, states)?)

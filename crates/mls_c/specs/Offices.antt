@@ -11,8 +11,8 @@ use Rattle.mls_rules.specs.Rules.{reply}
 use Rattle.mls_monitor.specs.Journal.{fold}
 use Rattle.mls_turns.specs.Journals.{journal}
 use Rattle.mls_sessions.specs.Rule.{begun, base}
-use Rattle.mls_sessions.specs.Sessions.{Office, Session, office_code, session_code, is_count, newcomers, history, number_of}
-use Rattle.mls_sessions.specs.Sessions.{Submits, Sees, Leaves}
+use Rattle.mls_sessions.specs.Sessions.{Office, Session, office_code, session_code, is_count, newcomers, history}
+use Rattle.mls_sessions.specs.Sessions.{number_of, Submits, Sees, Leaves}
 use Rattle.mls_c.specs.Opened.{Opened, opened_code}
 use Rattle.mls_c.specs.Answers.{answer_of}
 use Rattle.mls_c.specs.declared.answer.Answer.{Answer}
@@ -114,8 +114,8 @@ MakesEntry old request new answer = IsSomeAnd old (λ p. IsSomeAnd request (λ r
     IsSameSession p q × ((e : Entry) × Submits p.office.charter p.session.view r e q.session.view
     × (answer ≡ answer_of e.number e.reply)))))
 
--- What opening an office returns: that its handle is open already, or the monitor's is closed, or there can't be so many
--- sessions; else it is open, or there is no memory. (own)
+-- What opening an office returns: that its handle is open already, or the monitor's is closed, or there can't be so
+-- many sessions; else it is open, or there is no memory. (own)
 abbrev pub OfficeStatus : Option Hall → Option Opened → ℕ → ℤ → Type 0
 OfficeStatus (Some h) v n status = status ≡ EOPEN
 OfficeStatus None None n status = status ≡ ECLOSED

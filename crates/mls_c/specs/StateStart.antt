@@ -1,5 +1,6 @@
 -- What copying out a start file of an open monitor's state tells.
-use Rattle.std.specs.Prelude.{◌≡◌, ◌⊎◌, ◌<◌, ℕ, ℤ, ◌++◌, List, length, drop, map, unwrap_or, Option, Some, None, IsSomeAnd}
+use Rattle.std.specs.Prelude.{◌≡◌, ◌⊎◌, ◌<◌, ℕ, ℤ, ◌++◌, List, length, drop, map, unwrap_or, Option, Some, None}
+use Rattle.std.specs.Prelude.{IsSomeAnd}
 use Rattle.std.specs.List.{range_with_len}
 use Rattle.mls_tables.specs.declared.limits.TheConstants.{MAX_OBJECTS}
 use Rattle.mls_snapshots.specs.Orders.{place_in}
@@ -20,7 +21,8 @@ new_numbers order count = map (new_number order) (range_with_len 0 count)
 abbrev pub IsStateStart : Opened → List ℕ → List ℕ → Type 0
 IsStateStart v order text = IsStartBy v.names (state_of v) order text
 
--- A start file of the state lies at the front of a buffer, and its length and the new numbers of objects are told. (own)
+-- A start file of the state lies at the front of a buffer, and its length and the new numbers of objects are told.
+-- (own)
 pub record CopiesStart (v : Opened) (old new : List ℕ) (len : ℕ) (old_numbers numbers : List ℕ) : Type 0 where
   pub order : List ℕ
   pub text : List ℕ

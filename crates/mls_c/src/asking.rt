@@ -87,7 +87,8 @@ fn submit_access(
     add_answered(opened, session, Request { subject, action }, reply, answer)
 }
 
-/// Answers the request of numbers. It isn't put where it is called, so that gets and releases pay nothing for the others.
+/// Answers the request of numbers. It isn't put where it is called, so that gets and releases pay nothing for the
+/// others.
 #[inline(never)]
 fn submit_request(
     opened: &mut Opened,
@@ -147,8 +148,8 @@ pub extern "C" fn mls_submit(
     submit_numbers(m.monitor.lend(), session, asked, answer)
 }
 
-/// Decides the get of numbers in their mode. Where the mode is known when this is compiled, nothing is asked of it when it
-/// runs.
+/// Decides the get of numbers in their mode. Where the mode is known when this is compiled, nothing is asked of it when
+/// it runs.
 #[inline(always)]
 fn decide_get_in(opened: &Opened, asked: &RequestNumbers, mode: Mode, answer: &mut Answer) -> i32
     requires get { asked.now.action ≡ 0 }
@@ -165,8 +166,8 @@ fn decide_get_in(opened: &Opened, asked: &RequestNumbers, mode: Mode, answer: &m
     OK
 }
 
-/// Decides the get of numbers to write. It isn't put where it is called: it compares labels both ways, for which it needs
-/// more of the processor's registers than gets in other modes do.
+/// Decides the get of numbers to write. It isn't put where it is called: it compares labels both ways, for which it
+/// needs more of the processor's registers than gets in other modes do.
 #[inline(never)]
 fn decide_write(opened: &Opened, asked: &RequestNumbers, answer: &mut Answer) -> i32
     requires get { asked.now.action ≡ 0 }

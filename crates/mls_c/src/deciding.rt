@@ -40,8 +40,8 @@ pub(crate) fn star_meets(own: &SecLabel, label: &SecLabel, x: Mode) -> bool
     }
 }
 
-/// Whether simple security holds between the labels of a subject and a label, where star does or doesn't: what star grants
-/// below the subject's current label is below its maximum, too, which is then not looked at.
+/// Whether simple security holds between the labels of a subject and a label, where star does or doesn't: what star
+/// grants below the subject's current label is below its maximum, too, which is then not looked at.
 #[inline(always)]
 #[tactic(auto, using(crate::proofs::Ceilings::star_is_simple))]
 fn simple_meets(subject: &Subject, label: &SecLabel, x: Mode, star: bool) -> bool

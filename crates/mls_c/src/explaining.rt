@@ -106,7 +106,8 @@ fn explain_by(
     level: &mut RemedyNumbers,
 ) -> i32
     requires { AreConditions state.now request.now all.now }
-    ensures status { result ≡ (if nat_lt (length rows.old) (condition_count state.now request.now) then ERANGE else OK) }
+    ensures status { result
+        ≡ (if nat_lt (length rows.old) (condition_count state.now request.now) then ERANGE else OK) }
     ensures explained { result ≡ OK → Explains state.now request.now rows.old rows.new count.new level.new }
     ensures short { result ≢ OK → rows.new ≡ rows.old }
     ensures told { count.new ≡ condition_count state.now request.now }

@@ -42,8 +42,8 @@ fn decide_access(opened: &Opened, access: &LabelAccess, reply: &mut u16) -> i32
     OK
 }
 
-/// Decides by the numbers of labels of whatever categories. It isn't put where it is called, so that labels of the first
-/// 64 pay nothing for the others.
+/// Decides by the numbers of labels of whatever categories. It isn't put where it is called, so that labels of the
+/// first 64 pay nothing for the others.
 #[inline(never)]
 fn decide_long(
     opened: &Opened,
@@ -96,8 +96,8 @@ fn decide_in(
     decide_access(opened, &access, reply)
 }
 
-/// Decides by the numbers of labels in a mode that is known when it runs. It isn't put where it is called, so that reads
-/// pay nothing for other modes.
+/// Decides by the numbers of labels in a mode that is known when it runs. It isn't put where it is called, so that
+/// reads pay nothing for other modes.
 #[inline(never)]
 fn decide_mode(
     opened: &Opened,

@@ -155,8 +155,8 @@ pub extern "C" fn mls_office_take_back(
     status
 }
 
-/// Closes an office whose sessions are all at home, and gives the monitor's handle its monitor back, with the journal of
-/// all sessions. It doesn't allocate.
+/// Closes an office whose sessions are all at home, and gives the monitor's handle its monitor back, with the journal
+/// of all sessions. It doesn't allocate.
 #[tactic(auto, using(crate::proofs::Offices::closes_office))]
 #[unsafe(no_mangle)]
 pub extern "C" fn mls_office_close_monitor(

@@ -15,8 +15,8 @@ use crate::status::{ECLOSED, ENOTFOUND, OK};
 use mls_state::State;
 use mls_tables::{Mode, Modes, ObjectId, SubjectId};
 
-/// A subject and an object: the modes that the matrix permits, and those in which the access is held. Execute is 1, read
-/// 2, append 4 and write 8, and sets of modes are sums.
+/// A subject and an object: the modes that the matrix permits, and those in which the access is held. Execute is 1,
+/// read 2, append 4 and write 8, and sets of modes are sums.
 #[repr(C)]
 #[derive(Clone, Copy)]
 pub struct PairInfo {

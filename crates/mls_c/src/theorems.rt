@@ -52,8 +52,8 @@ pub fn conditions_have_their_numbers()
 {}
 
 /// What is decided by labels is what the rule for a get decides of an active object that has them. Its conditions are
-/// those of the get behind the first, which is the matrix's; where that permits the get, and the bounds have the labels,
-/// both replies are the same.
+/// those of the get behind the first, which is the matrix's; where that permits the get, and the bounds have the
+/// labels, both replies are the same.
 pub fn labels_decide_as_objects_do()
     ensures conditions { (v : StateView) (o : ℕ) (a : AccessView) → HasLabels v o a
         → conditions v a.subject (Get a.mode o)

@@ -9,8 +9,10 @@ pub(crate) enum Kind {
     Operand,
     /// An operand that may be left out.
     Optional,
-    /// An operand that has to be there unless the option `--at` is.
-    UnlessAt,
+    /// An operand that has to be there unless this option is.
+    Unless(&'static str),
+    /// An operand that may be left out, and can't stand beside this option.
+    OptionalWithout(&'static str),
     /// An operand that is the word of a mode, and may be left out.
     Mode,
     /// An option with the word of a mode.
@@ -19,6 +21,9 @@ pub(crate) enum Kind {
     Operands,
     /// An option with a text, which help calls so.
     Text(&'static str),
+    /// An option with a text, which help calls so, that may be given again, and can't stand beside the option of the
+    /// second name.
+    TextsWithout(&'static str, &'static str),
     /// An option with a text that has to be there.
     NeededText(&'static str),
     /// An option with a text, the first here, that stands beside the option of the second name alone.
@@ -27,6 +32,11 @@ pub(crate) enum Kind {
     Time,
     /// An option with a time, that stands beside the option `--marks` alone, and not beside `--at`.
     TimeForAt,
+    /// An option with a date, that stands beside the option `--marks` alone, and not beside `--since` and `--until`.
+    Day,
+    /// An option with a date, that stands beside the options `--marks` and `--ever` alone, and not beside `--since` and
+    /// `--until`.
+    DayOfEver,
     /// An option with a number of 32 bits.
     Session,
     /// An option with the bytes of a segment.
@@ -43,6 +53,8 @@ pub(crate) enum Kind {
     EntryOfEver,
     /// An option with a time, that stands beside the options `--marks` and `--ever` alone.
     TimeOfEver,
+    /// An option with subjects, that stands beside neither of these options.
+    Subjects(&'static str, &'static str),
     /// An option with subjects, that stands beside the option `--could` alone, and beside neither of these options.
     SubjectsOfCould(&'static str, &'static str),
     /// An option without a value, that stands beside the option `--could` alone, and beside neither of these options.
@@ -84,7 +96,9 @@ fn with_value<'a>(arg: Arg<'a>, name: &'a str, value: &'a str) -> Arg<'a> {
 
 /// An option with the number of an entry.
 fn with_entry<'a>(arg: Arg<'a>, name: &'a str) -> Arg<'a> {
-    with_value(arg, name, "N").value_parser(clap::value_parser!(u64))
+    with_value(arg, name, "N")
+        .allow_negative_numbers(true)
+        .value_parser(clap::value_parser!(u64))
 }
 
 /// An option without a value.
@@ -113,7 +127,14 @@ fn without_range<'a>(arg: Arg<'a>) -> Result<Arg<'a>, AllocError> {
     arg.conflicts_with("from")?
         .conflicts_with("to")?
         .conflicts_with("since")?
-        .conflicts_with("until")
+        .conflicts_with("until")?
+        .conflicts_with("on")
+}
+
+/// An argument that stands beside no option that tells one state. What an option needs isn't looked for where that
+/// can't stand beside another that is there.
+fn without_state<'a>(arg: Arg<'a>) -> Result<Arg<'a>, AllocError> {
+    arg.conflicts_with("at")?.conflicts_with("when")
 }
 
 impl Argument {
@@ -121,16 +142,24 @@ impl Argument {
     fn alone<'a>(&self, arg: Arg<'a>) -> Arg<'a> {
         match self.kind {
             Kind::Operand => arg.required(true),
-            Kind::Optional | Kind::UnlessAt => arg,
+            Kind::Optional | Kind::Unless(_) | Kind::OptionalWithout(_) => arg,
             Kind::Mode => arg.value_parser(MODES.as_slice()),
             Kind::ModeText => with_value(arg, self.name, "MODE").value_parser(MODES.as_slice()),
             Kind::Operands => arg.required(true).num_args(1..).action(ArgAction::Append),
             Kind::Text(value) | Kind::TextBeside(value, _) => with_value(arg, self.name, value),
-            Kind::SubjectsOfCould(_, _) => with_value(arg, self.name, "SUBJ,SUBJ.."),
+            Kind::TextsWithout(value, _) => {
+                with_value(arg, self.name, value).action(ArgAction::Append)
+            }
+            Kind::Subjects(_, _) | Kind::SubjectsOfCould(_, _) => with_value(
+                arg,
+                self.name,
+                "SUBJ,SUBJ..",
+            ),
             Kind::NeededText(value) => with_value(arg, self.name, value).required(true),
             Kind::Time | Kind::TimeForAt | Kind::TimeOrRange | Kind::TimeOfEver => {
                 with_value(arg, self.name, "TIME")
             }
+            Kind::Day | Kind::DayOfEver => with_value(arg, self.name, "DATE"),
             Kind::Session => {
                 with_value(arg, self.name, "K").value_parser(clap::value_parser!(u32))
             }
@@ -153,8 +182,8 @@ impl Argument {
     fn needed(&self) -> [Option<&'static str>; 2] {
         match self.kind {
             Kind::TextBeside(_, other) | Kind::FlagBeside(other) => [Some(other), None],
-            Kind::Time | Kind::TimeForAt | Kind::TimeOrRange => [Some("marks"), None],
-            Kind::TimeOfEver => [Some("marks"), Some("ever")],
+            Kind::Time | Kind::TimeForAt | Kind::TimeOrRange | Kind::Day => [Some("marks"), None],
+            Kind::TimeOfEver | Kind::DayOfEver => [Some("marks"), Some("ever")],
             Kind::EntryOfEver => [Some("ever"), None],
             Kind::SubjectsOfCould(_, _) | Kind::FlagOfCould(_, _) => [Some("could"), None],
             Kind::EntryOfJournal | Kind::FlagOfStates => [Some("journal"), None],
@@ -166,8 +195,12 @@ impl Argument {
     fn excluded(&self) -> [Option<&'static str>; 2] {
         match self.kind {
             Kind::TimeForAt | Kind::TimeOrRange => [Some("at"), None],
-            Kind::FlagWithout(other) => [Some(other), None],
+            Kind::Day | Kind::DayOfEver => [Some("since"), Some("until")],
+            Kind::FlagWithout(other)
+            | Kind::OptionalWithout(other)
+            | Kind::TextsWithout(_, other) => [Some(other), None],
             Kind::FlagWithoutEither(one, other)
+            | Kind::Subjects(one, other)
             | Kind::SubjectsOfCould(one, other)
             | Kind::FlagOfCould(one, other) => [Some(one), Some(other)],
             Kind::FlagOfStates => [Some("at"), Some("when")],
@@ -182,8 +215,9 @@ impl Argument {
         let [one, other] = self.excluded();
         let arg = without(without(arg, one)?, other)?;
         match self.kind {
-            Kind::UnlessAt => arg.required_unless_present("at"),
+            Kind::Unless(option) => arg.required_unless_present(option),
             Kind::EntryOrRange | Kind::TimeOrRange => without_range(arg),
+            Kind::EntryOfEver | Kind::TimeOfEver | Kind::DayOfEver => without_state(arg),
             _ => Ok(arg),
         }
     }

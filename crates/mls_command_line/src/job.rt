@@ -12,6 +12,8 @@ pub struct RunWords<'a> {
     pub journal: Option<&'a str>,
     /// Whether the scripts run one after the other, and not each in a thread of its own.
     pub is_serial: bool,
+    /// Whether a line that isn't understood is a fault.
+    pub is_strict: bool,
 }
 
 /// What a service is asked for.
@@ -58,6 +60,10 @@ pub struct VerifyWords<'a> {
 pub enum Job<'a> {
     /// To answer the script on standard input.
     Answer,
+    /// To make the files of a first policy in a folder.
+    Init { folder: &'a str },
+    /// To print the whole start file of a short one.
+    Complete { short: &'a str },
     /// To check a start file.
     Check { start: &'a str },
     /// To run scripts over a start file.

@@ -4,6 +4,7 @@
 mod argument;
 mod command_line;
 mod command_rows;
+mod compare_words;
 mod job;
 mod json_words;
 mod question;
@@ -11,6 +12,8 @@ mod question_arguments;
 mod question_words;
 mod run_arguments;
 mod shared_arguments;
+mod short_help;
+mod state_words;
 mod times;
 mod verify_words;
 mod version;
@@ -19,7 +22,8 @@ mod words_fault;
 
 pub use job::{Asked, Job, RunWords, ServeWords, VerifyWords};
 pub use question::{
-    Actors, EverWords, HeldWords, JournalWords, Question, ReportWords, Source, Times, UsageWords,
+    Actors, CompareWords, EverWords, HeldWords, JournalWords, Question, ReportWords, Source, Times,
+    UsageWords,
 };
 pub use times::now;
 pub use words::read_words;

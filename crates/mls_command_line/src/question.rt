@@ -1,6 +1,7 @@
 //! What the commands are asked for that answer questions about start files and journals.
 use mls_listings::{Form, Words};
 use mls_marks::Time;
+use mls_settings::Setting;
 use mls_spans::{States, Words as HeldFilter};
 use mls_tables::Mode;
 
@@ -16,6 +17,8 @@ pub struct Source<'a> {
     pub marks: Option<&'a str>,
     /// The time of the last batch after which the state is looked at, in place of a number.
     pub when: Option<Time>,
+    /// The operand behind the start's, where there is one that names no journal: else nothing.
+    pub beside: &'a str,
 }
 
 /// Which subjects act, where it is asked what could ever come about.
@@ -38,6 +41,8 @@ pub struct JournalWords<'a> {
     pub journal: &'a str,
     pub filter: Words<'a>,
     pub form: Form,
+    /// Whether only entries are asked for that trust granted.
+    pub is_trusted: bool,
     /// Whether each entry is explained, which is listed in lines.
     pub is_explained: bool,
     /// The file of the journal's marks, where there is one.
@@ -104,6 +109,39 @@ pub struct UsageWords<'a> {
     pub times: Times,
     /// The file of the map that the start was made with, where objects are told by the names that it has.
     pub after: Option<&'a str>,
+    /// The subject whose permissions are asked for; without it, all.
+    pub subject: Option<&'a str>,
+    /// The object the permissions on which are asked for; without it, all.
+    pub object: Option<&'a str>,
+    /// Whether only those have lines that were never granted.
+    pub never: bool,
+    /// Whether the start is asked for without those, as a file.
+    pub tighten: bool,
+}
+
+/// What `compare` is asked for.
+#[derive(Drop)]
+pub struct CompareWords<'a> {
+    pub first: &'a str,
+    /// The second start file, where the first isn't compared with itself as settings have it.
+    pub second: Option<&'a str>,
+    pub settings: Vec<Setting<'a>>,
+    /// The file of a journal of the first start, where its requests are asked of both.
+    pub journal: Option<&'a str>,
+    /// The file of the journal's marks, where there is one.
+    pub marks: Option<&'a str>,
+    /// Whether it is asked what could come about by one of them alone, instead.
+    pub is_could: bool,
+    /// Whether only that is told of that the first grants and the second doesn't.
+    pub is_broken: bool,
+    /// Whether it is summed up.
+    pub is_summed: bool,
+    /// The number of the first entry that is told of.
+    pub from: Option<u64>,
+    /// The number of the last entry that is told of.
+    pub to: Option<u64>,
+    /// Of which entries by time.
+    pub times: Times,
 }
 
 /// What `report` is asked for.
@@ -113,10 +151,16 @@ pub struct ReportWords<'a> {
     pub journal: &'a str,
     /// The file of the journal's marks, where there is one.
     pub marks: Option<&'a str>,
+    /// The number of the entry before which the journal is to end, where it is told.
+    pub at: Option<u64>,
+    /// The states that are told of by number.
+    pub states: States,
+    /// Those that are told of by time.
+    pub times: Times,
 }
 
 /// A question about start files or journals.
-#[derive(Clone, Copy)]
+#[derive(Drop)]
 pub enum Question<'a> {
     /// What a line would be answered.
     Ask {
@@ -133,6 +177,12 @@ pub enum Question<'a> {
         source: Source<'a>,
         object: &'a str,
         mode: Option<&'a str>,
+    },
+    /// Whether the get of a line could ever come about, whatever some subjects do.
+    Could {
+        source: Source<'a>,
+        actors: Actors<'a>,
+        line: &'a str,
     },
     /// What becomes of the accesses to an object, in all modes or in this one, whatever some subjects do.
     WhoCould {
@@ -159,13 +209,13 @@ pub enum Question<'a> {
         /// Whether it is to name an object.
         is_object: bool,
     },
-    /// What is wrong with a start file, or suspicious in it.
+    /// What is wrong with a start file, or suspicious in it or in a state.
     Lint {
-        start: &'a str,
+        source: Source<'a>,
     },
-    /// The labels of a start and their order.
+    /// The labels of a state and their order.
     Lattice {
-        start: &'a str,
+        source: Source<'a>,
     },
     /// Entries of a journal.
     Journal(JournalWords<'a>),
@@ -182,12 +232,7 @@ pub enum Question<'a> {
     /// How the permissions over a journal were used.
     Usage(UsageWords<'a>),
     /// How a second start differs from a first one, or from its journal's replies.
-    Compare {
-        first: &'a str,
-        second: &'a str,
-        /// The file of a journal of the first start, where its requests are asked of both.
-        journal: Option<&'a str>,
-    },
+    Compare(CompareWords<'a>),
     /// A page about a journal.
     Report(ReportWords<'a>),
 }

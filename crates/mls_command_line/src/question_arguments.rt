@@ -27,13 +27,13 @@ pub(crate) const EXPLAIN_ARGUMENTS: [Argument; 6] = [
     START,
     Argument {
         name: "LINE",
-        kind: Kind::UnlessAt,
+        kind: Kind::Unless("at"),
         help: "A line as a script has it, quoted; without it, entry N of --at is explained",
     },
 ];
 
 /// The arguments of `who`.
-pub(crate) const WHO_ARGUMENTS: [Argument; 16] = [
+pub(crate) const WHO_ARGUMENTS: [Argument; 17] = [
     OF_JOURNAL,
     AT,
     MARKS_OF_JOURNAL,
@@ -41,9 +41,9 @@ pub(crate) const WHO_ARGUMENTS: [Argument; 16] = [
     Argument {
         name: "could",
         kind: Kind::FlagWithout("ever"),
-        help: "Prints, for each subject and mode, whether it ever comes to that access, whatever those do who act: held \
-            is held now; could comes about by some of their requests, once all that is held has been released; never \
-            comes about by none. All untrusted subjects act",
+        help: "Prints, for each subject and mode, whether it ever comes to that access, whatever those do who act: \
+            held is held now; could comes about by some of their requests, once all that is held has been released; \
+            never comes about by none. All untrusted subjects act",
     },
     Argument {
         name: "by",
@@ -53,7 +53,7 @@ pub(crate) const WHO_ARGUMENTS: [Argument; 16] = [
     Argument {
         name: "without",
         kind: Kind::SubjectsOfCould("by", "all"),
-        help: "All subjects act but these, the trusted too",
+        help: "All subjects act but these: trusted ones that are not named act, too",
     },
     Argument {
         name: "all",
@@ -87,7 +87,12 @@ pub(crate) const WHO_ARGUMENTS: [Argument; 16] = [
         name: "until",
         kind: Kind::TimeOfEver,
         help: "Who could in the state after the last batch in MARKS whose time is TIME, or earlier; TIME as \
-            2026-11-27T12:12:26+01:00, or a date as 2026-11-27, in UTC",
+            2026-11-27T12:12:26+01:00, or a date as 2026-11-27, in UTC, to its end",
+    },
+    Argument {
+        name: "on",
+        kind: Kind::DayOfEver,
+        help: "Who could on this day, in UTC: as --since and --until DATE",
     },
     START,
     Argument {
@@ -99,6 +104,36 @@ pub(crate) const WHO_ARGUMENTS: [Argument; 16] = [
         name: "MODE",
         kind: Kind::Mode,
         help: "This mode alone: read and write observe, append and write alter, execute does neither",
+    },
+];
+
+/// The arguments of `could`.
+pub(crate) const COULD_ARGUMENTS: [Argument; 9] = [
+    OF_JOURNAL,
+    AT,
+    MARKS_OF_JOURNAL,
+    WHEN,
+    Argument {
+        name: "by",
+        kind: Kind::Subjects("without", "all"),
+        help: "These subjects act alone: names, or # and numbers, with commas between them; without it, all that are \
+            not trusted act",
+    },
+    Argument {
+        name: "without",
+        kind: Kind::Subjects("by", "all"),
+        help: "All subjects act but these: trusted ones that are not named act, too",
+    },
+    Argument {
+        name: "all",
+        kind: Kind::FlagWithoutEither("by", "without"),
+        help: "All subjects act, the trusted too",
+    },
+    START,
+    Argument {
+        name: "LINE",
+        kind: Kind::Operand,
+        help: "A get as a script has it, quoted, but without variables; #N is object N",
     },
 ];
 
@@ -141,13 +176,13 @@ pub(crate) const ABOUT_ARGUMENTS: [Argument; 7] = [
 ];
 
 /// The arguments of `lint`.
-pub(crate) const LINT_ARGUMENTS: [Argument; 1] = [START];
+pub(crate) const LINT_ARGUMENTS: [Argument; 5] = [OF_JOURNAL, AT, MARKS_OF_JOURNAL, WHEN, START];
 
 /// The arguments of `lattice`.
-pub(crate) const LATTICE_ARGUMENTS: [Argument; 1] = [START];
+pub(crate) const LATTICE_ARGUMENTS: [Argument; 5] = [OF_JOURNAL, AT, MARKS_OF_JOURNAL, WHEN, START];
 
 /// The arguments of `journal`.
-pub(crate) const JOURNAL_ARGUMENTS: [Argument; 16] = [
+pub(crate) const JOURNAL_ARGUMENTS: [Argument; 18] = [
     Argument {
         name: "subject",
         kind: Kind::Text("SUBJ"),
@@ -194,7 +229,12 @@ pub(crate) const JOURNAL_ARGUMENTS: [Argument; 16] = [
         name: "until",
         kind: Kind::Time,
         help: "Entries to the end of the last batch in MARKS whose time is TIME or earlier; TIME as \
-            2026-11-27T12:12:26+01:00, or a date as 2026-11-27, in UTC",
+            2026-11-27T12:12:26+01:00, or a date as 2026-11-27, in UTC, to its end",
+    },
+    Argument {
+        name: "on",
+        kind: Kind::Day,
+        help: "Entries of the batches of this day, in UTC: as --since and --until DATE",
     },
     Argument {
         name: "summary",
@@ -210,6 +250,11 @@ pub(crate) const JOURNAL_ARGUMENTS: [Argument; 16] = [
         name: "explain",
         kind: Kind::FlagWithoutEither("summary", "json"),
         help: "Prints under each why it has its reply, as mls explain --at does of its number",
+    },
+    Argument {
+        name: "used-trust",
+        kind: Kind::FlagWithout("explain"),
+        help: "Entries that were granted, and would not have been if the subject that asked were not trusted",
     },
     AFTER,
     START,
@@ -241,7 +286,7 @@ pub(crate) const STATE_ARGUMENTS: [Argument; 7] = [
 ];
 
 /// The arguments of `held`.
-pub(crate) const HELD_ARGUMENTS: [Argument; 13] = [
+pub(crate) const HELD_ARGUMENTS: [Argument; 14] = [
     Argument {
         name: "subject",
         kind: Kind::Text("SUBJ"),
@@ -288,7 +333,12 @@ pub(crate) const HELD_ARGUMENTS: [Argument; 13] = [
         name: "until",
         kind: Kind::Time,
         help: "What was held in the state after the last batch in MARKS whose time is TIME, or earlier; TIME as for \
-            --when",
+            --when, a date to its end",
+    },
+    Argument {
+        name: "on",
+        kind: Kind::Day,
+        help: "What was held on this day, in UTC: as --since and --until DATE",
     },
     AFTER,
     START,
@@ -296,7 +346,28 @@ pub(crate) const HELD_ARGUMENTS: [Argument; 13] = [
 ];
 
 /// The arguments of `usage`.
-pub(crate) const USAGE_ARGUMENTS: [Argument; 8] = [
+pub(crate) const USAGE_ARGUMENTS: [Argument; 13] = [
+    Argument {
+        name: "subject",
+        kind: Kind::Text("SUBJ"),
+        help: "Its permissions",
+    },
+    Argument {
+        name: "object",
+        kind: Kind::Text("OBJ"),
+        help: "The permissions on it: its name, or # and its number (quoted)",
+    },
+    Argument {
+        name: "never",
+        kind: Kind::FlagWithout("tighten"),
+        help: "Leaves out the lines of permissions that were granted; the last line counts them still",
+    },
+    Argument {
+        name: "tighten",
+        kind: Kind::FlagWithoutEither("json", "after"),
+        help: "Prints START without the permissions that were never granted, as a start file: cells of the matrix are \
+            left out, but for those of accesses that START opens with; all else stays",
+    },
     Argument {
         name: "from",
         kind: Kind::Entry,
@@ -319,7 +390,12 @@ pub(crate) const USAGE_ARGUMENTS: [Argument; 8] = [
         name: "until",
         kind: Kind::Time,
         help: "The permissions of the state after the last batch in MARKS whose time is TIME, or of an earlier one, \
-            and the entries up to it; TIME as for --since",
+            and the entries up to it; TIME as for --since, a date to its end",
+    },
+    Argument {
+        name: "on",
+        kind: Kind::Day,
+        help: "The permissions and entries of this day, in UTC: as --since and --until DATE",
     },
     AFTER,
     START,
@@ -327,7 +403,56 @@ pub(crate) const USAGE_ARGUMENTS: [Argument; 8] = [
 ];
 
 /// The arguments of `compare`.
-pub(crate) const COMPARE_ARGUMENTS: [Argument; 3] = [
+pub(crate) const COMPARE_ARGUMENTS: [Argument; 13] = [
+    Argument {
+        name: "set",
+        kind: Kind::TextsWithout("SETTING", "could"),
+        help: "In place of START2: START1 with a member set, NAME.MEMBER=VALUE as bob.maximum=C: maximum, current, \
+            integrity or trusted of a subject, security or integrity of an object. It may be given again",
+    },
+    Argument {
+        name: "broken",
+        kind: Kind::FlagWithout("could"),
+        help: "Only what START1 grants and START2 would not",
+    },
+    Argument {
+        name: "summary",
+        kind: Kind::FlagWithout("could"),
+        help: "Prints how much differs, by subject and replies, and by the reason for which START2 denies",
+    },
+    Argument {
+        name: "could",
+        kind: Kind::FlagWithout("JOURNAL"),
+        help: "Prints instead which accesses untrusted subjects could ever get by one of the starts alone",
+    },
+    Argument {
+        name: "from",
+        kind: Kind::Entry,
+        help: "Of the entries of JOURNAL those from number N on; START2 is asked the others too",
+    },
+    Argument {
+        name: "to",
+        kind: Kind::Entry,
+        help: "Of the entries of JOURNAL those to number N",
+    },
+    MARKS_OF_OPERAND,
+    Argument {
+        name: "since",
+        kind: Kind::Time,
+        help: "Of the entries of JOURNAL those from the first batch in MARKS on whose time is TIME or later; TIME as \
+            2026-11-27T12:12:26+01:00, or a date as 2026-11-27, in UTC",
+    },
+    Argument {
+        name: "until",
+        kind: Kind::Time,
+        help: "Of the entries of JOURNAL those to the end of the last batch in MARKS whose time is TIME or earlier; \
+            TIME as for --since, a date to its end",
+    },
+    Argument {
+        name: "on",
+        kind: Kind::Day,
+        help: "Of the entries of JOURNAL those of this day, in UTC: as --since and --until DATE",
+    },
     Argument {
         name: "START1",
         kind: Kind::Operand,
@@ -335,15 +460,57 @@ pub(crate) const COMPARE_ARGUMENTS: [Argument; 3] = [
     },
     Argument {
         name: "START2",
-        kind: Kind::Operand,
-        help: "The start file that is compared, JSON",
+        kind: Kind::Unless("set"),
+        help: "The start file that is compared, JSON; with --set a journal of START1 in its place",
     },
     Argument {
         name: "JOURNAL",
-        kind: Kind::Optional,
+        kind: Kind::OptionalWithout("set"),
         help: "A journal of START1, whose requests are asked of both; without it, all gets in their openings are",
     },
 ];
 
 /// The arguments of `report`.
-pub(crate) const REPORT_ARGUMENTS: [Argument; 3] = [MARKS_OF_OPERAND, START, JOURNAL];
+pub(crate) const REPORT_ARGUMENTS: [Argument; 10] = [
+    Argument {
+        name: "at",
+        kind: Kind::EntryOrRange,
+        help: "As it was before entry N, counted from 0",
+    },
+    Argument {
+        name: "from",
+        kind: Kind::Entry,
+        help: "Of the entries from number N on, and of the state before it and later ones",
+    },
+    Argument {
+        name: "to",
+        kind: Kind::Entry,
+        help: "Of the entries to number N, and of the state after it and earlier ones",
+    },
+    MARKS_OF_OPERAND,
+    Argument {
+        name: "when",
+        kind: Kind::TimeOrRange,
+        help: "As it was after the last batch in MARKS whose time is TIME or earlier; TIME as \
+            2026-11-27T12:12:26+01:00, or a date as 2026-11-27, in UTC",
+    },
+    Argument {
+        name: "since",
+        kind: Kind::Time,
+        help: "Of the entries from the first batch in MARKS on whose time is TIME or later, and of the state at TIME \
+            and later ones; TIME as for --when",
+    },
+    Argument {
+        name: "until",
+        kind: Kind::Time,
+        help: "Of the entries to the end of the last batch in MARKS whose time is TIME or earlier, and of the state \
+            after it and earlier ones; TIME as for --when, a date to its end",
+    },
+    Argument {
+        name: "on",
+        kind: Kind::Day,
+        help: "Of the entries and states of this day, in UTC: as --since and --until DATE",
+    },
+    START,
+    JOURNAL,
+];

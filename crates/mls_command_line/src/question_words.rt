@@ -1,9 +1,9 @@
 //! What the words of a question ask for.
 use crate::job::Job;
 use crate::question::{
-    Actors, EverWords, HeldWords, JournalWords, Question, ReportWords, Source, Times, UsageWords,
+    Actors, EverWords, HeldWords, JournalWords, Question, Source, Times, UsageWords,
 };
-use crate::times::{time_by, time_from};
+use crate::times::{is_behind, time_by, time_from, time_until, times_of_day};
 use crate::words_fault::{FormedOption, WordsFault};
 use clap::ArgMatches;
 use mls_listings::{Filter, Form, ReplyFront, Words};
@@ -21,13 +21,26 @@ pub(crate) fn operand<'a>(matches: &ArgMatches<'a>, name: &str) -> &'a str {
 ///
 /// # Errors
 /// `Time` where its word is none.
-fn when<'a>(matches: &ArgMatches<'a>) -> Result<Option<Time>, WordsFault<'a>> {
+pub(crate) fn when<'a>(matches: &ArgMatches<'a>) -> Result<Option<Time>, WordsFault<'a>> {
     time_by(FormedOption::When, matches.get_str("when"))
+}
+
+/// The operands that stand behind `START`, but for a journal.
+const BESIDE: [&str; 4] = ["LINE", "OBJ", "SUBJ", "NAME"];
+
+/// The operand that stands behind `START`, where there is one that names no journal.
+fn beside<'a>(matches: &ArgMatches<'a>) -> &'a str {
+    for name in &BESIDE {
+        if let Some(word) = matches.get_str(name) {
+            return word;
+        }
+    }
+    ""
 }
 
 /// The files of a question about the state that this journal leads to, where there is one, after the last batch by a
 /// time, where that is told.
-fn source<'a>(
+pub(crate) fn source<'a>(
     matches: &ArgMatches<'a>,
     journal: Option<&'a str>,
     when: Option<Time>,
@@ -38,6 +51,7 @@ fn source<'a>(
         at: matches.get_one("at"),
         marks: matches.get_str("marks"),
         when,
+        beside: beside(matches),
     }
 }
 
@@ -59,12 +73,36 @@ fn reply_front<'a>(matches: &ArgMatches<'a>) -> Result<Option<ReplyFront>, Words
 ///
 /// # Errors
 /// `Above` where the first number is above the last.
-fn range<'a>(matches: &ArgMatches<'a>) -> Result<(Option<u64>, Option<u64>), WordsFault<'a>> {
+pub(crate) fn range<'a>(
+    matches: &ArgMatches<'a>,
+) -> Result<(Option<u64>, Option<u64>), WordsFault<'a>> {
     let from = matches.get_one::<u64>("from");
     let to = matches.get_one::<u64>("to");
     match (from, to) {
         (Some(first), Some(last)) if first > last => Err(WordsFault::Above { first, last }),
         _ => Ok((from, to)),
+    }
+}
+
+/// The first and the last time of marks that are asked for: by `--since` and `--until`, or of the day of `--on`.
+///
+/// # Errors
+/// `Day` where the word of `--on` is no date, `Time` or `Zone` where another word is no time, else `Behind` where the
+/// first time is behind the last.
+fn between_times<'a>(
+    matches: &ArgMatches<'a>,
+) -> Result<(Option<Time>, Option<Time>), WordsFault<'a>> {
+    if let Some(day) = matches.get_str("on") {
+        return times_of_day(day);
+    }
+    let (since, until) = (matches.get_str("since"), matches.get_str("until"));
+    let first = time_from(FormedOption::Since, since)?;
+    let last = time_until(FormedOption::Until, until)?;
+    match (since, until) {
+        (Some(since), Some(until)) if is_behind(since, until) => {
+            Err(WordsFault::Behind { since, until })
+        }
+        _ => Ok((first, last)),
     }
 }
 
@@ -99,18 +137,18 @@ fn filter<'a>(
 /// What `journal` was asked for.
 ///
 /// # Errors
-/// `Reply` where no reply begins with the words, else `Above` where the first number is above the last, else `Time`
-/// where a word is to be a time and is none.
+/// `Reply` where no reply begins with the words, else `Above` where the first number is above the last, else that of
+/// the times.
 pub(crate) fn journal_words<'a>(matches: &ArgMatches<'a>) -> Result<Job<'a>, WordsFault<'a>> {
     let reply = reply_front(matches)?;
     let (from, to) = range(matches)?;
-    let since = time_from(FormedOption::Since, matches.get_str("since"))?;
-    let until = time_by(FormedOption::Until, matches.get_str("until"))?;
+    let (since, until) = between_times(matches)?;
     Ok(Job::Question(Question::Journal(JournalWords {
         start: operand(matches, "START"),
         journal: operand(matches, "JOURNAL"),
         filter: filter(matches, reply, from, to),
         form: form(matches),
+        is_trusted: matches.get_flag("used-trust"),
         is_explained: matches.get_flag("explain"),
         marks: matches.get_str("marks"),
         since,
@@ -135,9 +173,11 @@ fn states<'a>(matches: &ArgMatches<'a>) -> Result<States, WordsFault<'a>> {
 ///
 /// # Errors
 /// `Time` where a word is to be a time and is none.
-fn times<'a>(matches: &ArgMatches<'a>, when: Option<Time>) -> Result<Times, WordsFault<'a>> {
-    let since = time_from(FormedOption::Since, matches.get_str("since"))?;
-    let until = time_by(FormedOption::Until, matches.get_str("until"))?;
+pub(crate) fn times<'a>(
+    matches: &ArgMatches<'a>,
+    when: Option<Time>,
+) -> Result<Times, WordsFault<'a>> {
+    let (since, until) = between_times(matches)?;
     Ok(Times { since, until, when })
 }
 
@@ -186,6 +226,10 @@ pub(crate) fn usage_words<'a>(matches: &ArgMatches<'a>) -> Result<Job<'a>, Words
         states: States::between(from, to),
         times,
         after: matches.get_str("after"),
+        subject: matches.get_str("subject"),
+        object: matches.get_str("object"),
+        never: matches.get_flag("never"),
+        tighten: matches.get_flag("tighten"),
     })))
 }
 
@@ -236,6 +280,19 @@ fn actors<'a>(matches: &ArgMatches<'a>) -> Actors<'a> {
         (None, Some(words)) => Actors::Without(words),
         (None, None) => Actors::Untrusted,
     }
+}
+
+/// What `could` was asked for.
+///
+/// # Errors
+/// `Time` where a word is to be a time and is none.
+pub(crate) fn could_words<'a>(matches: &ArgMatches<'a>) -> Result<Job<'a>, WordsFault<'a>> {
+    let when = when(matches)?;
+    Ok(Job::Question(Question::Could {
+        source: source(matches, matches.get_str("journal"), when),
+        actors: actors(matches),
+        line: operand(matches, "LINE"),
+    }))
 }
 
 /// What `who` was asked for about all futures of one state.
@@ -322,22 +379,4 @@ pub(crate) fn state_words<'a>(matches: &ArgMatches<'a>) -> Result<Job<'a>, Words
         is_start: matches.get_flag("start"),
         map: matches.get_str("map"),
     }))
-}
-
-/// What `compare` was asked for.
-pub(crate) fn compare_words<'a>(matches: &ArgMatches<'a>) -> Question<'a> {
-    Question::Compare {
-        first: operand(matches, "START1"),
-        second: operand(matches, "START2"),
-        journal: matches.get_str("JOURNAL"),
-    }
-}
-
-/// What `report` was asked for.
-pub(crate) fn report_words<'a>(matches: &ArgMatches<'a>) -> Question<'a> {
-    Question::Report(ReportWords {
-        start: operand(matches, "START"),
-        journal: operand(matches, "JOURNAL"),
-        marks: matches.get_str("marks"),
-    })
 }

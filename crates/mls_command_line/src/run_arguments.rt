@@ -2,15 +2,34 @@
 use crate::argument::{Argument, Kind};
 use crate::shared_arguments::{JOURNAL, START};
 
+/// The arguments of `init`.
+pub(crate) const INIT_ARGUMENTS: [Argument; 1] = [Argument {
+    name: "FOLDER",
+    kind: Kind::Optional,
+    help: "The folder, which is made where it isn't there; without it, the one that this runs in",
+}];
+
+/// The arguments of `complete`.
+pub(crate) const COMPLETE_ARGUMENTS: [Argument; 1] = [Argument {
+    name: "SHORT",
+    kind: Kind::Operand,
+    help: "The short start file, JSON",
+}];
+
 /// The arguments of `check`.
 pub(crate) const CHECK_ARGUMENTS: [Argument; 1] = [START];
 
 /// The arguments of `run`.
-pub(crate) const RUN_ARGUMENTS: [Argument; 4] = [
+pub(crate) const RUN_ARGUMENTS: [Argument; 5] = [
     Argument {
         name: "serial",
         kind: Kind::Flag,
         help: "Runs the scripts one after the other, and not each in a thread of its own",
+    },
+    Argument {
+        name: "strict",
+        kind: Kind::Flag,
+        help: "Ends with status 4 where a line wasn't understood; prints and writes all as without it",
     },
     Argument {
         name: "journal",
@@ -34,7 +53,8 @@ pub(crate) const VERIFY_ARGUMENTS: [Argument; 5] = [
     Argument {
         name: "from",
         kind: Kind::Text("DIGEST"),
-        help: "What the chain of digests begins from, 64 hexadecimal digits; without it, zeros",
+        help: "What the chain of digests begins from, 64 hexadecimal digits; without it, what the first line of MARKS \
+            has, or zeros where an earlier version wrote MARKS",
     },
     Argument {
         name: "digest",

@@ -1,17 +1,19 @@
 //! The words of a command line.
 use crate::command_line::command;
 use crate::command_rows::{COMMANDS, CommandName, CommandRow};
+use crate::compare_words::compare_words;
 use crate::job::{Asked, Job, RunWords, ServeWords};
 use crate::json_words::asks_json;
-use crate::question::Question;
 use crate::question_words::{
-    about_words, ask_words, compare_words, explain_words, held_words, journal_words, operand,
-    powers_words, report_words, state_words, usage_words, who_words,
+    about_words, ask_words, could_words, explain_words, held_words, journal_words, operand,
+    powers_words, state_words, usage_words, who_words,
 };
+use crate::short_help::short_help;
+use crate::state_words::{lattice_words, lint_words, report_words};
 use crate::verify_words::verify_words;
 use crate::words_fault::{WordsFault, words_refused};
 use clap::{ArgMatches, Error};
-use mls_terminal::{NOT_WRITTEN, refused};
+use mls_terminal::{NO_MEMORY, NOT_WRITTEN, print_answer, refused, wrapped};
 use std::alloc::{AllocError, Global};
 use std::process::ExitCode;
 
@@ -24,6 +26,7 @@ fn run_words<'a>(alloc: Global, matches: &ArgMatches<'a>) -> Result<RunWords<'a>
         scripts,
         journal: matches.get_str("journal"),
         is_serial: matches.get_flag("serial"),
+        is_strict: matches.get_flag("strict"),
     })
 }
 
@@ -80,6 +83,12 @@ fn command_job<'a>(
     words: &ArgMatches<'a>,
 ) -> Result<Job<'a>, WordsFault<'a>> {
     match command {
+        CommandName::Init => Ok(Job::Init {
+            folder: words.get_str("FOLDER").unwrap_or("."),
+        }),
+        CommandName::Complete => Ok(Job::Complete {
+            short: operand(words, "SHORT"),
+        }),
         CommandName::Check => Ok(Job::Check {
             start: operand(words, "START"),
         }),
@@ -93,20 +102,17 @@ fn command_job<'a>(
         CommandName::Ask => ask_words(words),
         CommandName::Explain => explain_words(words),
         CommandName::Who => who_words(words),
+        CommandName::Could => could_words(words),
         CommandName::Powers => powers_words(words),
         CommandName::About => about_words(words),
-        CommandName::Lint => Ok(Job::Question(Question::Lint {
-            start: operand(words, "START"),
-        })),
-        CommandName::Lattice => Ok(Job::Question(Question::Lattice {
-            start: operand(words, "START"),
-        })),
+        CommandName::Lint => lint_words(words),
+        CommandName::Lattice => lattice_words(words),
         CommandName::Journal => journal_words(words),
         CommandName::State => state_words(words),
         CommandName::Held => held_words(words),
         CommandName::Usage => usage_words(words),
-        CommandName::Compare => Ok(Job::Question(compare_words(words))),
-        CommandName::Report => Ok(Job::Question(report_words(words))),
+        CommandName::Compare => compare_words(alloc, words),
+        CommandName::Report => report_words(words),
     }
 }
 
@@ -137,12 +143,76 @@ fn parse<'a>(
     command(alloc, rows)?.try_get_matches_from(words)
 }
 
+/// Whether the short help of the program is asked for.
+fn asks_short_help(words: &[String]) -> bool {
+    match words {
+        [_, word] => word.as_str() == "-h",
+        _ => false,
+    }
+}
+
+/// Prints a text that was asked for, where there is one.
+fn printed(rt: &HostRuntime, text: Result<String, AllocError>) -> ExitCode {
+    match text {
+        Ok(text) => {
+            let status = print_answer(rt, text.as_bytes());
+            drop(text);
+            status
+        }
+        Err(AllocError) => refused(rt, NO_MEMORY, 1),
+    }
+}
+
+/// Help, or the version, in lines for a terminal.
+fn laid_out(alloc: Global, error: &Error) -> Result<String, AllocError> {
+    let text = format!(in alloc; "{error}")?;
+    let lines = wrapped(alloc, &text);
+    drop(text);
+    lines
+}
+
+/// Whether a command of this name takes a line.
+fn takes_line(name: &str) -> bool {
+    name == "ask" || name == "explain" || name == "could"
+}
+
+/// Whether one of some words asks for an access, as the second word of a line does.
+fn has_get(words: &[String]) -> bool {
+    for word in words {
+        if word.as_str().starts_with("get-") {
+            return true;
+        }
+    }
+    false
+}
+
+/// Whether the words of a line were given one by one.
+fn is_unquoted(words: &[String]) -> bool {
+    match words {
+        [_, name, ..] => takes_line(name.as_str()) && has_get(words),
+        _ => false,
+    }
+}
+
+/// Tells what may help where words aren't understood.
+fn tell_quoting(rt: &HostRuntime, words: &[String]) {
+    if is_unquoted(words) {
+        let _ = eprintln!(rt; "mls: LINE is one argument: quote it");
+    }
+}
+
 /// Prints help, the version, or why the words aren't understood.
-fn explained(rt: &HostRuntime, error: Error) -> ExitCode {
+fn explained(rt: &HostRuntime, error: Error, words: &[String]) -> ExitCode {
     let status = error.exit_code() as u8;
-    let printed = error.print(rt).is_ok();
+    if status == 0 {
+        let text = laid_out(rt.alloc(), &error);
+        drop(error);
+        return printed(rt, text);
+    }
+    let is_printed = error.print(rt).is_ok();
     drop(error);
-    if printed {
+    if is_printed {
+        tell_quoting(rt, words);
         ExitCode::from(status)
     } else {
         refused(rt, NOT_WRITTEN, 1)
@@ -157,7 +227,7 @@ fn read_by<'a>(
 ) -> Result<Asked<'a>, ExitCode> {
     let matches = match parse(rt.alloc(), rows, words) {
         Ok(matches) => matches,
-        Err(error) => return Err(explained(rt, error)),
+        Err(error) => return Err(explained(rt, error, words)),
     };
     let asked = asked(rt.alloc(), rows, &matches);
     drop(matches);
@@ -173,5 +243,8 @@ fn read_by<'a>(
 /// The status to end with where there is nothing to do: help or the version was asked for and is printed, or the words
 /// aren't understood and it is said why.
 pub fn read_words<'a>(rt: &HostRuntime, words: &'a [String]) -> Result<Asked<'a>, ExitCode> {
+    if asks_short_help(words) {
+        return Err(printed(rt, short_help(rt.alloc(), &COMMANDS)));
+    }
     read_by(rt, &COMMANDS, words)
 }

@@ -2,6 +2,14 @@
 use mls_terminal::{NO_MEMORY, refused};
 use std::process::ExitCode;
 
+/// How a reply may begin.
+const REPLIES: &str = "yes, no, created, undefined, 'created N' or 'no REASON'";
+
+/// What is said of a word that is no setting.
+const NO_SETTING: &str =
+    "not NAME.MEMBER=VALUE; members: maximum, current, integrity, trusted (true or false); of an \
+    object security, integrity";
+
 /// An option whose word has a form of its own.
 #[derive(Clone, Copy)]
 pub(crate) enum FormedOption {
@@ -34,8 +42,18 @@ pub(crate) enum WordsFault<'a> {
     Above { first: u64, last: u64 },
     /// The word of this option is no time.
     Time { option: FormedOption, word: &'a str },
+    /// The word of this option is a time of no zone.
+    Zone { option: FormedOption, word: &'a str },
+    /// The word of the option `--on` is no date.
+    Day(&'a str),
+    /// The time from which on is asked is behind the last one.
+    Behind { since: &'a str, until: &'a str },
     /// The word of this option is no digest.
     Digest { option: FormedOption, word: &'a str },
+    /// This word is no setting of a member.
+    Setting(&'a str),
+    /// This option asks for some entries of a journal, and there is none.
+    NoJournal(&'a str),
     /// There is no command of this name.
     Command(&'a str),
     /// An allocation failed.
@@ -45,20 +63,34 @@ pub(crate) enum WordsFault<'a> {
 /// Tells why words ask for nothing.
 pub(crate) fn words_refused(rt: &HostRuntime, fault: WordsFault<'_>) -> ExitCode {
     let _ = match fault {
-        WordsFault::Reply(words) => eprintln!(rt; "mls: --reply {words}: begins no reply"),
+        WordsFault::Reply(words) => eprintln!(rt;
+            "mls: --reply {words}: begins no reply: {REPLIES}"
+        ),
         WordsFault::Above { first, last } => eprintln!(rt;
             "mls: --from {first}: above --to {last}"
         ),
         WordsFault::Time { option, word } => {
             let name = option.name();
             eprintln!(rt;
-                "mls: --{name} {word}: no time such as 2026-11-27T12:12:26Z or 2026-11-27"
+                "mls: --{name} {word}: not a time; write it as 2026-11-27T12:12:26Z or 2026-11-27"
             )
         }
+        WordsFault::Zone { option, word } => {
+            let name = option.name();
+            eprintln!(rt; "mls: --{name} {word}: no zone: add Z or +01:00")
+        }
+        WordsFault::Day(word) => eprintln!(rt;
+            "mls: --on {word}: not a date; write it as 2026-11-27"
+        ),
+        WordsFault::Behind { since, until } => eprintln!(rt;
+            "mls: --since {since}: behind --until {until}"
+        ),
         WordsFault::Digest { option, word } => {
             let name = option.name();
             eprintln!(rt; "mls: --{name} {word}: no digest")
         }
+        WordsFault::Setting(word) => eprintln!(rt; "mls: --set {word}: {NO_SETTING}"),
+        WordsFault::NoJournal(option) => eprintln!(rt; "mls: --{option}: no JOURNAL"),
         WordsFault::Command(name) => eprintln!(rt; "mls: {name}: no command"),
         WordsFault::Memory => return refused(rt, NO_MEMORY, 1),
     };

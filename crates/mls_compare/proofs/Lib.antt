@@ -2,4 +2,5 @@ mod Followed
 mod Labels
 mod Mapped
 mod Refusals
+mod RefusalsSet
 mod Tables

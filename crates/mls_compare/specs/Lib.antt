@@ -1,3 +1,5 @@
+pub mod AsSet
+pub mod Asked
 pub mod Carriers
 pub mod Carrying
 pub mod Comparing

@@ -1,6 +1,7 @@
 //! Why starts aren't compared.
 
 use mls_replay::CommandFault;
+use mls_settings::SettingFault;
 use std::alloc::AllocError;
 use thiserror::Error;
 
@@ -11,12 +12,15 @@ pub enum CompareFault {
     /// The first start file is refused, or an allocation failed.
     #[error("the first start: {0}")]
     First(CommandFault),
-    /// The second start file is refused, or an allocation failed.
+    /// The second start file is refused, or the first as settings have it, or an allocation failed.
     #[error("the second start: {0}")]
     Second(CommandFault),
     /// The journal is refused as one of the first start, or an allocation failed.
     #[error("{0}")]
     Journal(CommandFault),
+    /// A setting isn't made.
+    #[error("{0}")]
+    Unset(SettingFault),
 }
 
 impl From<AllocError> for CompareFault {

@@ -2,16 +2,17 @@
 ghost use Rattle.std.specs.Prelude.{◌≡◌, ℕ, List, option_map, IfOk, IfErr, None, Some};
 ghost use Rattle.mls_start_file.specs.Says.{SaysStart};
 ghost use Rattle.mls_journal.specs.EntryText.{journal_text};
-ghost use Rattle.mls_compare.specs.Comparing.{Compares, ComparesWith, FollowsJournal, Tells};
-ghost use Rattle.mls_compare.specs.Comparing.{RefusesComparison, RefusesSecond, RefusesOther, RefusesReplies};
+ghost use Rattle.mls_compare.specs.Comparing.{Compares, ComparesWith, FollowsJournal, RefusesComparison, RefusesLoaded};
+ghost use Rattle.mls_compare.specs.Comparing.{RefusesOther, RefusesReplies, RefusesSecond, Tells};
 ghost use Rattle.mls_start_file.specs.Ties.{HasFewNames};
 
+use crate::asked::Asked;
 use crate::compare_fault::CompareFault;
 use crate::following::compare_replies;
 use mls_differences::compare_starts;
 use mls_lines::Names;
 use mls_monitor::{Monitor, Start};
-use mls_replay::{load_start, replay_over};
+use mls_replay::{CommandFault, load_start, replay_over};
 use mls_rows::{Form, Listing};
 use mls_start_file::Loaded;
 use std::alloc::Global;
@@ -20,7 +21,7 @@ use std::alloc::Global;
 ///
 /// # Errors
 /// `Second` where the file is refused or an allocation failed.
-fn load_second(alloc: Global, bytes: &[u8]) -> Result<Loaded, CompareFault>
+pub(crate) fn load_second(alloc: Global, bytes: &[u8]) -> Result<Loaded, CompareFault>
     ensures ok { IfOk result (λ loaded. SaysStart bytes.now loaded) }
     ensures fault { IfErr result (λ fault. RefusesOther bytes.now fault) }
 {
@@ -28,24 +29,6 @@ fn load_second(alloc: Global, bytes: &[u8]) -> Result<Loaded, CompareFault>
         Ok(loaded) => Ok(loaded),
         Err(fault) => Err(CompareFault::Second(fault)),
     }
-}
-
-/// How a start differs from the one of a second file, by names and openings.
-fn compare_openings(
-    alloc: Global,
-    form: Form,
-    words: (&str, &str),
-    first: &Loaded,
-    second: &[u8],
-) -> Result<Listing, CompareFault>
-    ensures ok { IfOk result (λ found.
-        ComparesWith form words.entry.0.now words.entry.1.now first.now second.now None found) }
-    ensures fault { IfErr result (λ fault. RefusesSecond first.now.start second.now None fault) }
-{
-    let second = load_second(alloc, second)?;
-    let answer = compare_starts(alloc, form, words, first, &second);
-    drop(second);
-    Ok(answer?)
 }
 
 /// The monitor of a start over which a journal is replayed.
@@ -72,13 +55,15 @@ fn compare_over(
     start: Start,
     second: &Loaded,
     journal: &[u8],
+    asked: &Asked,
 ) -> Result<Listing, CompareFault>
     requires { HasFewNames names.now }
-    ensures ok { IfOk result (λ found. FollowsJournal form names.now start second.now journal.now found) }
+    ensures ok { IfOk result
+        (λ found. FollowsJournal asked.now form names.now start second.now journal.now found) }
     ensures fault { IfErr result (λ fault. RefusesReplies start journal.now fault) }
 {
     let monitor = replayed(alloc, start, journal)?;
-    let answer = compare_replies(alloc, form, names, second, monitor.entries());
+    let answer = compare_replies(alloc, form, names, second, monitor.entries(), asked);
     drop(monitor);
     Ok(answer?)
 }
@@ -90,40 +75,57 @@ fn compare_parts(
     first: Loaded,
     second: &Loaded,
     journal: &[u8],
+    asked: &Asked,
 ) -> Result<Listing, CompareFault>
-    ensures ok { IfOk result (λ found. FollowsJournal form first.names first.start second.now journal.now found) }
+    ensures ok { IfOk result
+        (λ found. FollowsJournal asked.now form first.names first.start second.now journal.now found) }
     ensures fault { IfErr result (λ fault. RefusesReplies first.start journal.now fault) }
 {
     // that there are few names
     let _ = first.names();
     let (names, start): (Names, Start) = first.into_parts();
-    let answer = compare_over(alloc, form, &names, start, second, journal);
+    let answer = compare_over(alloc, form, &names, start, second, journal, asked);
     drop(names);
     answer
 }
 
-/// How a start and the one of a second file differ over a journal of the first.
-fn compare_journal(
+/// How a start differs from another, by names and openings.
+fn compare_openings(
     alloc: Global,
     form: Form,
+    words: (&str, &str),
     first: Loaded,
-    second: &[u8],
-    journal: &[u8],
+    second: &Loaded,
+    asked: &Asked,
 ) -> Result<Listing, CompareFault>
-    ensures ok { (file other : List ℕ) → IfOk result
-        (λ found. ComparesWith form file other first second.now (Some journal.now) found) }
-    ensures fault { IfErr result (λ fault. RefusesSecond first.start second.now (Some journal.now) fault) }
+    ensures ok { IfOk result (λ found.
+        Tells asked.now form words.entry.0.now words.entry.1.now first second.now None found) }
+    ensures fault { IfErr result (λ fault. RefusesLoaded first.start None fault) }
 {
-    match load_second(alloc, second) {
-        Ok(second) => {
-            let answer = compare_parts(alloc, form, first, &second, journal);
-            drop(second);
-            answer
-        }
-        Err(fault) => {
-            drop(first);
-            Err(fault)
-        }
+    let answer = compare_starts(alloc, form, words, &first, second, asked.scope);
+    drop(first);
+    Ok(answer?)
+}
+
+/// How a start differs from another: over a journal of the first, where there is one.
+pub(crate) fn compare_loaded(
+    alloc: Global,
+    form: Form,
+    words: (&str, &str),
+    first: Loaded,
+    second: &Loaded,
+    journal: Option<&[u8]>,
+    asked: &Asked,
+) -> Result<Listing, CompareFault>
+    ensures ok { IfOk result (λ found.
+        Tells asked.now form words.entry.0.now words.entry.1.now first second.now
+        (option_map (λ bytes. bytes.now) journal.entry) found) }
+    ensures fault { IfErr result (λ fault.
+        RefusesLoaded first.start (option_map (λ bytes. bytes.now) journal.entry) fault) }
+{
+    match journal {
+        Some(journal) => compare_parts(alloc, form, first, second, journal, asked),
+        None => compare_openings(alloc, form, words, first, second, asked),
     }
 }
 
@@ -135,27 +137,31 @@ fn compare_with(
     first: Loaded,
     second: &[u8],
     journal: Option<&[u8]>,
+    asked: &Asked,
 ) -> Result<Listing, CompareFault>
     ensures ok { IfOk result (λ found.
-        ComparesWith form words.entry.0.now words.entry.1.now first second.now
+        ComparesWith asked.now form words.entry.0.now words.entry.1.now first second.now
         (option_map (λ bytes. bytes.now) journal.entry) found) }
     ensures fault { IfErr result (λ fault.
         RefusesSecond first.start second.now (option_map (λ bytes. bytes.now) journal.entry) fault) }
 {
-    match journal {
-        Some(journal) => compare_journal(alloc, form, first, second, journal),
-        None => {
-            let answer = compare_openings(alloc, form, words, &first, second);
-            drop(first);
+    match load_second(alloc, second) {
+        Ok(second) => {
+            let answer = compare_loaded(alloc, form, words, first, &second, journal, asked);
+            drop(second);
             answer
+        }
+        Err(fault) => {
+            drop(first);
+            Err(fault)
         }
     }
 }
 
-/// How the start of a second file differs from that of a first, in a form. The files have these words. Without a
-/// journal: the names that only one start has, and the gets, of subjects and objects that both have, that the two
-/// openings answer otherwise. With a journal of the first start: the entries that the second start answers otherwise,
-/// where all that they name is carried over by name. The answer is positive where there is none of these.
+/// How the start of a second file differs from that of a first, in a form, of what is asked for. The files have these
+/// words. Without a journal: the names that only one start has, and the gets, of subjects and objects that both have,
+/// that the two openings answer otherwise. With a journal of the first start: the entries that the second start answers
+/// otherwise, where all that they name is carried over by name. The answer is positive where there is none of these.
 ///
 /// # Errors
 /// - `First` where the first file is refused, else `Second` where the second is.
@@ -168,15 +174,16 @@ pub fn compare(
     first: &[u8],
     second: &[u8],
     journal: Option<&[u8]>,
+    asked: &Asked,
 ) -> Result<Listing, CompareFault>
     ensures ok { IfOk result (λ found.
-        Compares form words.entry.0.now words.entry.1.now first.now second.now
+        Compares asked.now form words.entry.0.now words.entry.1.now first.now second.now
         (option_map (λ bytes. bytes.now) journal.entry) found) }
     ensures fault { IfErr result (λ fault.
         RefusesComparison first.now second.now (option_map (λ bytes. bytes.now) journal.entry) fault) }
 {
     match load_start(alloc, first) {
-        Ok(first) => compare_with(alloc, form, words, first, second, journal),
+        Ok(first) => compare_with(alloc, form, words, first, second, journal, asked),
         Err(fault) => Err(CompareFault::First(fault)),
     }
 }

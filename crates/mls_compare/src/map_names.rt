@@ -133,9 +133,9 @@ fn with_called(alloc: Global, names: &Names, called: &[&str]) -> Result<Names, M
 /// tested.
 ///
 /// # Errors
-/// - `Map` where it is no map of the start: its lines aren't those of all objects of the start, by number, or an object
-///   of the start has neither the name that the map has nor, where that is a number behind a `#`, the name of an `o` and
-///   this number or a greater one.
+/// - `Map` where it is no map of the start: its lines aren't those of all objects of the start, by number, or an
+///   object of the start has neither the name that the map has nor, where that is a number behind a `#`, the name of an
+///   `o` and this number or a greater one.
 /// - `Memory` where an allocation failed.
 pub fn names_after(alloc: Global, names: &Names, map: &[u8]) -> Result<Names, MapFault> {
     let Ok(map) = str::from_utf8(map) else {

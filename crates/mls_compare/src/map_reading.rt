@@ -34,8 +34,8 @@ impl<'a> MapRow<'a> {
         Some(MapRow { old, name })
     }
 
-    /// Whether the object was called by its number, and has now a name of an `o` and that number or a greater one. (That
-    /// may be no object's: where objects of the start have the names of all numbers that are left.)
+    /// Whether the object was called by its number, and has now a name of an `o` and that number or a greater one.
+    /// (That may be no object's: where objects of the start have the names of all numbers that are left.)
     fn is_numbered(&self, now: &str) -> bool {
         let (Some(was), Some(is)) = (self.name.strip_prefix('#'), now.strip_prefix('o')) else {
             return false;

@@ -1,5 +1,5 @@
 -- What becomes of accesses.
-use Rattle.std.proofs.Common.{◌≡◌, ℕ, Bool, true, false, ◌+◌, ◌<◌, ◌⊎◌, inl, inr, List, [], ◌∷◌, ◌++◌, All, nat_lt, Option, None, refl, sym, ap, ◌∙◌, arith}
+use Rattle.std.proofs.Common.{◌≡◌, ℕ, Bool, true, false, List, [], ◌∷◌, ◌++◌, nat_lt, None, refl, ◌∙◌, arith}
 use Rattle.std.specs.FinSet as set
 use Rattle.std.proofs.lemmas.List.{append_assoc}
 use Rattle.std.proofs.lemmas.Bool.Decides.{nat_tests}
@@ -11,8 +11,7 @@ use Rattle.mls_monitor.specs.Journal.{fold}
 use Rattle.mls_laws.specs.Journals.{StaysActive}
 use Rattle.mls_futures.specs.Closure.{CouldGet}
 use Rattle.mls_futures.specs.Futures.{IsByActors, CouldCome}
-use Rattle.mls_could.specs.Foreseeing.{pairs_with, pairs_of, IsForeseen, NeverComes}
-use Rattle.mls_could.specs.declared.foreseen.Foreseen.{Foreseen}
+use Rattle.mls_could.specs.Foreseeing.{pairs_with, NeverComes}
 
 -- two numbers with the same numbers below them are one
 pub same_count : (a b : ℕ) → ((s : ℕ) → nat_lt s a ≡ nat_lt s b) → a ≡ b

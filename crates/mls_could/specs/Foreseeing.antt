@@ -22,7 +22,8 @@ pub record NeverComes (v : State) (acts : ℕ → Bool) (t : Triple) : Type 0 wh
       → set.contains (fold v entries).accesses t ≡ false
 
 -- What is told of an access is so: it is held; or it isn't, and could come about; or it isn't, and never comes about.
--- That it could supposes that the labels are within the bounds, as those of all states are to which journals lead. (own)
+-- That it could supposes that the labels are within the bounds, as those of all states are to which journals lead.
+-- (own)
 abbrev pub IsSo : State → (ℕ → Bool) → Triple → Future → Type 0
 IsSo v acts t Held = IsTrue (set.contains v.accesses t)
 IsSo v acts t Could = (set.contains v.accesses t ≡ false) × (HasLabelsWithin v → CouldCome v acts t.0 t.1 t.2)

@@ -44,7 +44,8 @@ RowsWhether false names v acts o asked form told positive = (told ≡ []) × (po
 
 -- The bytes of an answer and whether it is positive tell what becomes of the accesses to an object. (own)
 abbrev pub RowsOfCould : Names → State → (ℕ → Bool) → ℕ → Option Mode → Form → List ℕ → Bool → Type 0
-RowsOfCould names v acts o asked form told positive = RowsWhether (is_active v o) names v acts o asked form told positive
+RowsOfCould names v acts o asked form told positive =
+    RowsWhether (is_active v o) names v acts o asked form told positive
 
 -- The bytes of an answer and whether it is positive tell what becomes of the accesses to the object that a word names,
 -- whatever those do whom a question has act. (own)

@@ -142,9 +142,9 @@ fn push_subject(
     }
 }
 
-/// What becomes of the accesses to an active object of a secure state: of just the pairs of a subject and a mode that is
-/// asked for, or any, by subject and mode. Whether an actor could give permissions is looked for once, from the object
-/// up to the root.
+/// What becomes of the accesses to an active object of a secure state: of just the pairs of a subject and a mode that
+/// is asked for, or any, by subject and mode. Whether an actor could give permissions is looked for once, from the
+/// object up to the root.
 ///
 /// # Errors
 /// `AllocError` where an allocation failed.

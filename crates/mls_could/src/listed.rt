@@ -54,9 +54,9 @@ fn list_active(
 }
 
 /// What becomes of the accesses to an object, from a secure state on, whatever the actors do, in a form: a row for each
-/// subject, by number, and mode that is asked for, or any, in their order. The access is held now; or it isn't, and could come
-/// about; or it isn't, and never comes about. An object that isn't active has no row. The answer is positive where one
-/// of the accesses is held or could be.
+/// subject, by number, and mode that is asked for, or any, in their order. The access is held now; or it isn't, and
+/// could come about; or it isn't, and never comes about. An object that isn't active has no row. The answer is positive
+/// where one of the accesses is held or could be.
 ///
 /// # Errors
 /// `AllocError` where an allocation failed.

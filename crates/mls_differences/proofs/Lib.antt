@@ -1,2 +1,4 @@
 mod Growing
+mod LoneRows
 mod NameLists
+mod Told

@@ -12,7 +12,8 @@ use Rattle.mls_tree.specs.declared.profile.Profile.TheVariants.{One, Two}
 use Rattle.mls_wording.specs.Wording.{security_text, integrity_text}
 use Rattle.mls_differences.specs.Changes.{parent_text}
 use Rattle.mls_differences.specs.Sides.{area_word, common, common_text, levels_of}
-use Rattle.mls_differences.specs.Things.{both_text, both_texts, difference_member, part_text, thing_member, truth_members}
+use Rattle.mls_differences.specs.Things.{both_text, both_texts, difference_member, part_text, thing_member}
+use Rattle.mls_differences.specs.Things.{truth_members}
 use Rattle.mls_differences.specs.declared.change.Change.{Change}
 use Rattle.mls_differences.specs.declared.change.Change.TheVariants as change
 use Rattle.mls_differences.specs.declared.thing.Thing.{Thing}

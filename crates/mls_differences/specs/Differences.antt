@@ -13,6 +13,7 @@ use Rattle.mls_differences.specs.Counterparts.{shared}
 use Rattle.mls_differences.specs.Gets.{get_bytes, gets_rows}
 use Rattle.mls_differences.specs.SingleForms.{single_bytes}
 use Rattle.mls_differences.specs.Singles.{singles}
+use Rattle.mls_differences.specs.declared.sections.Differences.{Differences}
 use Rattle.mls_differences.specs.declared.shared.Shared.{Shared}
 
 -- An answer has these bytes, and is a positive one where there are none. (own)
@@ -40,3 +41,21 @@ openings_bytes form file other a b v w =
 -- What is printed of two starts that files of these words say. (own)
 abbrev pub starts_bytes : Form → List ℕ → List ℕ → Loaded → Loaded → List ℕ
 starts_bytes form file other a b = openings_bytes form file other a.names b.names a.start b.start
+
+-- Differences are all that two starts with these names and states have otherwise, of the subjects and objects that they
+-- share. (own)
+pub record AreDifferences (a b : Names) (v w : State) (subjects objects : List Shared) (d : Differences) : Type 0 where
+  pub changes : d.changes.items ≡ changes a b v w subjects objects
+  pub singles : d.singles.items ≡ singles a b v w subjects objects
+  pub gets : d.gets.items ≡ gets_rows v w subjects objects
+
+-- They are those of two starts with these names that open with these states. (own)
+abbrev pub AreOpened : Names → Names → State → State → Differences → Type 0
+AreOpened a b v w d =
+    AreDifferences a b v w (shared a.subjects b.subjects MAX_SUBJECTS) (shared a.objects b.objects MAX_OBJECTS) d
+
+-- Differences in a form, between starts with these names that files of these words say. (own)
+abbrev pub rows_bytes : Form → List ℕ → List ℕ → Names → Names → Differences → List ℕ
+rows_bytes form file other a b d =
+    flat_map (change_bytes form a b) d.changes.items ++ flat_map (single_bytes form file other a b) d.singles.items
+    ++ flat_map (get_bytes form a) d.gets.items

@@ -1,10 +1,14 @@
 pub mod Alike
+pub mod Breaking
 pub mod ChangeForms
 pub mod Changes
+pub mod Coulds
 pub mod Counterparts
+pub mod Counting
 pub mod Differences
 pub mod Gets
 pub mod Replying
+pub mod Scoped
 pub mod Sides
 pub mod SingleForms
 pub mod Singles

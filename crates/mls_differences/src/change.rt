@@ -8,8 +8,8 @@ use mls_tables::{ObjectId, SubjectId};
 use mls_tree::Profile;
 use std::alloc::AllocError;
 
-/// What two starts both have, but otherwise: the first start's first. Subjects and objects have the first's numbers, but
-/// for the parent in the second start.
+/// What two starts both have, but otherwise: the first start's first. Subjects and objects have the first's numbers,
+/// except the parent in the second start.
 #[derive(Clone, Copy)]
 pub(crate) enum Change {
     Profile(Profile, Profile),

@@ -27,8 +27,8 @@ fn write_where(writer: &mut Writer, name: &str, is_common: bool) -> Result<(), A
 /// Writes those of some names that are among others.
 fn write_names(writer: &mut Writer, names: &[String], others: &[String]) -> Result<(), AllocError>
     ensures { Adds result writer.old writer.new (flat_map
-        (λ name. if is_among (map string_bytes others.now) (string_bytes name) then string (string_bytes name) ∷ [] else [])
-        names.now) }
+        (λ name. if is_among (map string_bytes others.now) (string_bytes name) then string (string_bytes name) ∷ []
+        else []) names.now) }
 {
     for name in names {
         let is_common = is_among(others, name.as_str());

@@ -2,11 +2,18 @@
 #![tactic(auto)]
 
 mod alike;
+mod breaking;
+mod case;
 mod change;
 mod change_lines;
 mod change_members;
 mod change_rows;
 mod compared;
+mod could_row;
+mod could_starts;
+mod coulds;
+mod count;
+mod counting;
 mod get_row;
 mod gets;
 mod heads;
@@ -18,6 +25,8 @@ mod objects;
 mod only;
 mod only_listed;
 mod replying;
+mod scope;
+mod scoped;
 mod sections;
 mod shared;
 mod side;
@@ -31,8 +40,15 @@ mod tables;
 mod thing;
 
 pub use alike::carried_label;
+pub use breaking::is_wanted;
+pub use case::Case;
 pub use compared::{Compared, with_rows};
+pub use could_starts::compare_coulds;
+pub use count::Count;
+pub use counting::push_counts;
 pub use replying::{agree, push_replies, write_replies};
+pub use scope::Scope;
+pub use scoped::{compare_starts, summed};
 pub use shared::{counterpart_object, counterpart_subject};
-pub use starts::{compare_starts, listing};
+pub use starts::listing;
 pub use thing::write_difference;

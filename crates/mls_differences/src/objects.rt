@@ -3,8 +3,8 @@ ghost use Rattle.std.specs.Prelude.{◌≡◌, ◌++◌, IsTrue, OnOk};
 ghost use Rattle.std.specs.FinMap as map;
 ghost use Rattle.std.specs.List.{flat_map};
 ghost use Rattle.mls_state.specs.State.{is_active};
-ghost use Rattle.mls_differences.specs.Changes.{integrity_rows, object_changes, moved_rows, object_rows, parent_rows, same_parent};
-ghost use Rattle.mls_differences.specs.Changes.{security_rows};
+ghost use Rattle.mls_differences.specs.Changes.{integrity_rows, object_changes, moved_rows, object_rows, parent_rows};
+ghost use Rattle.mls_differences.specs.Changes.{same_parent, security_rows};
 
 use crate::alike::{push_integrity, push_security};
 use crate::change::{Change, push_change};

@@ -14,7 +14,7 @@ use mls_rows::{write_number, write_text};
 use std::alloc::AllocError;
 
 /// Whether a reply is a denial for this reason.
-fn is_denied(reply: &Reply, reason: Reason) -> bool
+pub(crate) fn is_denied(reply: &Reply, reason: Reason) -> bool
     ensures { result ≡ agree (No reason) reply.now }
 {
     match reply {

@@ -1,15 +1,11 @@
-//! The rows of all that two starts have otherwise, section by section.
-ghost use Rattle.std.specs.Prelude.{◌≡◌, ◌++◌, IfOk};
-ghost use Rattle.std.specs.List.{flat_map};
-ghost use Rattle.mls_rows.specs.Rows.{bytes_of, form_of};
-ghost use Rattle.mls_differences.specs.ChangeForms.{change_bytes};
+//! All that two starts have otherwise, section by section.
+ghost use Rattle.std.specs.Prelude.{◌≡◌, IfOk};
 ghost use Rattle.mls_differences.specs.Changes.{changes};
-ghost use Rattle.mls_differences.specs.Gets.{get_bytes, gets_rows};
-ghost use Rattle.mls_differences.specs.SingleForms.{single_bytes};
+ghost use Rattle.mls_differences.specs.Differences.{AreDifferences};
+ghost use Rattle.mls_differences.specs.Gets.{gets_rows};
 ghost use Rattle.mls_differences.specs.Singles.{singles};
 
 use crate::change::Change;
-use crate::compared::with_rows;
 use crate::get_row::GetRow;
 use crate::gets::push_gets;
 use crate::heads::push_heads;
@@ -20,9 +16,19 @@ use crate::single::Single;
 use crate::subjects::push_subjects;
 use crate::tables::push_tables;
 use mls_lines::Names;
-use mls_rows::Output;
 use mls_rules::State;
 use std::alloc::{AllocError, Global};
+
+/// All that two starts have otherwise, as rows.
+#[derive(Drop)]
+pub(crate) struct Differences {
+    /// What both have, but otherwise.
+    pub changes: Vec<Change>,
+    /// What one of them alone has.
+    pub singles: Vec<Single>,
+    /// The gets that they answer otherwise.
+    pub gets: Vec<GetRow>,
+}
 
 /// What two starts both have, but otherwise.
 fn changes(
@@ -74,67 +80,24 @@ fn gets(
     Ok(rows)
 }
 
-/// Adds what two starts both have, but otherwise.
-pub(crate) fn with_changes(
+/// All that two starts with these names and states have otherwise, of which these are the subjects and the objects that
+/// they share.
+pub(crate) fn all_differences(
     alloc: Global,
-    output: Output,
-    words: (&str, &str),
     names: (&Names, &Names),
     states: (&State, &State),
     subjects: &[Shared],
     objects: &[Shared],
-) -> Result<Output, AllocError>
-    ensures form { IfOk result (λ new. form_of new ≡ form_of output) }
-    ensures bytes { IfOk result (λ new. bytes_of new ≡ bytes_of output
-        ++ flat_map (change_bytes (form_of output) names.entry.0.now names.entry.1.now)
-        (changes names.entry.0.now names.entry.1.now states.entry.0.now states.entry.1.now
-        subjects.now objects.now)) }
+) -> Result<Differences, AllocError>
+    ensures { IfOk result (λ found. AreDifferences names.entry.0.now names.entry.1.now
+        states.entry.0.now states.entry.1.now subjects.now objects.now found) }
 {
-    let rows = changes(alloc, names, states, subjects, objects)?;
-    let written = with_rows(alloc, output, words, names, &rows);
-    drop(rows);
-    written
-}
-
-/// Adds what one of two starts alone has.
-pub(crate) fn with_singles(
-    alloc: Global,
-    output: Output,
-    words: (&str, &str),
-    names: (&Names, &Names),
-    states: (&State, &State),
-    subjects: &[Shared],
-    objects: &[Shared],
-) -> Result<Output, AllocError>
-    ensures form { IfOk result (λ new. form_of new ≡ form_of output) }
-    ensures bytes { IfOk result (λ new. bytes_of new ≡ bytes_of output
-        ++ flat_map (single_bytes (form_of output) words.entry.0.now words.entry.1.now
-        names.entry.0.now names.entry.1.now)
-        (singles names.entry.0.now names.entry.1.now states.entry.0.now states.entry.1.now
-        subjects.now objects.now)) }
-{
-    let rows = singles(alloc, names, states, subjects, objects)?;
-    let written = with_rows(alloc, output, words, names, &rows);
-    drop(rows);
-    written
-}
-
-/// Adds the gets that two starts answer otherwise.
-pub(crate) fn with_gets(
-    alloc: Global,
-    output: Output,
-    words: (&str, &str),
-    names: (&Names, &Names),
-    states: (&State, &State),
-    subjects: &[Shared],
-    objects: &[Shared],
-) -> Result<Output, AllocError>
-    ensures { IfOk result (λ new. bytes_of new ≡ bytes_of output
-        ++ flat_map (get_bytes (form_of output) names.entry.0.now)
-        (gets_rows states.entry.0.now states.entry.1.now subjects.now objects.now)) }
-{
-    let rows = gets(alloc, states, subjects, objects)?;
-    let written = with_rows(alloc, output, words, names, &rows);
-    drop(rows);
-    written
+    let changes = changes(alloc, names, states, subjects, objects)?;
+    let singles = singles(alloc, names, states, subjects, objects)?;
+    let gets = gets(alloc, states, subjects, objects)?;
+    Ok(Differences {
+        changes,
+        singles,
+        gets,
+    })
 }

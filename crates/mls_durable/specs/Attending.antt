@@ -11,7 +11,8 @@ use Rattle.mls_durable.specs.Moments.{Serves}
 use Rattle.mls_durable.specs.Batches.{Stops}
 use Rattle.mls_durable.specs.declared.options.Protocol.{Protocol}
 use Rattle.mls_durable.specs.declared.attend_fault.AttendFault.{AttendFault}
-use Rattle.mls_durable.specs.declared.attend_fault.AttendFault.TheVariants.{Read, Unfinished, Write, File, Memory, TooLong}
+use Rattle.mls_durable.specs.declared.attend_fault.AttendFault.TheVariants.{Read, Unfinished, Write, File, Memory}
+use Rattle.mls_durable.specs.declared.attend_fault.AttendFault.TheVariants.{TooLong}
 
 -- What holds of the lines that are to be answered once some bytes were read: those that are complete in what the reader
 -- gave, where that is known. (own)

@@ -77,4 +77,5 @@ ready_line next = codes "ready " ++ decimal next ++ 10 ∷ []
 -- of the next entry. (own)
 unfoldable pub greeting : Names → Bool → State → List Entry → List ℕ
 greeting names wanted start entries =
-    (if wanted then names_text names (fold start entries).accesses start.accesses else []) ++ ready_line (length entries)
+    (if wanted then names_text names (fold start entries).accesses start.accesses else [])
+    ++ ready_line (length entries)

@@ -1,6 +1,6 @@
 -- Whom a line asks for, what it says, what it is answered and what it leaves, by the protocol of a service.
-use Rattle.std.specs.Prelude.{◌≡◌, ℕ, ◌+◌, List, [], ◌∷◌, ◌++◌, codes, take, Bool, true, false, ◌==◌, ◌&&◌, ◌||◌, if◌then◌else◌}
-use Rattle.std.specs.Prelude.{Option, Some, None, Result, Ok, Err}
+use Rattle.std.specs.Prelude.{◌≡◌, ℕ, ◌+◌, List, [], ◌∷◌, ◌++◌, codes, take, Bool, true, false, ◌==◌, ◌&&◌, ◌||◌}
+use Rattle.std.specs.Prelude.{if◌then◌else◌, Option, Some, None, Result, Ok, Err}
 use Rattle.std.specs.Fmt.{decimal}
 use Rattle.mls_facts.specs.Decimals.{decimal_within}
 use Rattle.mls_requests.specs.declared.ask.Ask.TheVariants.{Submit, Check}
@@ -146,7 +146,8 @@ is_silent (answer.Replied r) = false
 
 -- The bytes of the answer to what was heard. (own)
 abbrev pub answer_heard : Bool → Standing → Heard → List ℕ
-answer_heard numbers s h = answer_line (head_for h.who) (number_of numbers (added_for s h.who h.said)) (said_to s h.said)
+answer_heard numbers s h =
+    answer_line (head_for h.who) (number_of numbers (added_for s h.who h.said)) (said_to s h.said)
 
 -- The line of an entry, where there is one. (own)
 abbrev pub line_of_added : Option Entry → List ℕ

@@ -76,7 +76,8 @@ pub(crate) fn push_answer_line(
     number: Option<u64>,
     answer: &Answer,
 ) -> Result<(), AllocError>
-    ensures { OnOk result (text.new.items ≡ text.old.items ++ answer_line (head_for who) (number_text number) answer.now) }
+    ensures { OnOk result (text.new.items
+        ≡ text.old.items ++ answer_line (head_for who) (number_text number) answer.now) }
 {
     if is_silent(answer) {
         return Ok(());

@@ -60,10 +60,11 @@ fn attend_pieces<R: Read, O: Outside>(
 /// The lines that are complete in what was read are a batch, or more than one where the text of their entries would
 /// pass `BATCH` bytes: the entries are added to the file, which is synced, and then the answers are handed out. A batch
 /// that adds no entry syncs nothing. All of that is done before the reader is called again. A last line without a
-/// newline isn't asked. The monitor forgets an entry once its line is in a batch. There is no limit on the input; a line
-/// has at most `MAX_LINE` bytes, and a session's so many behind what tells its session. Where the protocol cuts the
-/// journal into files, and the line of one entry more might make the live file longer than a segment, what was asked is
-/// committed, and then another file is begun: so no file is longer than a segment that wasn't when it was found.
+/// newline isn't asked. The monitor forgets an entry once its line is in a batch. There is no limit on the input; a
+/// line has at most `MAX_LINE` bytes, and a session's so many behind what tells its session. Where the protocol cuts
+/// the journal into files, and the line of one entry more might make the live file longer than a segment, what was
+/// asked is committed, and then another file is begun: so no file is longer than a segment that wasn't when it was
+/// found.
 ///
 /// # Errors
 /// The lines before some line are answered, and no other. The monitor's start stays.

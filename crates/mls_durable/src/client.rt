@@ -1,5 +1,6 @@
 //! A client whose lines come in pieces.
-ghost use Rattle.std.specs.Prelude.{◌≡◌, ◌<◌, ◌≤◌, ◌++◌, ◌∷◌, [], ℕ, List, false, length, string_bytes, vec_len, OnOk, MatchResult};
+ghost use Rattle.std.specs.Prelude.{◌≡◌, ◌<◌, ◌≤◌, ◌++◌, ◌∷◌, [], ℕ, List, false, length, string_bytes, vec_len, OnOk};
+ghost use Rattle.std.specs.Prelude.{MatchResult};
 ghost use Rattle.mls_scripts.specs.Lines.{closed_lines, open_part, has_newline};
 ghost use Rattle.mls_scripts.specs.Script.{standing_of};
 ghost use Rattle.mls_durable.specs.History.{Known};

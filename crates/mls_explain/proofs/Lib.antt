@@ -5,3 +5,4 @@ mod Joins
 mod Lists
 mod LowerLevels
 mod Meets
+mod Untrusted

@@ -95,11 +95,10 @@ delete_ground v s o (Some p) = rests.Writing s p
 abbrev pub holdings_ground : State → ℕ → Label → Ground
 holdings_ground v s l = if set.contains v.trusted s then rests.Trust s else rests.Holdings s l
 
--- What authority to give an object a label rests on. (own)
-abbrev pub relabel_ground : State → ℕ → ℕ → Label → Ground
-relabel_ground v s o l =
-    if set.contains v.trusted s then rests.Trust s
-    else if o == 0 then rests.Trust s
+-- What authority of a subject without trust to give an object a label rests on. (own)
+abbrev pub plain_relabel_ground : State → ℕ → ℕ → Label → Ground
+plain_relabel_ground v s o l =
+    if o == 0 then rests.Trust s
     else rests.Relabelling (record {
       subject = s;
       parent = parent_of v o;
@@ -109,6 +108,10 @@ relabel_ground v s o l =
       label = label_at v.object_label o;
       new = l;
     })
+
+-- What authority to give an object a label rests on. (own)
+abbrev pub relabel_ground : State → ℕ → ℕ → Label → Ground
+relabel_ground v s o l = if set.contains v.trusted s then rests.Trust s else plain_relabel_ground v s o l
 
 -- Whether the label of each child of an object dominates a label. (MTR-2997, compatibility)
 abbrev pub children_fit : State → ℕ → Label → Bool

@@ -1,5 +1,6 @@
 -- What a get would take of the subject alone: another current label, releases before it, or more than that.
-use Rattle.std.specs.Prelude.{◌≡◌, ℕ, Bool, true, false, IsTrue, Option, Some, None, List, [], ◌∷◌, All, map, if◌then◌else◌}
+use Rattle.std.specs.Prelude.{◌≡◌, ℕ, Bool, true, false, IsTrue, Option, Some, None, List, [], ◌∷◌, All, map}
+use Rattle.std.specs.Prelude.{if◌then◌else◌}
 use Rattle.std.specs.FinMap as table
 use Rattle.mls_labels.specs.Label.{Label, dominates, has_label}
 use Rattle.mls_tables.specs.Triples.{Triple}

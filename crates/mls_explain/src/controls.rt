@@ -8,7 +8,8 @@ ghost use Rattle.mls_state.specs.State.{is_subject, is_active, is_above};
 ghost use Rattle.mls_rules.specs.Levels.{label_fits};
 ghost use Rattle.mls_rules.specs.Rules.{writes_parent, controls, may_relabel};
 ghost use Rattle.mls_explain.specs.Grounds.{parent_of, security_of, trust_of_object, control_ground, delete_ground};
-ghost use Rattle.mls_explain.specs.Grounds.{relabel_ground, place_ground};
+ghost use Rattle.mls_explain.specs.Grounds.{plain_relabel_ground, relabel_ground, place_ground};
+ghost use Rattle.mls_explain.specs.Trusting.{may_relabel_alone};
 
 use crate::condition::Condition;
 use crate::get::{security_of, trust_of_object};
@@ -22,7 +23,7 @@ use mls_tables::{MAX_OBJECTS, Mode, ObjectId, SubjectId};
 use std::alloc::Allocator;
 
 /// Whether the subject writes the parent of an object that has one.
-fn writes_parent<A: Allocator>(state: &State<A>, s: SubjectId, o: ObjectId) -> bool
+pub(crate) fn writes_parent<A: Allocator>(state: &State<A>, s: SubjectId, o: ObjectId) -> bool
     requires subject { IsTrue (is_subject state.now s) }
     requires object { IsTrue (is_active state.now o) }
     ensures { result ≡ writes_parent state.now s (map.get state.now.parent o) }
@@ -34,7 +35,7 @@ fn writes_parent<A: Allocator>(state: &State<A>, s: SubjectId, o: ObjectId) -> b
 }
 
 /// The parent of an object, the root where it has none.
-fn parent_of<A: Allocator>(state: &State<A>, o: ObjectId) -> ObjectId
+pub(crate) fn parent_of<A: Allocator>(state: &State<A>, o: ObjectId) -> ObjectId
     requires { IsTrue (is_active state.now o) }
     ensures { result ≡ parent_of state.now o }
 {
@@ -171,6 +172,29 @@ fn relabelling<A: Allocator>(
     }
 }
 
+/// That the subject may give the object this label, without trust.
+pub(crate) fn relabels_alone<A: Allocator>(
+    state: &State<A>,
+    s: SubjectId,
+    o: ObjectId,
+    l: SecLabel,
+) -> Condition
+    requires subject { IsTrue (is_subject state.now s) }
+    requires object { IsTrue (is_active state.now o) }
+    ensures { result ≡ record {
+      reason = Reason.Authority;
+      holds = may_relabel_alone state.now s o l;
+      basis = plain_relabel_ground state.now s o l;
+    } }
+{
+    if o.number() == 0 {
+        return Condition::new(Reason::Authority, false, Ground::Trust(s));
+    }
+    let parts = relabelling(state, s, o, l);
+    let holds = parts.writes && parts.current.dominates(&parts.label) && l.dominates(&parts.label);
+    Condition::new(Reason::Authority, holds, Ground::Relabelling(parts))
+}
+
 /// That the subject may give the object this label.
 pub(crate) fn relabels<A: Allocator>(
     state: &State<A>,
@@ -189,12 +213,7 @@ pub(crate) fn relabels<A: Allocator>(
     if state.is_trusted(s) {
         return Condition::new(Reason::Authority, true, Ground::Trust(s));
     }
-    if o.number() == 0 {
-        return Condition::new(Reason::Authority, false, Ground::Trust(s));
-    }
-    let parts = relabelling(state, s, o, l);
-    let holds = parts.writes && parts.current.dominates(&parts.label) && l.dominates(&parts.label);
-    Condition::new(Reason::Authority, holds, Ground::Relabelling(parts))
+    relabels_alone(state, s, o, l)
 }
 
 /// That the label fits between those of the object's parent and of its children.

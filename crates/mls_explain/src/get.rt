@@ -23,7 +23,7 @@ pub(crate) fn maximum_of<A: Allocator>(state: &State<A>, s: SubjectId) -> Term
 }
 
 /// The current label of a subject.
-fn current_of<A: Allocator>(state: &State<A>, s: SubjectId) -> Term
+pub(crate) fn current_of<A: Allocator>(state: &State<A>, s: SubjectId) -> Term
     requires { IsTrue (is_subject state.now s) }
     ensures { result ≡ current_of state.now s }
 {
@@ -68,7 +68,7 @@ fn simple_ground<A: Allocator>(state: &State<A>, s: SubjectId, o: ObjectId, x: M
 }
 
 /// What star of an untrusted subject's access rests on.
-fn star_between_ground(current: Term, label: Term, x: Mode) -> Ground
+pub(crate) fn star_between_ground(current: Term, label: Term, x: Mode) -> Ground
     ensures { result ≡ star_between_ground current label x }
 {
     match x {

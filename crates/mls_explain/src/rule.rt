@@ -24,7 +24,7 @@ use mls_tables::{Mode, ObjectId, SubjectId};
 use std::alloc::{AllocError, Allocator};
 
 /// That the subject's maximum label dominates the one that it would go to.
-fn ceiling<A: Allocator>(state: &State<A>, s: SubjectId, l: SecLabel) -> Condition
+pub(crate) fn ceiling<A: Allocator>(state: &State<A>, s: SubjectId, l: SecLabel) -> Condition
     requires { IsTrue (is_subject state.now s) }
     ensures { result ≡ record {
       reason = Reason.Ceiling;
@@ -38,7 +38,7 @@ fn ceiling<A: Allocator>(state: &State<A>, s: SubjectId, l: SecLabel) -> Conditi
 }
 
 /// That star holds of all that the subject holds, with another current label.
-fn holdings<A: Allocator>(state: &State<A>, s: SubjectId, l: SecLabel) -> Condition
+pub(crate) fn holdings<A: Allocator>(state: &State<A>, s: SubjectId, l: SecLabel) -> Condition
     requires { IsTrue (is_subject state.now s) }
     ensures { result ≡ record {
       reason = Reason.Star;
@@ -60,7 +60,7 @@ fn holdings<A: Allocator>(state: &State<A>, s: SubjectId, l: SecLabel) -> Condit
 }
 
 /// That simple security holds of all that is held of the object, with another label.
-fn observers<A: Allocator>(state: &State<A>, o: ObjectId, l: SecLabel) -> Condition
+pub(crate) fn observers<A: Allocator>(state: &State<A>, o: ObjectId, l: SecLabel) -> Condition
     requires { IsTrue (is_active state.now o) }
     ensures { result ≡ record {
       reason = Reason.Simple;
@@ -77,7 +77,7 @@ fn observers<A: Allocator>(state: &State<A>, o: ObjectId, l: SecLabel) -> Condit
 }
 
 /// That star holds of all that is held of the object, with another label.
-fn holders<A: Allocator>(state: &State<A>, o: ObjectId, l: SecLabel) -> Condition
+pub(crate) fn holders<A: Allocator>(state: &State<A>, o: ObjectId, l: SecLabel) -> Condition
     requires { IsTrue (is_active state.now o) }
     ensures { result ≡ record {
       reason = Reason.Star;

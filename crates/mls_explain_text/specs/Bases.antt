@@ -8,6 +8,7 @@ use Rattle.mls_lines.specs.Names.{Names}
 use Rattle.mls_explain.specs.declared.ground.Ground.{Ground}
 use Rattle.mls_explain.specs.declared.ground.Ground.TheVariants as rests
 use Rattle.mls_explain.specs.declared.ground.Relabelling.{Relabelling}
+use Rattle.mls_explain.specs.declared.judgement.Judgement.{Judgement}
 use Rattle.mls_explain.specs.declared.ground.Place.{Place}
 use Rattle.mls_explain.specs.declared.term.Term.TheVariants as term
 use Rattle.mls_wording.specs.Wording.{subject_text, object_text, security_text}
@@ -93,6 +94,16 @@ relabelling_text names p =
 abbrev pub place_text : Names → Place → List ℕ
 place_text names p =
     reach_text names p.new p.label p.parent ++ codes ", " ++ children_text names p.below p.object p.new
+
+-- Whether what a condition rests on is told as it is where it holds: as it is without trust, but that trust itself is
+-- told as it is. (own)
+abbrev pub is_told_on : Bool → Bool → Ground → Bool
+is_told_on holds alone (rests.Trust s) = holds
+is_told_on holds alone basis = alone
+
+-- The same of a condition. (own)
+abbrev pub is_told : Judgement → Bool
+is_told j = is_told_on j.condition.holds j.plain.holds j.plain.basis
 
 -- What a condition rests on, where it holds or where it fails. (own)
 abbrev pub basis_text : Names → Bool → Ground → List ℕ

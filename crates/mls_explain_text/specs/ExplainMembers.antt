@@ -16,17 +16,20 @@ use Rattle.mls_state.specs.State.{State}
 use Rattle.mls_rules.specs.Rules.{reply}
 use Rattle.mls_rows.specs.Members.{mode_member, object_of, object_member, subject_member, text_member}
 use Rattle.mls_explain.specs.Demands.{failing_of_subject, failing_of_object}
-use Rattle.mls_explain.specs.declared.condition.Condition.{Condition}
 use Rattle.mls_explain.specs.declared.demand.Demand.TheVariants.{StarAtLevel, SimpleAtLabel, StarAtLabel}
+use Rattle.mls_explain.specs.declared.judgement.Judgement.{Judgement}
 use Rattle.mls_explain.specs.Ways.{releases_for}
 use Rattle.mls_explain.specs.declared.unknown.Unknown.{Unknown}
 use Rattle.mls_explain.specs.declared.unknown.Unknown.TheVariants as unknown
 use Rattle.mls_explain.specs.declared.way.Way.{Way}
 use Rattle.mls_wording.specs.Wording.{security_text, integrity_text}
 use Rattle.mls_explain_text.specs.AnswerMembers.{reply_members}
-use Rattle.mls_explain_text.specs.Bases.{basis_text}
+use Rattle.mls_explain_text.specs.Bases.{basis_text, is_told}
 use Rattle.mls_explain_text.specs.Holdings.{some_list, holding_object}
+use Rattle.mls_explain_text.specs.StepMembers.{remedy_steps}
 use Rattle.mls_explain_text.specs.WhoMembers.{way_member}
+use Rattle.mls_remedies.specs.declared.ending.Ending.{Ending}
+use Rattle.mls_remedies.specs.declared.step.Step.{Step}
 
 -- The subject and the mode of an access. (own)
 abbrev pub holder_object : Names → Triple → List Token
@@ -62,18 +65,26 @@ way_members names v r false reason = action_members names v r.subject r.action r
 abbrev pub holds_member : Bool → List Token
 holds_member holds = key (codes "holds") ∷ boolean holds ∷ []
 
--- A condition: its reason, whether it holds, and what it rests on. (own)
-abbrev pub condition_members : Names → Condition → List Token
-condition_members names c =
-    text_member (codes "reason") (reason_word c.reason) ++ holds_member c.holds
-    ++ text_member (codes "basis") (basis_text names c.holds c.basis)
+-- That a condition holds by trust, where it does and fails without. (own)
+abbrev pub trust_member : Bool → Bool → List Token
+trust_member true false = key (codes "by_trust") ∷ boolean true ∷ []
+trust_member true true = []
+trust_member false alone = []
+
+-- A condition: its reason, whether it holds, whether by trust, and what it rests on without trust. (own)
+abbrev pub condition_members : Names → Judgement → List Token
+condition_members names j =
+    text_member (codes "reason") (reason_word j.condition.reason) ++ holds_member j.condition.holds
+    ++ trust_member j.condition.holds j.plain.holds
+    ++ text_member (codes "basis") (basis_text names (is_told j) j.plain.basis)
 
 -- The object of a condition, with the accesses in its way. (own)
-abbrev pub condition_object : Names → State → Request → Condition → List Token
-condition_object names v r c = object_of (condition_members names c ++ way_members names v r c.holds c.reason)
+abbrev pub condition_object : Names → State → Request → Judgement → List Token
+condition_object names v r j =
+    object_of (condition_members names j ++ way_members names v r j.condition.holds j.condition.reason)
 
 -- The conditions of a request. (own)
-abbrev pub conditions_member : Names → State → Request → List Condition → List Token
+abbrev pub conditions_member : Names → State → Request → List Judgement → List Token
 conditions_member names v r all = some_list (codes "conditions") (condition_object names v r) all
 
 -- What follows the denial of an action: of a get what it would take. (own)
@@ -86,11 +97,12 @@ abbrev pub remedy_members : Names → Request → Reply → Way → List Triple 
 remedy_members names r (No reason) way releases = remedy_of_action names r.action way releases
 remedy_members names r reply way releases = []
 
--- The explanation of a request in the domain: the reply, the conditions, and what it would take. (own)
-abbrev pub explanation_members : Names → State → Request → List Condition → Way → List Token
-explanation_members names v r all way =
+-- The explanation of a request in the domain: the reply, the conditions, what it would take of its subject alone, and
+-- its remedy. (own)
+abbrev pub explanation_members : Names → State → Request → List Judgement → Way → List Step → Ending → List Token
+explanation_members names v r all way steps ending =
     reply_members (reply v r) ++ conditions_member names v r all
-    ++ remedy_members names r (reply v r) way (releases_for v r.subject way)
+    ++ remedy_members names r (reply v r) way (releases_for v r.subject way) ++ remedy_steps names steps ending
 
 -- What isn't there: what it is, and which. (own)
 abbrev pub unknown_members : Names → Unknown → List Token

@@ -12,13 +12,17 @@ use Rattle.mls_rows.specs.Members.{line_of, object_of}
 use Rattle.mls_rows.specs.declared.form.Form.{Form}
 use Rattle.mls_rows.specs.declared.form.Form.TheVariants.{Text, Json}
 use Rattle.mls_explain.specs.Grounds.{grounds, tests_of, grounds_of}
+use Rattle.mls_explain.specs.Trusting.{conditions_of, plain_of, untrusted}
 use Rattle.mls_explain.specs.Unknowns.{unknowns}
-use Rattle.mls_explain.specs.declared.condition.Condition.{Condition}
+use Rattle.mls_explain.specs.declared.judgement.Judgement.{Judgement}
 use Rattle.mls_explain.specs.declared.way.Way.{Way}
 use Rattle.mls_explain_text.specs.AnswerMembers.{response_members}
 use Rattle.mls_explain_text.specs.Explained.{Explains, IsWayAfter}
 use Rattle.mls_explain_text.specs.ExplainMembers.{conditions_member, explanation_members, undefined_members}
+use Rattle.mls_explain_text.specs.Remedies.{IsRemedyAfter}
 use Rattle.mls_explain_text.specs.Responses.{response_to}
+use Rattle.mls_remedies.specs.declared.ending.Ending.{Ending}
+use Rattle.mls_remedies.specs.declared.step.Step.{Step}
 
 -- Where the call succeeds, tokens of which this is so stand behind those that were there, and nothing else. (own)
 abbrev pub AddsMembers : {V E : Type 0} → Result V E → Written → Written → (List Token → Type 0) → Type 0
@@ -33,20 +37,28 @@ AddsObject result old new P =
 
 -- These members are exactly the conditions of a request's rule, in its order, each with what it rests on. (own)
 pub record GivesConditions (names : Names) (v : State) (r : Request) (told : List Token) : Type 0 where
-  pub all : List Condition
-  pub tests : tests_of all ≡ conditions v r.subject r.action
-  pub bases : grounds_of all ≡ grounds v r.subject r.action
+  pub all : List Judgement
+  pub tests : tests_of (conditions_of all) ≡ conditions v r.subject r.action
+  pub bases : grounds_of (conditions_of all) ≡ grounds v r.subject r.action
+  pub plain_tests : tests_of (plain_of all) ≡ conditions (untrusted v r.subject) r.subject r.action
+  pub plain_bases : grounds_of (plain_of all) ≡ grounds (untrusted v r.subject) r.subject r.action
   pub members : told ≡ conditions_member names v r all
 
 -- These members explain a request in the domain: with exactly the conditions of its rule, in its order, each with what
--- it rests on, and where it is denied with what it would take. (own)
+-- it rests on and whether it holds without trust, and where it is denied with what it would take of its subject alone
+-- and its remedy. (own)
 pub record MembersOfDefined (names : Names) (v : State) (r : Request) (told : List Token) : Type 0 where
-  pub all : List Condition
+  pub all : List Judgement
   pub way : Way
-  pub tests : tests_of all ≡ conditions v r.subject r.action
-  pub bases : grounds_of all ≡ grounds v r.subject r.action
+  pub steps : List Step
+  pub ending : Ending
+  pub tests : tests_of (conditions_of all) ≡ conditions v r.subject r.action
+  pub bases : grounds_of (conditions_of all) ≡ grounds v r.subject r.action
+  pub plain_tests : tests_of (plain_of all) ≡ conditions (untrusted v r.subject) r.subject r.action
+  pub plain_bases : grounds_of (plain_of all) ≡ grounds (untrusted v r.subject) r.subject r.action
   pub is : IsWayAfter v r (reply v r) way
-  pub members : told ≡ explanation_members names v r all way
+  pub remedy : IsRemedyAfter v r (reply v r) steps ending
+  pub members : told ≡ explanation_members names v r all way steps ending
 
 -- These members explain a request that is in the domain or isn't. (own)
 abbrev pub MembersWhether : Bool → Names → State → Request → List Token → Type 0

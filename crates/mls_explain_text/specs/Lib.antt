@@ -9,6 +9,7 @@ pub mod Nearest
 pub mod Obstacles
 pub mod Parts
 pub mod Question
+pub mod Remedies
 pub mod Responses
 pub mod Sorts
 pub mod Terms
@@ -18,5 +19,6 @@ pub mod AnswerMembers
 pub mod AnswerRows
 pub mod WhoMembers
 pub mod WhoRows
+pub mod StepMembers
 pub mod ExplainMembers
 pub mod ExplainRows

@@ -72,7 +72,8 @@ abbrev pub is_open : List Prospect → Bool
 is_open found = list_any (λ p. is_granted p.reply) found
 
 -- A text and whether it is positive tell who may get what of an active object: of just the pairs of a subject and a
--- mode, of those that are asked for, that the matrix permits, in their order, each the reply and what it would take. (own)
+-- mode, of those that are asked for, that the matrix permits, in their order, each the reply and what it would take.
+-- (own)
 pub record TellsActive (names : Names) (v : State) (o : ℕ) (asked : ModeSet) (told : List ℕ) (positive : Bool)
     : Type 0 where
   pub subjects : ℕ

@@ -2,7 +2,8 @@
 ghost use Rattle.std.specs.Prelude.{◌≡◌, ◌++◌, ◌==◌, map, string_bytes, OnOk};
 ghost use Rattle.std.specs.List.{slice_split};
 ghost use Rattle.mls_start_text.specs.Views.{scheme_view, file_view};
-ghost use Rattle.mls_explain_text.specs.Culprit.{first_meant, categories_in, label_meant, meant_by, wrong_text, culprit_text, culprit_of};
+ghost use Rattle.mls_explain_text.specs.Culprit.{first_meant, categories_in, label_meant, meant_by, wrong_text};
+ghost use Rattle.mls_explain_text.specs.Culprit.{culprit_text, culprit_of};
 
 use crate::cutting::{cut, tokens};
 use crate::nearest::push_nearest;

@@ -1,26 +1,30 @@
 //! Why a line is answered as it is, as one JSON object.
 ghost use Rattle.std.specs.Prelude.{◌≡◌, ◌↔◌, [], IsTrue, IfOk, OnOk};
 ghost use Rattle.mls_rows.specs.Members.{Adds};
-ghost use Rattle.mls_rules.specs.Rules.{is_defined};
+ghost use Rattle.mls_rules.specs.Rules.{is_defined, reply as reply_to};
 ghost use Rattle.mls_explain.specs.Unknowns.{unknowns};
 ghost use Rattle.mls_explain.specs.Ways.{releases_for};
 ghost use Rattle.mls_explain_text.specs.ExplainMembers.{remedy_members, remedy_of_action};
 ghost use Rattle.mls_explain_text.specs.AnswerMembers.{response_members};
-ghost use Rattle.mls_explain_text.specs.Explained.{Explains};
+ghost use Rattle.mls_explain_text.specs.Explained.{Explains, IsWayAfter};
 ghost use Rattle.mls_explain_text.specs.ExplainRows.{AddsMembers, AddsObject, ExplainsIn, IsObjectOf, MembersOf};
 ghost use Rattle.mls_explain_text.specs.ExplainRows.{GivesConditions, MembersOfDefined, MembersWhether};
+ghost use Rattle.mls_explain_text.specs.Remedies.{IsRemedyAfter};
 ghost use Rattle.mls_explain_text.specs.Responses.{is_positive, response_to};
 
 use crate::answer_row::write_reply;
 use crate::condition_members::write_conditions;
 use crate::explaining::explain_in;
 use crate::outlook::write_way;
-use crate::remedy_line::way_told;
+use crate::remedy_told::remedy_told;
 use crate::response::{Response, answer_to};
+use crate::step_members::write_steps;
 use crate::unknown_members::write_undefined;
+use crate::way_told::way_told;
 use json::Writer;
-use mls_explain::{Unknown, Way, conditions, releases, unknowns};
+use mls_explain::{Unknown, Way, judgements, releases, unknowns};
 use mls_lines::Names;
+use mls_remedies::Remedy;
 use mls_requests::{Action, Ask, Reply, Request};
 use mls_rows::{Form, Listing, Plain};
 use mls_rules::{State, decide};
@@ -95,10 +99,33 @@ fn write_reasons(
     requires { IsTrue (is_defined state.now request.now) }
     ensures { AddsMembers result writer.old writer.new (GivesConditions names.now state.now request.now) }
 {
-    let conditions = conditions(alloc, state, request)?;
+    let conditions = judgements(alloc, state, request)?;
     let done = write_conditions(alloc, writer, names, state, request, &conditions);
     drop(conditions);
     done
+}
+
+/// Writes the explanation of a request in the domain, with this reply, this way and this remedy.
+fn write_parts(
+    alloc: Global,
+    writer: &mut Writer,
+    names: &Names,
+    state: &State,
+    request: &Request,
+    reply: &Reply,
+    way: Way,
+    remedy: &Remedy,
+) -> Result<(), AllocError>
+    requires domain { IsTrue (is_defined state.now request.now) }
+    requires reply { reply.now ≡ reply_to state.now request.now }
+    requires way { IsWayAfter state.now request.now reply.now way }
+    requires remedy { IsRemedyAfter state.now request.now reply.now remedy.now.steps.items remedy.now.ending }
+    ensures { AddsMembers result writer.old writer.new (MembersOfDefined names.now state.now request.now) }
+{
+    write_reply(writer, reply)?;
+    write_reasons(alloc, writer, names, state, request)?;
+    write_taken(alloc, writer, names, state, request, reply, way)?;
+    write_steps(alloc, writer, names, remedy)
 }
 
 /// Writes the explanation of a request in the domain.
@@ -114,9 +141,10 @@ fn write_defined(
 {
     let reply = decide(state, request);
     let way = way_told(state, request, &reply);
-    write_reply(writer, &reply)?;
-    write_reasons(alloc, writer, names, state, request)?;
-    write_taken(alloc, writer, names, state, request, &reply, way)
+    let remedy = remedy_told(alloc, state, request, &reply)?;
+    let written = write_parts(alloc, writer, names, state, request, &reply, way, &remedy);
+    drop(remedy);
+    written
 }
 
 /// Writes the explanation of a request that names these things which aren't there.
@@ -231,9 +259,9 @@ fn bytes_of(
 }
 
 /// Why a line is answered as it is in this state, in a form: as the lines of [`explain_in`], or as one object with the
-/// answer, the conditions of the request's rule, each with the accesses in its way, and after a get that is denied what
-/// it would take of the subject; or with what the request names and isn't there. The answer is positive as that of
-/// [`list_answer`](crate::list_answer).
+/// answer, the conditions of the request's rule, each with the accesses in its way, and after a denial its remedy, of a
+/// get what it would take of the subject alone too; or with what the request names and isn't there. The answer is
+/// positive as that of [`list_answer`](crate::list_answer).
 ///
 /// # Errors
 /// `AllocError` where an allocation failed.

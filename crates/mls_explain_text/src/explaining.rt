@@ -1,17 +1,20 @@
 //! Why a line is answered as it is.
 ghost use Rattle.std.specs.Prelude.{◌≡◌, string_bytes, IsTrue, IfOk, OnOk};
-ghost use Rattle.mls_rules.specs.Rules.{is_defined};
+ghost use Rattle.mls_rules.specs.Rules.{is_defined, reply as reply_to};
 ghost use Rattle.mls_explain_text.specs.Explained.{Adds, GivesReasons, ExplainsDefined, ExplainsRequest, Explains};
+ghost use Rattle.mls_explain_text.specs.Remedies.{IsRemedyAfter};
 ghost use Rattle.mls_explain_text.specs.Responses.{response_to, is_positive};
 
 use crate::asking::response_text;
 use crate::condition_line::push_conditions;
-use crate::remedy_line::{push_taken, way_told};
+use crate::remedy_line::push_remedy;
+use crate::remedy_told::remedy_told;
 use crate::response::{Response, answer_to, push_response};
 use crate::undefined::push_undefined;
-use mls_explain::{conditions, unknowns};
+use mls_explain::{judgements, unknowns};
 use mls_lines::Names;
-use mls_requests::{Ask, Request};
+use mls_remedies::Remedy;
+use mls_requests::{Ask, Reply, Request};
 use mls_rules::{State, decide};
 use mls_wording::Answer;
 use std::alloc::{AllocError, Global};
@@ -28,10 +31,31 @@ fn push_reasons(
     ensures { OnOk result (Adds (GivesReasons names.now state.now request.now) (string_bytes text.old)
         (string_bytes text.new)) }
 {
-    let conditions = conditions(alloc, state, request)?;
+    let conditions = judgements(alloc, state, request)?;
     let pushed = push_conditions(alloc, text, names, state, request, &conditions);
     drop(conditions);
     pushed
+}
+
+/// Appends the explanation of a request in the domain, with this reply and this remedy.
+fn push_parts(
+    alloc: Global,
+    text: &mut String,
+    names: &Names,
+    state: &State,
+    request: &Request,
+    reply: Reply,
+    remedy: &Remedy,
+) -> Result<(), AllocError>
+    requires domain { IsTrue (is_defined state.now request.now) }
+    requires reply { reply ≡ reply_to state.now request.now }
+    requires remedy { IsRemedyAfter state.now request.now reply remedy.now.steps.items remedy.now.ending }
+    ensures { OnOk result (Adds (ExplainsDefined names.now state.now request.now) (string_bytes text.old)
+        (string_bytes text.new)) }
+{
+    push_response(text, &Response::Replied(reply))?;
+    push_reasons(alloc, text, names, state, request)?;
+    push_remedy(text, names, remedy)
 }
 
 /// Appends the explanation of a request in the domain.
@@ -47,10 +71,10 @@ fn push_defined(
         (string_bytes text.new)) }
 {
     let reply = decide(state, request);
-    let way = way_told(state, request, &reply);
-    push_response(text, &Response::Replied(reply))?;
-    push_reasons(alloc, text, names, state, request)?;
-    push_taken(alloc, text, names, state, request, &reply, way)
+    let remedy = remedy_told(alloc, state, request, &reply)?;
+    let pushed = push_parts(alloc, text, names, state, request, reply, &remedy);
+    drop(remedy);
+    pushed
 }
 
 /// Appends the explanation of a request.
@@ -102,9 +126,9 @@ fn explain_ask(alloc: Global, names: &Names, state: &State, ask: &Ask) -> Result
 }
 
 /// Why a line is answered as it is in this state: after the answer a line for each condition of the request's rule, in
-/// the rule's order, with the accesses in its way, and after a get that is denied what it would take of the subject; or
-/// a line for each thing that the request names and that isn't there. A check has its answer alone. The answer is
-/// positive as that of [`list_answer`](crate::list_answer).
+/// the rule's order, with the accesses in its way, and after a denial its remedy; or a line for each thing that the
+/// request names and that isn't there. A check has its answer alone. The answer is positive as that of
+/// [`list_answer`](crate::list_answer).
 ///
 /// # Errors
 /// `AllocError` where an allocation failed.

@@ -134,8 +134,8 @@ pub fn word_line(alloc: Global, start: &[u8], sort: Sort, word: &str) -> Result<
     }
 }
 
-/// The line that tells that a word of a question names neither a subject nor an object of a start file: the word, and in
-/// brackets the nearest of the names that can stand there, subjects' before objects', where one is near.
+/// The line that tells that a word of a question names neither a subject nor an object of a start file: the word, and
+/// in brackets the nearest of the names that can stand there, subjects' before objects', where one is near.
 ///
 /// # Errors
 /// `AllocError` where an allocation failed; also where the bytes aren't those of a start file.

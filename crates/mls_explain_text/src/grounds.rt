@@ -9,8 +9,8 @@ use mls_requests::Request;
 use mls_rules::State;
 use std::alloc::{AllocError, Global};
 
-/// What [`explain`](crate::explain) tells of a request in a state behind its reply: a line for each condition of its rule,
-/// with the accesses in its way, and the remedy.
+/// What [`explain`](crate::explain) tells of a request in a state behind its reply: a line for each condition of its
+/// rule, with the accesses in its way, and the remedy.
 ///
 /// # Errors
 /// `AllocError` where an allocation failed.

@@ -1,169 +1,61 @@
-//! What a denied get would take of its subject.
+//! The lines of remedies.
 ghost use Rattle.std.specs.Prelude.{◌≡◌, ◌++◌, codes, string_bytes, OnOk};
-ghost use Rattle.std.specs.List.{flat_map};
-ghost use Rattle.mls_explain.specs.Ways.{IsWay, releases_for};
-ghost use Rattle.mls_requests.specs.ModeWords.{mode_word};
-ghost use Rattle.mls_wording.specs.Wording.{subject_text, object_text, security_text};
-ghost use Rattle.mls_explain_text.specs.Explained.{IsWayAfter, IsWayFor, release_line, level_lines, remedy_lines};
-ghost use Rattle.mls_explain_text.specs.Explained.{remedy_after, remedy_text};
+ghost use Rattle.mls_explain_text.specs.Remedies.{ending_line, gives_text, remedy_lines, step_text};
 
-use mls_explain::{Way, releases, way_of};
-use mls_labels::SecLabel;
+use crate::step_line::{push_gives, push_step, push_step_lines};
 use mls_lines::Names;
-use mls_requests::{Action, Reply, Request, mode_word};
-use mls_rules::State;
+use mls_remedies::{Ending, Remedy, Step};
 use mls_tables::{Mode, ObjectId, SubjectId};
-use mls_wording::{push_object, push_security, push_subject};
-use std::alloc::{AllocError, Global};
+use std::alloc::AllocError;
 
-/// What a get would take.
-fn get_way(state: &State, s: SubjectId, o: ObjectId, x: Mode) -> Way
-    ensures { IsWay state.now s o x result }
-{
-    way_of(state, s, o, x)
-}
-
-/// What a request would take of its subject: of a get its own way, and of any other nothing is said.
-fn way_for(state: &State, request: &Request) -> Way
-    ensures { IsWayFor state.now request.now result }
-{
-    match &request.action {
-        Action::Get(x, o) => get_way(state, request.subject, *o, *x),
-        _ => Way::Never,
-    }
-}
-
-/// What is said that a request with this reply would take: of one that is denied, else nothing.
-pub(crate) fn way_told(state: &State, request: &Request, reply: &Reply) -> Way
-    ensures { IsWayAfter state.now request.now reply.now result }
-{
-    match reply {
-        Reply::No(_) => way_for(state, request),
-        _ => Way::Never,
-    }
-}
-
-/// Appends the line of a release that a get would take.
-fn push_release(
-    text: &mut String,
-    names: &Names,
-    s: SubjectId,
-    access: &(SubjectId, ObjectId, Mode),
-) -> Result<(), AllocError>
-    ensures { OnOk result
-        (string_bytes text.new ≡ string_bytes text.old ++ release_line names.now s access.now) }
-{
-    text.push_str("remedy: ")?;
-    push_subject(text, names, s)?;
-    text.push_str(" release ")?;
-    text.push_str(mode_word(access.2))?;
-    text.push_str(" ")?;
-    push_object(text, names, access.1)?;
-    text.push_str("\n")
-}
-
-/// Appends the lines of the releases that a get would take.
-fn push_releases(
-    text: &mut String,
-    names: &Names,
-    s: SubjectId,
-    releases: &[(SubjectId, ObjectId, Mode)],
-) -> Result<(), AllocError>
-    ensures { OnOk result
-        (string_bytes text.new ≡ string_bytes text.old ++ flat_map (release_line names.now s) releases.now) }
-{
-    for access in releases {
-        push_release(text, names, s, access)?;
-    }
-    Ok(())
-}
-
-/// Appends the lines of the releases and of the label that a get would take.
-fn push_level(
-    text: &mut String,
-    names: &Names,
-    s: SubjectId,
-    level: SecLabel,
-    releases: &[(SubjectId, ObjectId, Mode)],
-) -> Result<(), AllocError>
-    ensures { OnOk result
-        (string_bytes text.new ≡ string_bytes text.old ++ level_lines names.now s level releases.now) }
-{
-    push_releases(text, names, s, releases)?;
-    text.push_str("remedy: ")?;
-    push_subject(text, names, s)?;
-    text.push_str(" level ")?;
-    push_security(text, names, level)?;
-    text.push_str("\n")
-}
-
-/// Appends the lines of what a get would take.
-fn push_way(
-    text: &mut String,
-    names: &Names,
-    s: SubjectId,
-    way: Way,
-    releases: &[(SubjectId, ObjectId, Mode)],
-) -> Result<(), AllocError>
-    ensures { OnOk result
-        (string_bytes text.new ≡ string_bytes text.old ++ remedy_lines names.now s way releases.now) }
-{
-    match way {
-        Way::Level(level) | Way::Released(level) => push_level(text, names, s, level, releases),
-        Way::Never => text.push_str("remedy: none by level\n"),
-    }
-}
-
-/// Appends what a get that was denied would take, and nothing after any other request.
-fn push_after_denial(
-    text: &mut String,
-    names: &Names,
-    request: &Request,
-    way: Way,
-    releases: &[(SubjectId, ObjectId, Mode)],
-) -> Result<(), AllocError>
-    ensures { OnOk result
-        (string_bytes text.new ≡ string_bytes text.old ++ remedy_after names.now request.now way releases.now) }
-{
-    match &request.action {
-        Action::Get(_, _) => push_way(text, names, request.subject, way, releases),
-        _ => Ok(()),
-    }
-}
-
-/// Appends what a get that is answered `no` would take, and nothing in any other case.
-fn push_remedy(
-    text: &mut String,
-    names: &Names,
-    request: &Request,
-    reply: &Reply,
-    way: Way,
-    releases: &[(SubjectId, ObjectId, Mode)],
-) -> Result<(), AllocError>
+/// Appends the line of a request that is granted to others in place of the one that was asked.
+fn push_instead(text: &mut String, names: &Names, step: &Step) -> Result<(), AllocError>
     ensures { OnOk result (string_bytes text.new
-        ≡ string_bytes text.old ++ remedy_text names.now request.now reply.now way releases.now) }
+        ≡ string_bytes text.old ++ codes "remedy: " ++ step_text names.now step.now ++ codes " instead\n") }
 {
-    match reply {
-        Reply::No(_) => push_after_denial(text, names, request, way, releases),
-        _ => Ok(()),
-    }
+    text.push_str("remedy: ")?;
+    push_step(text, names, step)?;
+    text.push_str(" instead\n")
 }
 
-/// Appends what a get that is answered `no` in this state would take of its subject, and nothing in any other case.
-pub(crate) fn push_taken(
-    alloc: Global,
+/// Appends the line that says that nobody gives a permission.
+fn push_nobody(
     text: &mut String,
     names: &Names,
-    state: &State,
-    request: &Request,
-    reply: &Reply,
-    way: Way,
+    x: Mode,
+    s: SubjectId,
+    o: ObjectId,
 ) -> Result<(), AllocError>
     ensures { OnOk result (string_bytes text.new ≡ string_bytes text.old
-        ++ remedy_text names.now request.now reply.now way (releases_for state.now request.now.subject way)) }
+        ++ codes "remedy: none now: nobody" ++ gives_text names.now x s o ++ codes "\n") }
 {
-    let releases = releases(alloc, state, request.subject, &way)?;
-    let pushed = push_remedy(text, names, request, reply, way, &releases);
-    drop(releases);
-    pushed
+    text.push_str("remedy: none now: nobody")?;
+    push_gives(text, names, x, s, o)?;
+    text.push_str("\n")
+}
+
+/// Appends the line of what the steps of a remedy lead to.
+fn push_ending(text: &mut String, names: &Names, ending: &Ending) -> Result<(), AllocError>
+    ensures { OnOk result (string_bytes text.new ≡ string_bytes text.old ++ ending_line names.now ending.now) }
+{
+    match ending {
+        Ending::Asked => Ok(()),
+        Ending::Instead(step) => push_instead(text, names, step),
+        Ending::NoLevel => text.push_str("remedy: none by level\n"),
+        Ending::NoGiver(x, s, o) => push_nobody(text, names, *x, *s, *o),
+        Ending::Nothing => text.push_str("remedy: none\n"),
+    }
+}
+
+/// Appends the lines of a remedy.
+pub(crate) fn push_remedy(
+    text: &mut String,
+    names: &Names,
+    remedy: &Remedy,
+) -> Result<(), AllocError>
+    ensures { OnOk result (string_bytes text.new ≡ string_bytes text.old
+        ++ remedy_lines names.now remedy.now.steps.items remedy.now.ending) }
+{
+    push_step_lines(text, names, &remedy.steps)?;
+    push_ending(text, names, &remedy.ending)
 }

@@ -1,5 +1,6 @@
 //! Start files and journals, as a command reads them.
-use crate::telling::command_refused;
+use crate::hint::start_hint;
+use crate::telling::start_refused;
 use mls_replay::{CommandFault, JOURNAL_LIMIT, START_LIMIT};
 use mls_seen::Opened;
 use mls_start_file::{Loaded, read_start};
@@ -32,10 +33,12 @@ pub fn judge_start(
     bytes: &[u8],
 ) -> Result<Loaded, ExitCode> {
     progress.end();
-    let rt = progress.rt();
-    match read_start(rt.alloc(), bytes) {
+    match read_start(progress.rt().alloc(), bytes) {
         Ok(loaded) => Ok(loaded),
-        Err(fault) => Err(command_refused(rt, path, &CommandFault::from(fault))),
+        Err(fault) => {
+            let look = start_hint(bytes);
+            Err(start_refused(progress, path, &CommandFault::from(fault), look))
+        }
     }
 }
 
@@ -49,10 +52,10 @@ pub fn open_start(
     bytes: Vec<u8>,
 ) -> Result<Opened, ExitCode> {
     progress.end();
-    let rt = progress.rt();
-    match Opened::read(rt.alloc(), bytes) {
+    let look = start_hint(&bytes);
+    match Opened::read(progress.rt().alloc(), bytes) {
         Ok(opened) => Ok(opened),
-        Err(fault) => Err(command_refused(rt, path, &fault)),
+        Err(fault) => Err(start_refused(progress, path, &fault, look)),
     }
 }
 

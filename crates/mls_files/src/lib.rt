@@ -3,6 +3,7 @@
 #![tactic(auto)]
 
 mod call_fault;
+mod hint;
 mod inputs;
 mod marks;
 mod opening;
@@ -10,10 +11,11 @@ mod segments;
 mod telling;
 
 pub use call_fault::{CallFault, FileCall, of_call};
+pub use hint::{Hint, journal_hint, load_hint, start_hint};
 pub use inputs::{journal_file, judge_start, load_start, open_start, start_file};
 pub use marks::{
-    MarksFault, MarksInput, MarksJudge, first_line, marks_refused, read_marks, take_pieces,
-    tell_mark,
+    MarksAsked, MarksFault, MarksInput, MarksJudge, Part, PartFault, first_line, marks_refused,
+    older_path, placed, read_marks, take_pieces, tell_mark, verify_marks,
 };
 pub use opening::{OpenFault, PRIVATE, is_named, node_of, open_locked, sync_folder};
 pub use segments::{
@@ -23,4 +25,7 @@ pub use segments::{
     refuse_behind, refuse_missing, resume, seek, segment_path, segments_of, state_path,
     tell_behind, tell_missing,
 };
-pub use telling::{command_refused, fault_file, tell_call, tell_differing, tell_end};
+pub use telling::{
+    command_refused, command_refused_so, fault_file, refused_with_place, start_refused, tell_call,
+    tell_differing, tell_end,
+};

@@ -1,23 +1,81 @@
 //! The lines that tell why a command over files was refused, which call on a file has failed, and where a journal ends.
 use crate::call_fault::CallFault;
+use crate::hint::{Hint, load_hint};
 use mls_replay::{CommandFault, status, write_fault};
 use mls_terminal::{NO_MEMORY, Progress, refused};
 use std::fmt::Display;
 use std::io;
+use std::io::IsTerminal;
 use std::process::ExitCode;
 
-/// Tells why a command over a file was refused.
-pub fn command_refused(rt: &HostRuntime, file: &str, fault: &CommandFault) -> ExitCode {
+/// Tells why a command over a file was refused, with this hint.
+fn refused_hinting(rt: &HostRuntime, file: &str, fault: &CommandFault, hint: &Hint) -> ExitCode {
     let mut line = String::new(rt.alloc());
     let written = write_fault(rt.alloc(), *fault, file, &mut line);
     if written.is_ok() {
-        let _ = eprint!(rt; "{line}");
+        let text = line.trim_end();
+        let _ = eprintln!(rt; "{text}{hint}");
     }
     drop(line);
     match written {
         Ok(()) => ExitCode::from(status(*fault)),
         Err(_) => refused(rt, NO_MEMORY, 1),
     }
+}
+
+/// Tells why a command over a file was refused, and what the file looks like.
+pub fn command_refused_so(
+    rt: &HostRuntime,
+    file: &str,
+    fault: &CommandFault,
+    hint: Hint,
+) -> ExitCode {
+    refused_hinting(rt, file, fault, &hint)
+}
+
+/// Tells why a command over a file was refused.
+pub fn command_refused(rt: &HostRuntime, file: &str, fault: &CommandFault) -> ExitCode {
+    command_refused_so(rt, file, fault, Hint::None)
+}
+
+/// Whether a fault is one of a start file whose places can be told: it isn't said that the file is another one.
+fn has_places(fault: &CommandFault, hint: &Hint) -> bool {
+    matches!(fault, CommandFault::Load(_)) && matches!(hint, Hint::None)
+}
+
+/// Says which command tells where the fault of a start file applies, where standard error is a terminal.
+fn point_to_lint(rt: &HostRuntime, start: &str, fault: &CommandFault, hint: &Hint) {
+    if has_places(fault, hint) && rt.stderr().is_terminal() {
+        let _ = eprintln!(rt; "mls lint {start} tells where");
+    }
+}
+
+/// Tells why a command over a file was refused, what the file looks like, and which command tells where the fault of a
+/// start file applies.
+pub fn refused_with_place(
+    rt: &HostRuntime,
+    file: &str,
+    fault: &CommandFault,
+    hint: Hint,
+) -> ExitCode {
+    let status = refused_hinting(rt, file, fault, &hint);
+    point_to_lint(rt, file, fault, &hint);
+    status
+}
+
+/// Tells why a start file of these looks was refused, and which command tells where.
+pub fn start_refused(
+    progress: &Progress<'_>,
+    file: &str,
+    fault: &CommandFault,
+    look: Hint,
+) -> ExitCode {
+    let hint = if progress.is_adding() {
+        load_hint(fault, look)
+    } else {
+        Hint::None
+    };
+    refused_with_place(progress.rt(), file, fault, hint)
 }
 
 /// The status where a file is another than the one that is due.

@@ -3,8 +3,9 @@ use mls_lines::Names;
 use mls_monitor::{Monitor, Start};
 use mls_scripts::{ServeFault, serve};
 use mls_start_file::standard_start;
+use mls_terminal::{Prompt, help_text, is_typed};
 use std::alloc::Global;
-use std::io::BufWriter;
+use std::io::{BufWriter, Write};
 
 /// The line on standard error where an allocation failed.
 const NO_MEMORY: &str = "mls: memory";
@@ -19,6 +20,23 @@ fn serve_line(fault: ServeFault) -> &'static str {
     }
 }
 
+/// Answers what a person types at a terminal, line by line.
+fn serve_typed<W: Write>(
+    rt: &HostRuntime,
+    names: &Names<Global>,
+    monitor: &mut Monitor<Global>,
+    writer: &mut W,
+) -> Result<u64, ServeFault> {
+    let Ok(help) = help_text(rt.alloc(), names) else {
+        return Err(ServeFault::Memory);
+    };
+    let mut prompt = Prompt::new(rt, &help);
+    let served = serve(rt.alloc(), names, monitor, 0, &mut prompt, writer);
+    drop(prompt);
+    drop(help);
+    served
+}
+
 /// Answers the script over a monitor.
 fn serve_input(
     rt: &HostRuntime,
@@ -28,8 +46,11 @@ fn serve_input(
     let Ok(mut writer) = BufWriter::new(rt.alloc(), rt.stdout()) else {
         return Err(NO_MEMORY);
     };
-    let mut reader = rt.stdin();
-    let served = serve(rt.alloc(), names, monitor, 0, &mut reader, &mut writer);
+    let served = if is_typed(rt) {
+        serve_typed(rt, names, monitor, &mut writer)
+    } else {
+        serve(rt.alloc(), names, monitor, 0, &mut rt.stdin(), &mut writer)
+    };
     drop(writer);
     match served {
         Ok(entries) => Ok(entries),

@@ -1,12 +1,13 @@
-pub mod BothWays
+mod BothWays
 mod Changing
-pub mod Coming
-pub mod Granted
-pub mod Journals
+mod Coming
+mod Granted
+mod Journals
 mod KnownAnswers
+pub mod Laws
 mod NeverHeld
-pub mod Scripts
+mod Scripts
 mod Shrinking
-pub mod Steps
-pub mod Walking
+mod Steps
+mod Walking
 mod Within

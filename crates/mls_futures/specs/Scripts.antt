@@ -40,8 +40,8 @@ pub record BringsAbout (v : State) (acts : ℕ → Bool) (t : Triple) (script : 
   pub of_actors : AreOfActors acts requests
   pub held : (u : Triple) → set.contains (run v script).accesses u ≡ is_triple u t
 
--- A state is like another one, but for accesses, current labels, permissions that joined, and the labels of objects where
--- an actor is trusted. (own)
+-- A state is like another one, but for accesses, current labels, permissions that joined, and the labels of objects
+-- where an actor is trusted. (own)
 pub record Alike (acts : ℕ → Bool) (v w : State) : Type 0 where
   pub maximum : w.maximum ≡ v.maximum
   pub subject_integrity : w.subject_integrity ≡ v.subject_integrity

@@ -79,9 +79,9 @@ fn has_permitted_writer<A: Allocator>(
     false
 }
 
-/// Whether an actor could give permissions of the object, where the answer is known for the objects of the first numbers.
-/// It goes up from the object, at most to the root or to an object of these, and looks at each subject at most twice for
-/// each object on the way.
+/// Whether an actor could give permissions of the object, where the answer is known for the objects of the first
+/// numbers. It goes up from the object, at most to the root or to an object of these, and looks at each subject at most
+/// twice for each object on the way.
 pub(crate) fn could_give_above<A: Allocator>(
     state: &State<A>,
     actors: &[bool],
@@ -130,8 +130,8 @@ pub fn could_give<A: Allocator>(
     could_give_above(state, actors, trusted, &[], o)
 }
 
-/// Whether an actor could get the access, by the closure, where it is known whether an actor is trusted, and whether one
-/// could give permissions of the object.
+/// Whether an actor could get the access, by the closure, where it is known whether an actor is trusted, and whether
+/// one could give permissions of the object.
 pub fn could_get_where<A: Allocator>(
     state: &State<A>,
     actors: &[bool],

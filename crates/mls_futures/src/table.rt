@@ -10,8 +10,8 @@ use mls_state::State;
 use mls_tables::{MAX_OBJECTS, ObjectId};
 use std::alloc::{AllocError, Allocator};
 
-/// Whether there is an object of the number and an actor could give permissions of it, where that is known of the objects
-/// of lower numbers.
+/// Whether there is an object of the number and an actor could give permissions of it, where that is known of the
+/// objects of lower numbers.
 fn is_givable<A: Allocator>(
     state: &State<A>,
     actors: &[bool],

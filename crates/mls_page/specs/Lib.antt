@@ -1,2 +1,1 @@
-pub mod Escaping
-pub mod Reading
+pub mod ByTrust

@@ -1,7 +1,15 @@
-//! Bars, as inline SVG.
-use crate::colour::Colour;
-use crate::page::Page;
+//! Bars, as inline SVG. What a colour tells stands beside the bar as text.
+use mls_markup::{Attribute, Page, Tag};
 use std::alloc::AllocError;
+
+/// What the colour of a bar tells.
+#[derive(Clone, Copy)]
+pub(crate) enum Colour {
+    Granted,
+    Denied,
+    Undefined,
+    Held,
+}
 
 /// A bar over so many units, from one of them on and so many long.
 #[derive(Clone, Copy)]
@@ -12,22 +20,54 @@ pub(crate) struct Bar {
     pub length: u64,
 }
 
-impl Page {
-    /// Appends a bar.
-    pub(crate) fn bar(&mut self, bar: &Bar) -> Result<(), AllocError> {
-        let Bar {
-            colour,
-            units,
-            from,
-            length,
-        } = *bar;
-        let alloc = self.alloc();
-        let extent = format!(in alloc; "0 0 {units} 1")?;
-        self.shaped(colour.beginning(), extent, "\">")?;
-        if length == 0 {
-            return self.markup("</svg>");
+impl Colour {
+    /// The class of a bar of this colour.
+    fn class(self) -> &'static str {
+        match self {
+            Colour::Granted => "bar granted",
+            Colour::Denied => "bar denied",
+            Colour::Undefined => "bar undefined",
+            Colour::Held => "bar held",
         }
-        let shape = format!(in alloc; "M{from} 0h{length}v1h-{length}z")?;
-        self.shaped("<path d=\"", shape, "\"/></svg>")
     }
+}
+
+/// Begins a drawing of bars over so many units.
+pub(crate) fn begin_bars(page: &mut Page, colour: Colour, units: u64) -> Result<(), AllocError> {
+    let alloc = page.alloc();
+    let extent = format!(in alloc; "0 0 {units} 1")?;
+    let attributes = [
+        (Attribute::Class, colour.class()),
+        (Attribute::AriaHidden, "true"),
+        (Attribute::Ratio, "none"),
+        (Attribute::Extent, extent.as_str()),
+    ];
+    let done = page.open_all(Tag::Svg, &attributes);
+    drop(extent);
+    done
+}
+
+/// Appends a path of a shape.
+pub(crate) fn path(page: &mut Page, shape: String) -> Result<(), AllocError> {
+    let done = page.open_with(Tag::Path, Attribute::Drawn, &shape);
+    drop(shape);
+    done?;
+    page.close()
+}
+
+/// Appends one stretch of a bar, where it has a length.
+pub(crate) fn stretch(page: &mut Page, from: u64, length: u64) -> Result<(), AllocError> {
+    if length == 0 {
+        return Ok(());
+    }
+    let alloc = page.alloc();
+    let shape = format!(in alloc; "M{from} 0h{length}v1h-{length}z")?;
+    path(page, shape)
+}
+
+/// Appends a bar.
+pub(crate) fn add_bar(page: &mut Page, bar: &Bar) -> Result<(), AllocError> {
+    begin_bars(page, bar.colour, bar.units)?;
+    stretch(page, bar.from, bar.length)?;
+    page.close()
 }

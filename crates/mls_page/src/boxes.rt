@@ -1,160 +1,201 @@
 //! The boxes and the lines of a drawing, as inline SVG.
-ghost use Rattle.std.specs.Prelude.{◌≡◌};
-ghost use Rattle.mls_page.specs.Reading.{Text, Value, after_all};
-
 use crate::drawing::{Drawing, LINE};
 use crate::lattice::Node;
-use crate::page::Page;
 use crate::slot::{BOX, Place};
 use mls_lines::Names;
+use mls_markup::{Attribute, Page, Tag};
 use mls_review::{Holder, push_holder};
 use mls_wording::push_security;
 use std::alloc::AllocError;
 
 /// How many characters of a text fit into a box.
-const FIT: usize = 24;
+const FIT: usize = 28;
 
-/// A label, and who or what has it, up to where it stands.
-const LABEL: &str = "<text class=\"label\" transform=\"translate(";
+/// What the drawing is called where it isn't seen.
+const TOLD: &str =
+    "The labels by rank, with a line from each to those that it covers; the table below tells the same";
 
-const HOLDER: &str = "<text class=\"holder\" transform=\"translate(";
+/// What can be scrolled, where a drawing is wider than the window.
+const WIDE: [(Attribute, &str); 4] = [
+    (Attribute::Class, "wide"),
+    (Attribute::TabIndex, "0"),
+    (Attribute::Role, "group"),
+    (Attribute::AriaLabel, "Drawing of the labels"),
+];
 
-/// What can be scrolled, up to how wide it is.
-const SHEET: &str =
-    "<div class=\"wide\" tabindex=\"0\" role=\"group\" aria-label=\"Drawing of the labels\">\n\
-    <div class=\"sheet\" style=\"";
+/// Appends a path of a class.
+fn shape(page: &mut Page, class: &str, drawn: String) -> Result<(), AllocError> {
+    let attributes = [
+        (Attribute::Class, class),
+        (Attribute::Drawn, drawn.as_str()),
+    ];
+    let done = page.open_all(Tag::Path, &attributes);
+    drop(drawn);
+    done?;
+    page.close()?;
+    page.line()
+}
 
-/// A drawing, up to its extent.
-const DRAWING: &str =
-    "<svg class=\"lattice\" role=\"img\" aria-label=\"The labels by rank, with a line from each to those \
-    that it covers; the table below tells the same\" viewBox=\"";
+/// A line between two points.
+fn stroke(page: &mut Page, from: (u64, u64), to: (u64, u64)) -> Result<(), AllocError> {
+    let (x, y) = from;
+    let (u, v) = to;
+    let alloc = page.alloc();
+    let drawn = format!(in alloc; "M{x} {y}L{u} {v}")?;
+    shape(page, "link", drawn)
+}
 
-impl Page {
-    /// A line between two points.
-    fn stroke(&mut self, from: (u64, u64), to: (u64, u64)) -> Result<(), AllocError> {
-        let (x, y) = from;
-        let (u, v) = to;
-        let alloc = self.alloc();
-        let shape = format!(in alloc; "M{x} {y}L{u} {v}")?;
-        self.shaped("<path class=\"link\" d=\"", shape, "\"/>\n")
+/// The lines of a drawing.
+fn strokes(page: &mut Page, drawing: &Drawing) -> Result<(), AllocError> {
+    for link in &drawing.links {
+        let low = drawing.at(link.low);
+        let high = drawing.at(link.high);
+        stroke(page, (low.x, low.top), (high.x, high.bottom))?;
     }
-
-    /// The lines of a drawing.
-    fn strokes(&mut self, drawing: &Drawing) -> Result<(), AllocError> {
-        for link in &drawing.links {
-            let low = drawing.at(link.low);
-            let high = drawing.at(link.high);
-            self.stroke((low.x, low.top), (high.x, high.bottom))?;
-        }
-        for (index, slot) in drawing.slots.iter().enumerate() {
-            if slot.node.is_none() {
-                let pass = drawing.at(index);
-                self.stroke((pass.x, pass.bottom), (pass.x, pass.top))?;
-            }
-        }
-        Ok(())
-    }
-
-    /// A line of text in a box, as far as it fits.
-    fn box_line(&mut self, before: &str, at: (u64, u64), text: &str) -> Result<(), AllocError>
-        requires { after_all Text before.now ≡ Value }
-    {
-        let (x, y) = at;
-        let alloc = self.alloc();
-        let place = format!(in alloc; "{x} {y}")?;
-        self.shaped(before, place, ")\">")?;
-        match text.get(..FIT) {
-            Some(front) if text.len() > FIT => self.within("", front, "&#x2026;</text>\n"),
-            _ => self.within("", text, "</text>\n"),
+    for (index, slot) in drawing.slots.iter().enumerate() {
+        if slot.node.is_none() {
+            let pass = drawing.at(index);
+            stroke(page, (pass.x, pass.bottom), (pass.x, pass.top))?;
         }
     }
+    Ok(())
+}
 
-    /// The outline of a box.
-    fn outline(&mut self, place: Place) -> Result<(), AllocError> {
-        let left = place.x.saturating_sub(BOX / 2);
-        let top = place.top;
-        let height = place.bottom.saturating_sub(top);
-        let alloc = self.alloc();
-        let shape = format!(in alloc; "M{left} {top}h{BOX}v{height}h-{BOX}z")?;
-        self.shaped("<path class=\"box\" d=\"", shape, "\"/>\n")
-    }
-
-    /// A label, at a place.
-    fn label_line(&mut self, names: &Names, node: &Node, at: (u64, u64)) -> Result<(), AllocError> {
-        let mut text = String::new(self.alloc());
-        push_security(&mut text, names, node.label)?;
-        let done = self.box_line(LABEL, at, &text);
-        drop(text);
-        done
-    }
-
-    /// One that has a label, at a place.
-    fn holder_line(
-        &mut self,
-        names: &Names,
-        holder: &Holder,
-        at: (u64, u64),
-    ) -> Result<(), AllocError> {
-        let mut text = String::new(self.alloc());
-        push_holder(&mut text, names, holder)?;
-        let done = self.box_line(HOLDER, at, &text);
-        drop(text);
-        done
-    }
-
-    /// How many more have a label, at a place, where there are such.
-    fn more_line(&mut self, more: u64, at: (u64, u64)) -> Result<(), AllocError> {
-        if more == 0 {
-            return Ok(());
+/// A line of text in a box, as far as it fits.
+fn box_line(page: &mut Page, class: &str, at: (u64, u64), text: &str) -> Result<(), AllocError> {
+    let (x, y) = at;
+    let alloc = page.alloc();
+    let place = format!(in alloc; "translate({x} {y})")?;
+    let attributes = [
+        (Attribute::Class, class),
+        (Attribute::Transform, place.as_str()),
+    ];
+    let done = page.open_all(Tag::Text, &attributes);
+    drop(place);
+    done?;
+    match text.get(..FIT) {
+        Some(front) if text.len() > FIT => {
+            page.text(front)?;
+            page.text("\u{2026}")?;
         }
-        let alloc = self.alloc();
-        let text = format!(in alloc; "and {more} more")?;
-        let done = self.box_line(HOLDER, at, &text);
-        drop(text);
-        done
+        _ => page.text(text)?,
     }
+    page.close()?;
+    page.line()
+}
 
-    /// A label's box.
-    fn node_box(&mut self, names: &Names, node: &Node, place: Place) -> Result<(), AllocError> {
-        self.outline(place)?;
-        let mut y = place.top.saturating_add(LINE);
-        self.label_line(names, node, (place.x, y))?;
-        for holder in node.named() {
-            y = y.saturating_add(LINE);
-            self.holder_line(names, holder, (place.x, y))?;
+/// The outline of a box.
+fn outline(page: &mut Page, place: Place) -> Result<(), AllocError> {
+    let left = place.x.saturating_sub(BOX / 2);
+    let top = place.top;
+    let height = place.bottom.saturating_sub(top);
+    let alloc = page.alloc();
+    let drawn = format!(in alloc; "M{left} {top}h{BOX}v{height}h-{BOX}z")?;
+    shape(page, "box", drawn)
+}
+
+/// A label, at a place.
+fn label_line(
+    page: &mut Page,
+    names: &Names,
+    node: &Node,
+    at: (u64, u64),
+) -> Result<(), AllocError> {
+    let mut text = String::new(page.alloc());
+    push_security(&mut text, names, node.label)?;
+    let done = box_line(page, "label", at, &text);
+    drop(text);
+    done
+}
+
+/// One that has a label, at a place.
+fn holder_line(
+    page: &mut Page,
+    names: &Names,
+    holder: &Holder,
+    at: (u64, u64),
+) -> Result<(), AllocError> {
+    let mut text = String::new(page.alloc());
+    push_holder(&mut text, names, holder)?;
+    let done = box_line(page, "holder", at, &text);
+    drop(text);
+    done
+}
+
+/// How many more have a label, at a place, where there are such.
+fn more_line(page: &mut Page, more: u64, at: (u64, u64)) -> Result<(), AllocError> {
+    if more == 0 {
+        return Ok(());
+    }
+    let alloc = page.alloc();
+    let text = format!(in alloc; "and {more} more")?;
+    let done = box_line(page, "holder", at, &text);
+    drop(text);
+    done
+}
+
+/// A label's box.
+fn node_box(page: &mut Page, names: &Names, node: &Node, place: Place) -> Result<(), AllocError> {
+    outline(page, place)?;
+    let mut y = place.top.saturating_add(LINE);
+    label_line(page, names, node, (place.x, y))?;
+    for holder in node.named() {
+        y = y.saturating_add(LINE);
+        holder_line(page, names, holder, (place.x, y))?;
+    }
+    more_line(page, node.unnamed(), (place.x, y.saturating_add(LINE)))
+}
+
+/// The beginning of what can be scrolled, and in it of what is as wide as a drawing.
+fn sheet(page: &mut Page, width: u64) -> Result<(), AllocError> {
+    page.open_all(Tag::Division, &WIDE)?;
+    page.line()?;
+    let alloc = page.alloc();
+    let broad = format!(in alloc; "width:{width}px")?;
+    let attributes = [
+        (Attribute::Class, "sheet"),
+        (Attribute::Style, broad.as_str()),
+    ];
+    let done = page.open_all(Tag::Division, &attributes);
+    drop(broad);
+    done?;
+    page.line()
+}
+
+/// The beginning of a drawing.
+fn extent(page: &mut Page, width: u64, height: u64) -> Result<(), AllocError> {
+    let alloc = page.alloc();
+    let extent = format!(in alloc; "0 0 {width} {height}")?;
+    let attributes = [
+        (Attribute::Class, "lattice"),
+        (Attribute::Role, "img"),
+        (Attribute::AriaLabel, TOLD),
+        (Attribute::Extent, extent.as_str()),
+    ];
+    let done = page.open_all(Tag::Svg, &attributes);
+    drop(extent);
+    done?;
+    page.line()
+}
+
+/// A drawing of labels.
+pub(crate) fn draw(
+    page: &mut Page,
+    names: &Names,
+    drawing: &Drawing,
+    nodes: &[Node],
+) -> Result<(), AllocError> {
+    sheet(page, drawing.width)?;
+    extent(page, drawing.width, drawing.height)?;
+    strokes(page, drawing)?;
+    for (index, slot) in drawing.slots.iter().enumerate() {
+        if let Some(node) = slot.node.and_then(|place| nodes.get(place)) {
+            node_box(page, names, node, drawing.at(index))?;
         }
-        self.more_line(node.unnamed(), (place.x, y.saturating_add(LINE)))
     }
-
-    /// The beginning of what can be scrolled, and in it of what is as wide as a drawing.
-    fn sheet(&mut self, width: u64) -> Result<(), AllocError> {
-        let alloc = self.alloc();
-        let broad = format!(in alloc; "width:{width}px")?;
-        self.shaped(SHEET, broad, "\">\n")
-    }
-
-    /// The beginning of a drawing.
-    fn extent(&mut self, width: u64, height: u64) -> Result<(), AllocError> {
-        let alloc = self.alloc();
-        let extent = format!(in alloc; "0 0 {width} {height}")?;
-        self.shaped(DRAWING, extent, "\">\n")
-    }
-
-    /// A drawing of labels.
-    pub(crate) fn draw(
-        &mut self,
-        names: &Names,
-        drawing: &Drawing,
-        nodes: &[Node],
-    ) -> Result<(), AllocError> {
-        self.sheet(drawing.width)?;
-        self.extent(drawing.width, drawing.height)?;
-        self.strokes(drawing)?;
-        for (index, slot) in drawing.slots.iter().enumerate() {
-            if let Some(node) = slot.node.and_then(|place| nodes.get(place)) {
-                self.node_box(names, node, drawing.at(index))?;
-            }
-        }
-        self.markup("</svg>\n</div>\n</div>\n")
-    }
+    page.close()?;
+    page.line()?;
+    page.close()?;
+    page.close()?;
+    page.line()
 }

@@ -1,100 +1,150 @@
 //! How many entries there are: granted and denied, by reason and by subject.
-use crate::colour::Colour;
-use crate::page::Page;
-use crate::section::COUNTS;
-use crate::share::{Share, greatest_of, shares_of, sums_of};
+use crate::bar::Colour;
+use crate::named::add_subject;
+use crate::section::{
+    COUNTS, begin_appendix, begin_section, end_appendix, end_section, heaviest, lighter,
+};
+use crate::share::{Share, Sums, greatest_of, shares_of, sums_of};
+use crate::table::{begin_row, begin_table, end_row, end_table, heading_cell, share_cell};
+use mls_groups::by_weight;
 use mls_lines::Names;
 use mls_listings::{ReasonCount, Summary};
-use mls_wording::push_subject;
-use std::alloc::AllocError;
+use mls_markup::{Attribute, Page, Tag};
+use std::alloc::{AllocError, Global};
 
-/// The table of reasons, up to its rows.
-const CAUSES: &str = "<table><caption>Denied, by reason</caption>\n\
-    <thead><tr><th scope=\"col\">Reason</th><th scope=\"col\">Denied</th></tr></thead>\n<tbody>\n";
+/// The row of a reason.
+fn reason_row(page: &mut Page, row: &ReasonCount, units: u64) -> Result<(), AllocError> {
+    begin_row(page)?;
+    heading_cell(page, row.reason.word())?;
+    share_cell(page, Colour::Denied, units, row.entries)?;
+    end_row(page)
+}
 
-/// The table of subjects, up to its rows.
-const SUBJECTS: &str = "<table><caption>By the subject that asked</caption>\n\
-    <thead><tr><th scope=\"col\">Subject</th><th scope=\"col\">Granted</th><th scope=\"col\">Denied</th>\
-    <th scope=\"col\">Undefined</th></tr></thead>\n<tbody>\n";
-
-impl Page {
-    /// The line that counts entries.
-    fn whole_line(&mut self, entries: u64, shares: &[Share]) -> Result<(), AllocError> {
-        let (granted, denied, undefined) = sums_of(shares);
-        self.counted("<p>", entries, " entries: ")?;
-        self.counted("", granted, " granted, ")?;
-        self.counted("", denied, " denied, ")?;
-        self.counted("", undefined, " undefined.</p>\n")
+/// The table of reasons, where there are such.
+fn reason_table(page: &mut Page, rows: &[ReasonCount]) -> Result<(), AllocError> {
+    if rows.is_empty() {
+        return Ok(());
     }
-
-    /// The row of a reason.
-    fn reason_row(&mut self, row: &ReasonCount, units: u64) -> Result<(), AllocError> {
-        self.within("<tr><th scope=\"row\">", row.reason.word(), "</th>")?;
-        self.share_cell(Colour::Denied, units, row.entries)?;
-        self.markup("</tr>\n")
+    let units = rows.iter().fold(0, |most, row| row.entries.max(most));
+    begin_table(page, "Denied, by reason", &["Reason", "Denied"])?;
+    for row in rows {
+        reason_row(page, row, units)?;
     }
+    end_table(page)
+}
 
-    /// The table of reasons, where there are such.
-    fn reason_table(&mut self, rows: &[ReasonCount]) -> Result<(), AllocError> {
-        if rows.is_empty() {
-            return Ok(());
+/// The title of a column, where it has something but zeros.
+fn titled(title: &'static str, sum: u64) -> &'static str {
+    if sum == 0 { "" } else { title }
+}
+
+/// The cell of a number, where its column has something but zeros.
+fn cell_where(
+    page: &mut Page,
+    sum: u64,
+    colour: Colour,
+    units: u64,
+    number: u64,
+) -> Result<(), AllocError> {
+    if sum == 0 {
+        return Ok(());
+    }
+    share_cell(page, colour, units, number)
+}
+
+/// The row of a subject.
+fn subject_row(
+    page: &mut Page,
+    names: &Names,
+    share: &Share,
+    sums: &Sums,
+    units: u64,
+) -> Result<(), AllocError> {
+    begin_row(page)?;
+    page.open_with(Tag::TableHeading, Attribute::Scope, "row")?;
+    add_subject(page, names, share.subject)?;
+    page.close()?;
+    cell_where(page, sums.granted, Colour::Granted, units, share.granted)?;
+    cell_where(page, sums.denied, Colour::Denied, units, share.denied)?;
+    cell_where(
+        page,
+        sums.undefined,
+        Colour::Undefined,
+        units,
+        share.undefined,
+    )?;
+    end_row(page)
+}
+
+/// The table of some subjects, by their places.
+fn subject_table(
+    page: &mut Page,
+    names: &Names,
+    shares: &[Share],
+    places: &[usize],
+) -> Result<(), AllocError> {
+    let units = greatest_of(shares);
+    let sums = sums_of(shares);
+    let granted = titled("Granted", sums.granted);
+    let denied = titled("Denied", sums.denied);
+    let undefined = titled("Undefined", sums.undefined);
+    let titles = ["Subject", granted, denied, undefined];
+    begin_table(page, "By the subject that asked", &titles)?;
+    for place in places {
+        if let Some(share) = shares.get(*place) {
+            subject_row(page, names, share, &sums, units)?;
         }
-        let units = rows.iter().fold(0, |most, row| row.entries.max(most));
-        self.markup(CAUSES)?;
-        for row in rows {
-            self.reason_row(row, units)?;
-        }
-        self.markup("</tbody></table>\n")
     }
+    end_table(page)
+}
 
-    /// The row of a subject.
-    fn subject_row(&mut self, names: &Names, share: &Share, units: u64) -> Result<(), AllocError> {
-        let mut name = String::new(self.alloc());
-        push_subject(&mut name, names, share.subject)?;
-        let done = self.within("<tr><th scope=\"row\">", &name, "</th>");
-        drop(name);
-        done?;
-        self.share_cell(Colour::Granted, units, share.granted)?;
-        self.share_cell(Colour::Denied, units, share.denied)?;
-        self.share_cell(Colour::Undefined, units, share.undefined)?;
-        self.markup("</tr>\n")
+/// The tables of subjects in this order, where there are such.
+fn subject_tables(
+    page: &mut Page,
+    names: &Names,
+    shares: &[Share],
+    places: &[usize],
+) -> Result<(), AllocError> {
+    if shares.is_empty() {
+        return Ok(());
     }
+    subject_table(page, names, shares, heaviest(places))?;
+    if begin_appendix(page, &COUNTS, places.len())? {
+        subject_table(page, names, shares, lighter(places))?;
+        end_appendix(page)?;
+    }
+    Ok(())
+}
 
-    /// The table of subjects, where there are such.
-    fn subject_table(&mut self, names: &Names, shares: &[Share]) -> Result<(), AllocError> {
-        if shares.is_empty() {
-            return Ok(());
-        }
-        let units = greatest_of(shares);
-        self.markup(SUBJECTS)?;
-        for share in shares {
-            self.subject_row(names, share, units)?;
-        }
-        self.markup("</tbody></table>\n")
+/// The places of shares, by how many requests each has.
+fn in_order(alloc: Global, shares: &[Share]) -> Result<Vec<usize>, AllocError> {
+    let mut weights = Vec::new(alloc);
+    for share in shares {
+        weights.push(share.total())?;
     }
+    let places = by_weight(alloc, &weights);
+    drop(weights);
+    places
+}
 
-    /// The line that counts entries, and the tables.
-    fn count_tables(
-        &mut self,
-        names: &Names,
-        summary: &Summary,
-        shares: &[Share],
-    ) -> Result<(), AllocError> {
-        self.whole_line(summary.entries, shares)?;
-        self.reason_table(&summary.reasons)?;
-        self.subject_table(names, shares)
-    }
+/// The tables of subjects, those with most requests first.
+fn by_subject(page: &mut Page, names: &Names, shares: &[Share]) -> Result<(), AllocError> {
+    let places = in_order(page.alloc(), shares)?;
+    let done = subject_tables(page, names, shares, &places);
+    drop(places);
+    done
+}
 
-    /// Appends how many entries there are, and which, as `mls journal --summary` tells it.
-    ///
-    /// # Errors
-    /// `AllocError` where an allocation failed.
-    pub fn add_counts(&mut self, names: &Names, summary: &Summary) -> Result<(), AllocError> {
-        self.section(&COUNTS)?;
-        let shares = shares_of(self.alloc(), &summary.replies)?;
-        let done = self.count_tables(names, summary, &shares);
-        drop(shares);
-        done?;
-        self.end_section(&COUNTS, 0)
-    }
+/// Appends how many entries there are, and which.
+///
+/// # Errors
+/// `AllocError` where an allocation failed.
+pub fn add_counts(page: &mut Page, names: &Names, summary: &Summary) -> Result<(), AllocError> {
+    begin_section(page, &COUNTS)?;
+    reason_table(page, &summary.reasons)?;
+    let shares = shares_of(page.alloc(), &summary.replies)?;
+    let done = by_subject(page, names, &shares);
+    drop(shares);
+    done?;
+    end_section(page)
 }

@@ -1,155 +1,195 @@
-//! The entries that were denied, and why.
-ghost use Rattle.std.specs.Prelude.{IsTrue};
-ghost use Rattle.mls_page.specs.Reading.{is_whole};
-
-use crate::page::Page;
-use crate::section::{DENIALS, SHOWN};
-use mls_explain_text::why;
+//! The entries that were denied, by subject, object and reason, and why the last of each was.
+use crate::bar::Colour;
+use crate::moment::moment_cell;
+use crate::named::{add_object, add_subject};
+use crate::section::{
+    DENIALS, begin_appendix, begin_section, end_appendix, end_section, heaviest, lighter,
+};
+use crate::table::{begin_row, begin_table, end_row, end_table, share_cell, text_cell};
+use crate::walked::Walked;
 use mls_lines::Names;
-use mls_listings::{Stamp, push_asked};
+use mls_listings::push_asked;
 use mls_marks::Marks;
+use mls_markup::{Attribute, Page, Tag};
+use mls_overview::{Denial, object_about};
 use mls_requests::{Entry, Reply};
-use mls_rules::{State, apply};
-use mls_start::Start;
-use mls_wording::push_reply;
 use std::alloc::AllocError;
-use std::str;
 
-/// Whether an entry was denied.
-fn is_denied(entry: &Entry) -> bool {
+const TITLES: [&str; 5] = ["Subject", "Object", "Reason", "Denied", "Last entry"];
+
+const CAPTION: &str = "By subject, object and reason, the most first; below each the last of them";
+
+/// The word of why an entry was denied.
+fn reason_of(entry: &Entry) -> &'static str {
     match entry.reply {
-        Reply::No(_) => true,
-        Reply::Yes | Reply::Created(_) | Reply::Undefined => false,
+        Reply::No(reason) => reason.word(),
+        Reply::Yes | Reply::Created(_) | Reply::Undefined => "",
     }
 }
 
-/// How many of some entries were denied.
-fn count_denied(entries: &[Entry]) -> usize {
-    let mut count = 0usize;
-    for entry in entries {
-        if is_denied(entry) {
-            count = count.saturating_add(1);
-        }
+/// The cells of who was denied what, and how often, where one of the entries is this.
+fn denial_cells(
+    page: &mut Page,
+    names: &Names,
+    entry: &Entry,
+    count: u64,
+    units: u64,
+) -> Result<(), AllocError> {
+    page.open_with(Tag::TableHeading, Attribute::Scope, "row")?;
+    add_subject(page, names, entry.request.subject)?;
+    page.close()?;
+    page.open(Tag::TableCell)?;
+    match object_about(&entry.request.action) {
+        Some(o) => add_object(page, names, o)?,
+        None => page.text("-")?,
     }
-    count
+    page.close()?;
+    text_cell(page, reason_of(entry))?;
+    share_cell(page, Colour::Denied, units, count)
 }
 
-impl Page {
-    /// What was asked by an entry, and the beginning of its reply.
-    fn asked(&mut self, names: &Names, entry: &Entry) -> Result<(), AllocError> {
-        let mut asked = String::new(self.alloc());
-        push_asked(&mut asked, names, entry)?;
-        let done = self.within("<li><details><summary>", &asked, ": <b>");
-        drop(asked);
-        done
+/// What the last of some denied entries asked, and folded under it why it was denied.
+fn explanation(
+    page: &mut Page,
+    names: &Names,
+    entry: &Entry,
+    reason: &str,
+) -> Result<(), AllocError> {
+    let mut asked = String::new(page.alloc());
+    push_asked(&mut asked, names, entry)?;
+    page.open(Tag::Details)?;
+    let told = page.leaf(Tag::Summary, &asked);
+    drop(asked);
+    told?;
+    page.line()?;
+    page.open(Tag::Preformatted)?;
+    for line in reason.lines() {
+        page.text(line)?;
+        page.line()?;
     }
+    page.close()?;
+    page.close()
+}
 
-    /// The reply of an entry, and what stands behind it.
-    fn replied(&mut self, entry: &Entry, after: &str) -> Result<(), AllocError>
-        requires { IsTrue (is_whole after.now) }
-    {
-        let mut reply = String::new(self.alloc());
-        push_reply(&mut reply, entry.reply)?;
-        let done = self.within("", &reply, after);
-        drop(reply);
-        done
-    }
+/// The row that tells why the last of some entries was denied.
+fn why_row(
+    page: &mut Page,
+    names: &Names,
+    entry: &Entry,
+    walked: &Walked,
+    last: usize,
+) -> Result<(), AllocError> {
+    let Some(reason) = walked.reason_at(last) else {
+        return Ok(());
+    };
+    page.open_as(Tag::TableRow, "why")?;
+    page.open_with(Tag::TableCell, Attribute::ColumnSpan, "5")?;
+    explanation(page, names, entry, reason)?;
+    page.close()?;
+    end_row(page)
+}
 
-    /// The line of an entry, which opens when it is asked.
-    fn entry(&mut self, names: &Names, stamp: &Stamp, entry: &Entry) -> Result<(), AllocError> {
-        self.asked(names, entry)?;
-        let time = match stamp {
-            Stamp::Unasked => return self.replied(entry, "</b></summary>\n<pre>"),
-            Stamp::Unmarked => "-",
-            Stamp::At(time) => str::from_utf8(time.text()).unwrap_or("-"),
-        };
-        self.replied(entry, "</b> <span class=\"time\">")?;
-        self.within("", time, "</span></summary>\n<pre>")
-    }
+/// The rows of some denied entries, and why the last of them was.
+fn denial_rows(
+    page: &mut Page,
+    names: &Names,
+    entries: &[Entry],
+    marks: Option<&Marks>,
+    walked: &Walked,
+    denial: &Denial,
+    units: u64,
+) -> Result<(), AllocError> {
+    let Some(entry) = entries.get(denial.last) else {
+        return Ok(());
+    };
+    page.open_as(Tag::TableRow, "cause")?;
+    denial_cells(page, names, entry, denial.count, units)?;
+    moment_cell(page, marks, entry.number)?;
+    end_row(page)?;
+    why_row(page, names, entry, walked, denial.last)
+}
 
-    /// An entry, and why it was denied in a state.
-    fn denial(
-        &mut self,
-        names: &Names,
-        marks: Option<&Marks>,
-        state: &State,
-        entry: &Entry,
-    ) -> Result<(), AllocError> {
-        let stamp = Stamp::of(marks, entry.number);
-        self.entry(names, &stamp, entry)?;
-        let reasons = why(self.alloc(), names, state, &entry.request)?;
-        let mut done = Ok(());
-        for line in reasons.lines() {
-            done = self.within("", line, "\n");
-            if done.is_err() {
-                break;
-            }
-        }
-        drop(reasons);
-        done?;
-        self.markup("</pre></details></li>\n")
-    }
+/// The row of some denied entries that are denied less often.
+fn lesser_row(
+    page: &mut Page,
+    names: &Names,
+    entries: &[Entry],
+    marks: Option<&Marks>,
+    denial: &Denial,
+    units: u64,
+) -> Result<(), AllocError> {
+    let Some(entry) = entries.get(denial.last) else {
+        return Ok(());
+    };
+    begin_row(page)?;
+    denial_cells(page, names, entry, denial.count, units)?;
+    moment_cell(page, marks, entry.number)?;
+    end_row(page)
+}
 
-    /// The first of these entries that were denied, from the state before them on.
-    fn denials(
-        &mut self,
-        names: &Names,
-        marks: Option<&Marks>,
-        state: &mut State,
-        entries: &[Entry],
-    ) -> Result<(), AllocError> {
-        let mut shown = 0usize;
-        for entry in entries {
-            if shown == SHOWN {
-                break;
-            }
-            if is_denied(entry) {
-                self.denial(names, marks, state, entry)?;
-                shown = shown.saturating_add(1);
-            }
-            apply(state, &entry.request)?;
-        }
-        Ok(())
-    }
-
-    /// The list of those of a start's entries that were denied.
-    fn denial_list(
-        &mut self,
-        names: &Names,
-        marks: Option<&Marks>,
-        start: &Start,
-        entries: &[Entry],
-    ) -> Result<(), AllocError> {
-        self.markup("<ul class=\"denials\">\n")?;
-        let mut state = start.opening(self.alloc())?;
-        let done = self.denials(names, marks, &mut state, entries);
-        drop(state);
-        done?;
-        self.markup("</ul>\n")
-    }
-
-    /// Appends those of a start's entries that were denied, as `mls journal --explain --reply no` tells them; where there
-    /// are marks, with their times.
-    ///
-    /// # Errors
-    /// `AllocError` where an allocation failed.
-    pub fn add_denials(
-        &mut self,
-        names: &Names,
-        start: &Start,
-        entries: &[Entry],
-        marks: Option<&Marks>,
-    ) -> Result<(), AllocError> {
-        self.section(&DENIALS)?;
-        match count_denied(entries) {
-            0 => {
-                self.markup("<p>No entry was denied.</p>\n")?;
-                self.end_section(&DENIALS, 0)
-            }
-            count => {
-                self.denial_list(names, marks, start, entries)?;
-                self.end_section(&DENIALS, count)
-            }
+/// The table of the heaviest groups.
+fn first_table(
+    page: &mut Page,
+    names: &Names,
+    entries: &[Entry],
+    marks: Option<&Marks>,
+    walked: &Walked,
+    denials: &[Denial],
+    places: &[usize],
+) -> Result<(), AllocError> {
+    let units = denials.iter().fold(0, |most, it| it.count.max(most));
+    begin_table(page, CAPTION, &TITLES)?;
+    for place in heaviest(places) {
+        if let Some(denial) = denials.get(*place) {
+            denial_rows(page, names, entries, marks, walked, denial, units)?;
         }
     }
+    end_table(page)
+}
+
+/// The table of the others.
+fn second_table(
+    page: &mut Page,
+    names: &Names,
+    entries: &[Entry],
+    marks: Option<&Marks>,
+    denials: &[Denial],
+    places: &[usize],
+) -> Result<(), AllocError> {
+    let units = denials.iter().fold(0, |most, it| it.count.max(most));
+    begin_table(page, "Those that were denied less often", &TITLES)?;
+    for place in lighter(places) {
+        if let Some(denial) = denials.get(*place) {
+            lesser_row(page, names, entries, marks, denial, units)?;
+        }
+    }
+    end_table(page)
+}
+
+/// Appends those of a start's entries that were denied, by subject, object and reason, in this order; where there are
+/// marks, with the days of the last.
+///
+/// # Errors
+/// `AllocError` where an allocation failed.
+pub fn add_denials(
+    page: &mut Page,
+    names: &Names,
+    entries: &[Entry],
+    marks: Option<&Marks>,
+    walked: &Walked,
+    denials: &[Denial],
+    places: &[usize],
+) -> Result<(), AllocError> {
+    begin_section(page, &DENIALS)?;
+    if places.is_empty() {
+        page.leaf(Tag::Paragraph, "No entry was denied.")?;
+        page.line()?;
+        return end_section(page);
+    }
+    first_table(page, names, entries, marks, walked, denials, places)?;
+    if begin_appendix(page, &DENIALS, places.len())? {
+        second_table(page, names, entries, marks, denials, places)?;
+        end_appendix(page)?;
+    }
+    end_section(page)
 }

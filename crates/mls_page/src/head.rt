@@ -1,63 +1,96 @@
 //! The head of the page, and its end.
-use crate::page::Page;
+ghost use Rattle.std.specs.Prelude.{IfOk};
+ghost use Rattle.mls_markup.specs.Pages.{IsPage};
+
 use crate::section::{SECTIONS, Section};
-use crate::style::STYLE;
+use mls_markup::{Attribute, Page, Tag};
 use std::alloc::{AllocError, Global};
 
-/// What stands before the title: nothing is fetched, and no script runs.
-const TOP: &str = "<!DOCTYPE html>\n<html lang=\"en\">\n<head>\n<meta charset=\"utf-8\">\n\
-    <meta name=\"viewport\" content=\"width=device-width, initial-scale=1\">\n\
-    <meta name=\"color-scheme\" content=\"light dark\">\n\
-    <meta http-equiv=\"Content-Security-Policy\" content=\"default-src 'none'; style-src 'unsafe-inline'\">\n\
-    <title>mls report: ";
+/// The title of the page about a journal of this name.
+fn title_of(alloc: Global, journal: &str) -> Result<String, AllocError> {
+    let mut title = String::new(alloc);
+    title.push_str("mls report: ")?;
+    title.push_str(journal)?;
+    Ok(title)
+}
 
-/// What stands between the style and the journal's name.
-const HEADING: &str = "</head>\n<body>\n<header>\n<h1>Report of ";
+/// A page up to its body, about the journal of this name.
+fn titled(alloc: Global, journal: &str) -> Result<Page, AllocError> {
+    let title = title_of(alloc, journal)?;
+    let page = Page::new(alloc, &title);
+    drop(title);
+    page
+}
 
-/// What stands between the name of the start file and the links: which state each section is of, and up to where lists
-/// go.
-const STATES: &str = "</code>. START and J below are these two files.</p>\n\
-    <p>Lattice is of the state that START opens with, Powers of the one after the last entry of J, and all else of all \
-    entries. The first 2000 lines of a list are shown.</p>\n</header>\n<nav aria-label=\"Sections\"><ul>\n";
+/// The heading of the page.
+fn add_header(page: &mut Page, start: &str, journal: &str) -> Result<(), AllocError> {
+    page.open(Tag::Header)?;
+    page.line()?;
+    page.open(Tag::HeadingOfPage)?;
+    page.text("Report of ")?;
+    page.text(journal)?;
+    page.close()?;
+    page.line()?;
+    page.open(Tag::Paragraph)?;
+    page.text("A journal over the start file ")?;
+    page.leaf(Tag::Code, start)?;
+    page.text(". START and J below are these two files.")?;
+    page.close()?;
+    page.line()?;
+    page.close()?;
+    page.line()
+}
 
-impl Page {
-    /// The link to a section.
-    fn link(&mut self, section: &Section) -> Result<(), AllocError> {
-        self.valued("<li><a href=\"#", section.id, "\">")?;
-        self.within("", section.title, "</a></li>\n")
+/// The link to a section.
+fn add_link(page: &mut Page, section: &Section) -> Result<(), AllocError> {
+    let mut address = String::new(page.alloc());
+    address.push_str("#")?;
+    address.push_str(section.id)?;
+    page.open(Tag::Item)?;
+    let begun = page.open_with(Tag::Anchor, Attribute::Link, &address);
+    drop(address);
+    begun?;
+    page.text(section.title)?;
+    page.close()?;
+    page.close()?;
+    page.line()
+}
+
+/// The links to all sections.
+fn add_links(page: &mut Page) -> Result<(), AllocError> {
+    page.open_with(Tag::Navigation, Attribute::AriaLabel, "Sections")?;
+    page.open(Tag::Items)?;
+    page.line()?;
+    for section in &SECTIONS {
+        add_link(page, section)?;
     }
+    page.close()?;
+    page.close()?;
+    page.line()
+}
 
-    /// The head of a page about the journal and the start file of these names.
-    fn head(&mut self, start: &str, journal: &str) -> Result<(), AllocError> {
-        self.within(TOP, journal, "</title>\n")?;
-        self.markup(STYLE)?;
-        self.within(
-            HEADING,
-            journal,
-            "</h1>\n<p>A journal over the start file <code>",
-        )?;
-        self.within("", start, STATES)?;
-        for section in &SECTIONS {
-            self.link(section)?;
-        }
-        self.markup("</ul></nav>\n<main>\n")
-    }
+/// Begins the page about the journal and the start file of these names.
+///
+/// # Errors
+/// `AllocError` where an allocation failed.
+pub fn begin_report(alloc: Global, start: &str, journal: &str) -> Result<Page, AllocError> {
+    let mut page = titled(alloc, journal)?;
+    add_header(&mut page, start, journal)?;
+    add_links(&mut page)?;
+    page.open(Tag::Main)?;
+    page.line()?;
+    Ok(page)
+}
 
-    /// A page with its head, about the journal and the start file of these names.
-    ///
-    /// # Errors
-    /// `AllocError` where an allocation failed.
-    pub fn new(alloc: Global, start: &str, journal: &str) -> Result<Page, AllocError> {
-        let mut page = Page::empty(alloc);
-        page.head(start, journal)?;
-        Ok(page)
-    }
-
-    /// Ends the page.
-    ///
-    /// # Errors
-    /// `AllocError` where an allocation failed.
-    pub fn end(&mut self) -> Result<(), AllocError> {
-        self.markup("</main>\n</body>\n</html>\n")
-    }
+/// The page's bytes: what is written of a tree, between its top and its bottom.
+///
+/// # Errors
+/// `AllocError` where an allocation failed.
+pub fn end_report(page: Page) -> Result<Vec<u8>, AllocError>
+    ensures { IfOk result (λ html. IsPage html.items) }
+{
+    let mut page = page;
+    page.close()?;
+    page.line()?;
+    page.into_html()
 }

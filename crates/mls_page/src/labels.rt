@@ -1,13 +1,15 @@
 //! The labels of a start, drawn and listed.
-ghost use Rattle.std.specs.Prelude.{IsTrue};
-ghost use Rattle.mls_page.specs.Reading.{is_whole};
-
+use crate::boxes::draw;
 use crate::drawing::Drawing;
 use crate::lattice::{Lattice, Node};
-use crate::page::Page;
-use crate::section::{LATTICE, SHOWN};
+use crate::section::{
+    LATTICE, begin_appendix, begin_section, end_appendix, end_section, heaviest, lighter,
+};
+use crate::table::{begin_row, begin_table, end_row, end_table};
+use mls_groups::by_weight;
 use mls_labels::SecLabel;
 use mls_lines::Names;
+use mls_markup::{Attribute, Page, Tag};
 use mls_review::{Holder, push_holder};
 use mls_start::Start;
 use mls_wording::push_security;
@@ -16,10 +18,9 @@ use std::alloc::{AllocError, Global};
 /// How many labels are drawn, at most.
 const DRAWN: usize = 60;
 
-/// The table of labels, up to its rows.
-const TABLE: &str = "<table><caption>In the state that START opens with</caption>\n\
-    <thead><tr><th scope=\"col\">Label</th><th scope=\"col\">Covers</th>\
-    <th scope=\"col\">Who and what has it</th></tr></thead>\n<tbody>\n";
+const TITLES: [&str; 3] = ["Label", "Covers", "Who and what has it"];
+
+const CAPTION: &str = "In the state that START opens with, those that most have first";
 
 /// The lattice of the state that a start opens with.
 fn lattice_of(alloc: Global, start: &Start) -> Result<Lattice, AllocError> {
@@ -29,109 +30,156 @@ fn lattice_of(alloc: Global, start: &Start) -> Result<Lattice, AllocError> {
     lattice
 }
 
-impl Page {
-    /// The drawing of a lattice.
-    fn drawing(&mut self, names: &Names, lattice: &Lattice) -> Result<(), AllocError> {
-        if lattice.nodes.len() > DRAWN {
-            return self.markup("<p>More than 60 labels aren't drawn.</p>\n");
-        }
-        let drawing = Drawing::of(self.alloc(), &lattice.nodes, &lattice.covers)?;
-        let done = self.draw(names, &drawing, &lattice.nodes);
-        drop(drawing);
-        done
+/// The drawing of a lattice.
+fn drawing(page: &mut Page, names: &Names, lattice: &Lattice) -> Result<(), AllocError> {
+    if lattice.nodes.len() > DRAWN {
+        page.leaf(Tag::Paragraph, "More than 60 labels are not drawn.")?;
+        return page.line();
     }
+    let drawing = Drawing::of(page.alloc(), &lattice.nodes, &lattice.covers)?;
+    let done = draw(page, names, &drawing, &lattice.nodes);
+    drop(drawing);
+    done
+}
 
-    /// A label between two pieces of markup.
-    fn label(
-        &mut self,
-        names: &Names,
-        before: &str,
-        label: SecLabel,
-        after: &str,
-    ) -> Result<(), AllocError>
-        requires before { IsTrue (is_whole before.now) }
-        requires after { IsTrue (is_whole after.now) }
-    {
-        let mut text = String::new(self.alloc());
-        push_security(&mut text, names, label)?;
-        let done = self.within(before, &text, after);
-        drop(text);
-        done
-    }
+/// Appends a label.
+fn add_label(page: &mut Page, names: &Names, label: SecLabel) -> Result<(), AllocError> {
+    let mut text = String::new(page.alloc());
+    push_security(&mut text, names, label)?;
+    let done = page.text(&text);
+    drop(text);
+    done
+}
 
-    /// The item of one that has a label.
-    fn holder_item(&mut self, names: &Names, holder: &Holder) -> Result<(), AllocError> {
-        let mut text = String::new(self.alloc());
-        push_holder(&mut text, names, holder)?;
-        let done = self.within("<li>", &text, "</li>");
-        drop(text);
-        done
-    }
+/// The item of one that has a label.
+fn holder_item(page: &mut Page, names: &Names, holder: &Holder) -> Result<(), AllocError> {
+    let mut text = String::new(page.alloc());
+    push_holder(&mut text, names, holder)?;
+    let done = page.leaf(Tag::Item, &text);
+    drop(text);
+    done
+}
 
-    /// The labels that the one at a place covers.
-    fn covered(
-        &mut self,
-        names: &Names,
-        lattice: &Lattice,
-        place: usize,
-    ) -> Result<(), AllocError> {
-        for cover in &lattice.covers {
-            if cover.upper == place {
-                if let Some(lower) = lattice.nodes.get(cover.lower) {
-                    self.label(names, "<li>", lower.label, "</li>")?;
-                }
+/// The labels that the one at a place covers.
+fn covered(
+    page: &mut Page,
+    names: &Names,
+    lattice: &Lattice,
+    place: usize,
+) -> Result<(), AllocError> {
+    for cover in &lattice.covers {
+        if cover.upper == place {
+            if let Some(lower) = lattice.nodes.get(cover.lower) {
+                page.open(Tag::Item)?;
+                add_label(page, names, lower.label)?;
+                page.close()?;
             }
         }
-        Ok(())
     }
+    Ok(())
+}
 
-    /// Who and what has a label.
-    fn holder_items(&mut self, names: &Names, node: &Node) -> Result<(), AllocError> {
-        for holder in node.named() {
-            self.holder_item(names, holder)?;
+/// Who and what has a label.
+fn holder_items(page: &mut Page, names: &Names, node: &Node) -> Result<(), AllocError> {
+    for holder in node.named() {
+        holder_item(page, names, holder)?;
+    }
+    let more = node.unnamed();
+    if more == 0 {
+        return Ok(());
+    }
+    page.open(Tag::Item)?;
+    page.text("and ")?;
+    page.number(more)?;
+    page.text(" more")?;
+    page.close()
+}
+
+/// The row of the label at a place.
+fn label_row(
+    page: &mut Page,
+    names: &Names,
+    lattice: &Lattice,
+    place: usize,
+    node: &Node,
+) -> Result<(), AllocError> {
+    begin_row(page)?;
+    page.open_with(Tag::TableHeading, Attribute::Scope, "row")?;
+    add_label(page, names, node.label)?;
+    page.close()?;
+    page.open(Tag::TableCell)?;
+    page.open_as(Tag::Items, "named")?;
+    covered(page, names, lattice, place)?;
+    page.close()?;
+    page.close()?;
+    page.open(Tag::TableCell)?;
+    page.open_as(Tag::Items, "named")?;
+    holder_items(page, names, node)?;
+    page.close()?;
+    page.close()?;
+    end_row(page)
+}
+
+/// The table of the labels at some places.
+fn label_table(
+    page: &mut Page,
+    names: &Names,
+    lattice: &Lattice,
+    places: &[usize],
+) -> Result<(), AllocError> {
+    begin_table(page, CAPTION, &TITLES)?;
+    for place in places {
+        if let Some(node) = lattice.nodes.get(*place) {
+            label_row(page, names, lattice, *place, node)?;
         }
-        match node.unnamed() {
-            0 => Ok(()),
-            more => self.counted("<li>and ", more, " more</li>"),
-        }
     }
+    end_table(page)
+}
 
-    /// The row of the label at a place.
-    fn label_row(
-        &mut self,
-        names: &Names,
-        lattice: &Lattice,
-        place: usize,
-        node: &Node,
-    ) -> Result<(), AllocError> {
-        self.label(names, "<tr><th scope=\"row\">", node.label, "</th><td><ul>")?;
-        self.covered(names, lattice, place)?;
-        self.markup("</ul></td><td><ul>")?;
-        self.holder_items(names, node)?;
-        self.markup("</ul></td></tr>\n")
+/// The drawing of labels, and their tables.
+fn label_tables(
+    page: &mut Page,
+    names: &Names,
+    lattice: &Lattice,
+    places: &[usize],
+) -> Result<(), AllocError> {
+    drawing(page, names, lattice)?;
+    label_table(page, names, lattice, heaviest(places))?;
+    if begin_appendix(page, &LATTICE, places.len())? {
+        label_table(page, names, lattice, lighter(places))?;
+        end_appendix(page)?;
     }
+    Ok(())
+}
 
-    /// The drawing of labels, and their table.
-    fn labels(&mut self, names: &Names, lattice: &Lattice) -> Result<(), AllocError> {
-        self.drawing(names, lattice)?;
-        self.markup(TABLE)?;
-        for (place, node) in lattice.nodes.iter().enumerate().take(SHOWN) {
-            self.label_row(names, lattice, place, node)?;
-        }
-        self.markup("</tbody></table>\n")
+/// The places of labels, by how many have each.
+fn in_order(alloc: Global, nodes: &[Node]) -> Result<Vec<usize>, AllocError> {
+    let mut weights = Vec::new(alloc);
+    for node in nodes {
+        weights.push(node.holders.len() as u64)?;
     }
+    let places = by_weight(alloc, &weights);
+    drop(weights);
+    places
+}
 
-    /// Appends the labels of a start, as `mls lattice` tells them.
-    ///
-    /// # Errors
-    /// `AllocError` where an allocation failed.
-    pub fn add_lattice(&mut self, names: &Names, start: &Start) -> Result<(), AllocError> {
-        self.section(&LATTICE)?;
-        let lattice = lattice_of(self.alloc(), start)?;
-        let count = lattice.nodes.len();
-        let done = self.labels(names, &lattice);
-        drop(lattice);
-        done?;
-        self.end_section(&LATTICE, count)
-    }
+/// The labels of a lattice.
+fn add_labels(page: &mut Page, names: &Names, lattice: &Lattice) -> Result<(), AllocError> {
+    let places = in_order(page.alloc(), &lattice.nodes)?;
+    let done = label_tables(page, names, lattice, &places);
+    drop(places);
+    done
+}
+
+/// Appends the labels of a start.
+///
+/// # Errors
+/// `AllocError` where an allocation failed.
+pub fn add_lattice(page: &mut Page, names: &Names, start: &Start) -> Result<(), AllocError> {
+    begin_section(page, &LATTICE)?;
+    let lattice = lattice_of(page.alloc(), start)?;
+    let done = add_labels(page, names, &lattice);
+    drop(lattice);
+    done?;
+    end_section(page)
 }

@@ -1,30 +1,51 @@
-//! A page about a journal, in HTML: what other questions print of it, laid out to be looked at.
+//! A page about a journal, in HTML: what matters first, then what other questions tell, in groups, the heaviest first.
 #![tactic(auto)]
 
 mod bar;
 mod boxes;
-mod colour;
 mod counts;
 mod denials;
 mod drawing;
-mod escaping;
-mod found;
+mod each;
+mod futures;
+mod gets;
+mod grid;
 mod head;
+mod holding;
 mod labels;
 mod lattice;
-mod law;
-mod page;
+mod moment;
+mod named;
+mod part;
 mod permissions;
 mod powers;
 mod ranks;
+mod runs;
 mod section;
 mod share;
+mod short;
 mod slot;
 mod spans;
-mod style;
 mod table;
+mod terms;
+mod trend;
+mod trusted;
+mod usage;
+mod verified;
+mod walked;
 
-pub use found::Found;
-pub use law::what_is_escaped_is_no_markup;
-pub use page::Page;
-pub use section::SHOWN;
+pub use counts::add_counts;
+pub use denials::add_denials;
+pub use futures::add_futures;
+pub use head::{begin_report, end_report};
+pub use labels::add_lattice;
+pub use part::add_part;
+pub use permissions::add_usage;
+pub use powers::add_powers;
+pub use section::{ACROSS, LISTED, SHOWN};
+pub use short::{Short, add_short};
+pub use spans::add_spans;
+pub use terms::add_terms;
+pub use trusted::{Trusting, add_trust, trust_counts};
+pub use verified::{Found, add_verified};
+pub use walked::{Walked, walk};

@@ -1,73 +1,201 @@
 //! What subjects may change.
-use crate::page::Page;
-use crate::section::{POWERS, SHOWN};
+use crate::named::add_subject;
+use crate::runs::{Run, Whole, runs_of, wholes_of};
+use crate::section::{
+    POWERS, begin_appendix, begin_section, end_appendix, end_section, heaviest, lighter,
+};
+use crate::table::{begin_row, begin_table, end_row, end_table};
+use mls_groups::by_weight;
+use mls_labels::SecLabel;
 use mls_lines::Names;
+use mls_markup::{Attribute, Page, Tag};
 use mls_review::{Change, push_change};
-use mls_tables::SubjectId;
-use mls_wording::push_subject;
-use std::alloc::AllocError;
+use std::alloc::{AllocError, Global};
 
-/// The table of powers, up to its rows.
-const TABLE: &str = "<table><caption>After the last entry</caption>\n\
-    <thead><tr><th scope=\"col\">Subject</th><th scope=\"col\">May</th></tr></thead>\n<tbody>\n";
+/// How many changes of one kind are told of a subject, at most.
+const NAMED: usize = 3;
 
-impl Page {
-    /// The heading of a subject's row, and the beginning of its list.
-    fn power_heading(&mut self, names: &Names, subject: SubjectId) -> Result<(), AllocError> {
-        let mut name = String::new(self.alloc());
-        push_subject(&mut name, names, subject)?;
-        let done = self.within("<tr><th scope=\"row\">", &name, "</th><td><ul>");
-        drop(name);
-        done
-    }
+/// How many labels are told that a change may be to, at most.
+const LABELS: usize = 3;
 
-    /// What a subject may change.
-    fn power_item(&mut self, names: &Names, change: &Change) -> Result<(), AllocError> {
-        let mut text = String::new(self.alloc());
-        push_change(&mut text, names, change)?;
-        let done = self.within("<li>", &text, "</li>");
-        drop(text);
-        done
-    }
+const TITLES: [&str; 2] = ["Subject", "May"];
 
-    /// One more change of the same subject, or the first of another.
-    fn power(
-        &mut self,
-        names: &Names,
-        change: &Change,
-        last: Option<SubjectId>,
-    ) -> Result<(), AllocError> {
-        let subject = change.subject();
-        if last != Some(subject) {
-            if last.is_some() {
-                self.markup("</ul></td></tr>\n")?;
-            }
-            self.power_heading(names, subject)?;
+/// The changes that a run has.
+fn changes_of<'a>(changes: &'a [Change], run: &Run) -> &'a [Change] {
+    let end = run.begin.saturating_add(run.count);
+    changes.get(run.begin..end).unwrap_or(&[])
+}
+
+/// Appends a change, as `powers` tells it.
+fn add_change(page: &mut Page, names: &Names, change: &Change) -> Result<(), AllocError> {
+    let mut text = String::new(page.alloc());
+    push_change(&mut text, names, change)?;
+    let done = page.text(&text);
+    drop(text);
+    done
+}
+
+/// Appends a change to one of many labels: the first of them, and how many more there are.
+fn add_cut(
+    page: &mut Page,
+    names: &Names,
+    change: &Change,
+    shown: &[SecLabel],
+    more: u64,
+) -> Result<(), AllocError> {
+    let Change::Labels(subject, relabeling, _) = change else {
+        return Ok(());
+    };
+    let shown = Vec::from_slice(page.alloc(), shown)?;
+    let front = Change::Labels(*subject, *relabeling, shown);
+    let done = add_change(page, names, &front);
+    drop(front);
+    done?;
+    page.text(" and ")?;
+    page.number(more)?;
+    page.text(" more")
+}
+
+/// What a subject may change.
+fn power_item(page: &mut Page, names: &Names, change: &Change) -> Result<(), AllocError> {
+    page.open(Tag::Item)?;
+    match change {
+        Change::Labels(_, _, labels) if labels.len() > LABELS => {
+            let shown = labels.get(..LABELS).unwrap_or(&[]);
+            add_cut(
+                page,
+                names,
+                change,
+                shown,
+                labels.len().saturating_sub(LABELS) as u64,
+            )?;
         }
-        self.power_item(names, change)
+        Change::Labels(..) | Change::Over(..) => add_change(page, names, change)?,
     }
+    page.close()
+}
 
-    /// The table of powers.
-    fn power_table(&mut self, names: &Names, changes: &[Change]) -> Result<(), AllocError> {
-        if changes.is_empty() {
-            return self.markup("<p>No subject may change anything.</p>\n");
-        }
-        self.markup(TABLE)?;
-        let mut last = None;
-        for change in changes.iter().take(SHOWN) {
-            self.power(names, change, last)?;
-            last = Some(change.subject());
-        }
-        self.markup("</ul></td></tr>\n</tbody></table>\n")
+/// The changes of one kind: the first of them, and how many more there are.
+fn run_items(page: &mut Page, names: &Names, changes: &[Change]) -> Result<(), AllocError> {
+    for change in changes.iter().take(NAMED) {
+        power_item(page, names, change)?;
     }
+    let more = changes.len().saturating_sub(NAMED);
+    if more == 0 {
+        return Ok(());
+    }
+    page.open(Tag::Item)?;
+    page.text("and ")?;
+    page.number(more as u64)?;
+    page.text(" more of this kind")?;
+    page.close()
+}
 
-    /// Appends what subjects may change, as `mls powers` tells it.
-    ///
-    /// # Errors
-    /// `AllocError` where an allocation failed.
-    pub fn add_powers(&mut self, names: &Names, changes: &[Change]) -> Result<(), AllocError> {
-        self.section(&POWERS)?;
-        self.power_table(names, changes)?;
-        self.end_section(&POWERS, changes.len())
+/// The row of a subject.
+fn power_row(
+    page: &mut Page,
+    names: &Names,
+    changes: &[Change],
+    runs: &[Run],
+    whole: &Whole,
+) -> Result<(), AllocError> {
+    begin_row(page)?;
+    page.open_with(Tag::TableHeading, Attribute::Scope, "row")?;
+    add_subject(page, names, whole.subject)?;
+    page.close()?;
+    page.open(Tag::TableCell)?;
+    page.open(Tag::Items)?;
+    for run in runs {
+        if run.subject == whole.subject {
+            run_items(page, names, changes_of(changes, run))?;
+        }
     }
+    page.close()?;
+    page.close()?;
+    end_row(page)
+}
+
+/// The table of subjects, in this order.
+fn power_table(
+    page: &mut Page,
+    names: &Names,
+    changes: &[Change],
+    runs: &[Run],
+    wholes: &[Whole],
+    places: &[usize],
+) -> Result<(), AllocError> {
+    begin_table(page, "After the last entry", &TITLES)?;
+    for place in places {
+        if let Some(whole) = wholes.get(*place) {
+            power_row(page, names, changes, runs, whole)?;
+        }
+    }
+    end_table(page)
+}
+
+/// The tables of subjects.
+fn power_tables(
+    page: &mut Page,
+    names: &Names,
+    changes: &[Change],
+    runs: &[Run],
+    wholes: &[Whole],
+    places: &[usize],
+) -> Result<(), AllocError> {
+    power_table(page, names, changes, runs, wholes, heaviest(places))?;
+    if begin_appendix(page, &POWERS, places.len())? {
+        power_table(page, names, changes, runs, wholes, lighter(places))?;
+        end_appendix(page)?;
+    }
+    Ok(())
+}
+
+/// The places of subjects, by how much each may change.
+fn in_order(alloc: Global, wholes: &[Whole]) -> Result<Vec<usize>, AllocError> {
+    let mut weights = Vec::new(alloc);
+    for whole in wholes {
+        weights.push(whole.count)?;
+    }
+    let places = by_weight(alloc, &weights);
+    drop(weights);
+    places
+}
+
+/// What subjects may change, of which there are these runs.
+fn add_wholes(
+    page: &mut Page,
+    names: &Names,
+    changes: &[Change],
+    runs: &[Run],
+    wholes: &[Whole],
+) -> Result<(), AllocError> {
+    let places = in_order(page.alloc(), wholes)?;
+    let done = power_tables(page, names, changes, runs, wholes, &places);
+    drop(places);
+    done
+}
+
+/// What subjects may change, where there is something.
+fn add_changes(page: &mut Page, names: &Names, changes: &[Change]) -> Result<(), AllocError> {
+    let runs = runs_of(page.alloc(), changes)?;
+    let wholes = wholes_of(page.alloc(), &runs)?;
+    let done = add_wholes(page, names, changes, &runs, &wholes);
+    drop(wholes);
+    drop(runs);
+    done
+}
+
+/// Appends what subjects may change, those that may change most first.
+///
+/// # Errors
+/// `AllocError` where an allocation failed.
+pub fn add_powers(page: &mut Page, names: &Names, changes: &[Change]) -> Result<(), AllocError> {
+    begin_section(page, &POWERS)?;
+    if changes.is_empty() {
+        page.leaf(Tag::Paragraph, "No subject may change anything.")?;
+        page.line()?;
+        return end_section(page);
+    }
+    add_changes(page, names, changes)?;
+    end_section(page)
 }

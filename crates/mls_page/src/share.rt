@@ -13,6 +13,14 @@ pub(crate) struct Share {
     pub undefined: u64,
 }
 
+/// Sums of shares, or their greatest numbers.
+#[derive(Clone, Copy)]
+pub(crate) struct Sums {
+    pub granted: u64,
+    pub denied: u64,
+    pub undefined: u64,
+}
+
 impl Share {
     /// The share of a subject of which nothing is counted yet.
     fn new(subject: SubjectId) -> Share {
@@ -35,6 +43,13 @@ impl Share {
         }
     }
 
+    /// How many requests there are.
+    pub(crate) fn total(&self) -> u64 {
+        self.granted
+            .saturating_add(self.denied)
+            .saturating_add(self.undefined)
+    }
+
     /// The greatest of its numbers.
     fn greatest(&self) -> u64 {
         self.granted.max(self.denied).max(self.undefined)
@@ -46,15 +61,19 @@ pub(crate) fn greatest_of(shares: &[Share]) -> u64 {
     shares.iter().fold(0, |most, it| it.greatest().max(most))
 }
 
-/// The sums of some shares: granted, denied, undefined.
-pub(crate) fn sums_of(shares: &[Share]) -> (u64, u64, u64) {
-    let (mut granted, mut denied, mut undefined) = (0u64, 0u64, 0u64);
+/// The sums of some shares.
+pub(crate) fn sums_of(shares: &[Share]) -> Sums {
+    let mut sums = Sums {
+        granted: 0,
+        denied: 0,
+        undefined: 0,
+    };
     for share in shares {
-        granted = granted.saturating_add(share.granted);
-        denied = denied.saturating_add(share.denied);
-        undefined = undefined.saturating_add(share.undefined);
+        sums.granted = sums.granted.saturating_add(share.granted);
+        sums.denied = sums.denied.saturating_add(share.denied);
+        sums.undefined = sums.undefined.saturating_add(share.undefined);
     }
-    (granted, denied, undefined)
+    sums
 }
 
 /// Counts a row of a summary. The rows of a subject stand together.

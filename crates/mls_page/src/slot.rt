@@ -1,7 +1,7 @@
 //! What a drawing is made of: slots in ranks, and links between them.
 
 /// The width of a label's box, of a line that passes a rank, and of what is free beside either.
-pub(crate) const BOX: u64 = 176;
+pub(crate) const BOX: u64 = 208;
 
 const PASS: u64 = 16;
 

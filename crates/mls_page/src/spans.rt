@@ -1,141 +1,207 @@
 //! Who held what, and from when to when.
-use crate::bar::Bar;
-use crate::colour::Colour;
-use crate::page::Page;
-use crate::section::{HELD, SHOWN};
+use crate::bar::{Colour, begin_bars, stretch};
+use crate::holding::{access_keys, ends_of, first_state, in_order, length_of, mode_of};
+use crate::moment::add_moment;
+use crate::named::{add_object, add_subject};
+use crate::section::{
+    HELD, begin_appendix, begin_section, end_appendix, end_section, heaviest, lighter,
+};
+use crate::table::{begin_row, begin_table, end_row, end_table, number_cell, text_cell};
+use mls_groups::{Group, Grouping, grouped};
 use mls_lines::Names;
-use mls_requests::mode_word;
-use mls_spans::{Span, push_extent};
-use mls_tables::ObjectId;
-use mls_wording::{push_object, push_subject};
+use mls_marks::Marks;
+use mls_markup::{Attribute, Page, Tag};
+use mls_spans::Span;
 use std::alloc::AllocError;
 
-/// The table of spans, up to its bodies. Its caption says what the bars are.
-const TABLE: &str =
-    "<table><caption>By object. A bar lies between the state before entry 0, at its left, and the one after the last entry</caption>\n\
-    <thead><tr><th scope=\"col\">Held</th><th scope=\"col\">From and to</th><th scope=\"col\">Time line</th>\
-    </tr></thead>\n";
+const TITLES: [&str; 6] = [
+    "Subject",
+    "Mode",
+    "Object",
+    "Times",
+    "From and to",
+    "Time line",
+];
 
-/// The spans of a list that are shown.
-fn shown(spans: &[Span]) -> &[Span] {
-    spans.get(..SHOWN).unwrap_or(spans)
+const CAPTION: &str =
+    "The longest held first. A time line goes from the state before entry 0 to the one after the last entry";
+
+/// Appends from when to when an access was held, all in all: `start to 12`, `3 on`.
+fn add_extent(
+    page: &mut Page,
+    marks: Option<&Marks>,
+    first: &Span,
+    last: &Span,
+) -> Result<(), AllocError> {
+    match first.made {
+        Some(number) => add_moment(page, marks, number)?,
+        None => page.text("start")?,
+    }
+    match last.ended {
+        Some(ending) => {
+            page.text(" to ")?;
+            add_moment(page, marks, ending.number)
+        }
+        None => page.text(" on"),
+    }
 }
 
-/// The object of a span.
-fn object_of(span: &Span) -> ObjectId {
-    let (_, o, _) = span.access;
-    o
+/// The cells of who held what.
+fn access_cells(page: &mut Page, names: &Names, span: &Span) -> Result<(), AllocError> {
+    let (s, o, _) = span.access;
+    page.open_with(Tag::TableHeading, Attribute::Scope, "row")?;
+    add_subject(page, names, s)?;
+    page.close()?;
+    text_cell(page, mode_of(span))?;
+    page.open(Tag::TableCell)?;
+    add_object(page, names, o)?;
+    page.close()
 }
 
-/// Whether a span is the first of its object.
-fn is_first(spans: &[Span], index: usize, object: ObjectId) -> bool {
-    spans
-        .iter()
-        .take(index)
-        .all(|span| object_of(span) != object)
+/// The time line of an access.
+fn add_line(
+    page: &mut Page,
+    spans: &[Span],
+    members: &[(u64, usize)],
+    entries: u64,
+) -> Result<(), AllocError> {
+    page.open_as(Tag::TableCell, "times")?;
+    begin_bars(page, Colour::Held, entries.saturating_add(1))?;
+    for (_, place) in members {
+        if let Some(span) = spans.get(*place) {
+            stretch(page, first_state(span), length_of(span, entries))?;
+        }
+    }
+    page.close()?;
+    page.close()
 }
 
-/// The bar of a span, among the states of a journal of so many entries, counted from the one before entry 0.
-fn bar_of(span: &Span, entries: u64) -> Bar {
-    let from = match span.made {
-        Some(number) => number.saturating_add(1),
-        None => 0,
+/// The row of an access.
+fn access_row(
+    page: &mut Page,
+    names: &Names,
+    marks: Option<&Marks>,
+    spans: &[Span],
+    grouping: &Grouping,
+    group: &Group,
+    entries: u64,
+) -> Result<(), AllocError> {
+    let Some((first, last)) = ends_of(spans, grouping, group) else {
+        return Ok(());
     };
-    let last = match span.ended {
-        Some(ending) => ending.number,
-        None => entries,
-    };
-    Bar {
-        colour: Colour::Held,
-        units: entries.saturating_add(1),
-        from,
-        length: last.saturating_add(1).saturating_sub(from),
-    }
+    begin_row(page)?;
+    access_cells(page, names, first)?;
+    number_cell(page, group.count as u64)?;
+    page.open_as(Tag::TableCell, "number")?;
+    add_extent(page, marks, first, last)?;
+    page.close()?;
+    add_line(page, spans, grouping.members_of(group), entries)?;
+    end_row(page)
 }
 
-impl Page {
-    /// The cell of who held an object, and how.
-    fn holder_cell(&mut self, names: &Names, span: &Span) -> Result<(), AllocError> {
-        let (s, _, x) = span.access;
-        let mut who = String::new(self.alloc());
-        push_subject(&mut who, names, s)?;
-        who.push_str(" ")?;
-        who.push_str(mode_word(x))?;
-        let done = self.within("<tr><th scope=\"row\">", &who, "</th>");
-        drop(who);
-        done
-    }
-
-    /// The row of a span, in a journal of so many entries.
-    fn span_row(&mut self, names: &Names, span: &Span, entries: u64) -> Result<(), AllocError> {
-        self.holder_cell(names, span)?;
-        let mut extent = String::new(self.alloc());
-        push_extent(&mut extent, None, span)?;
-        let done = self.within("<td>", &extent, "</td><td class=\"line\">");
-        drop(extent);
-        done?;
-        self.bar(&bar_of(span, entries))?;
-        self.markup("</td></tr>\n")
-    }
-
-    /// The heading of an object's rows.
-    fn object_heading(&mut self, names: &Names, object: ObjectId) -> Result<(), AllocError> {
-        let mut name = String::new(self.alloc());
-        push_object(&mut name, names, object)?;
-        let heading = "<tbody><tr><th scope=\"rowgroup\" colspan=\"3\">";
-        let done = self.within(heading, &name, "</th></tr>\n");
-        drop(name);
-        done
-    }
-
-    /// The rows of an object.
-    fn object_rows(
-        &mut self,
-        names: &Names,
-        spans: &[Span],
-        object: ObjectId,
-        entries: u64,
-    ) -> Result<(), AllocError> {
-        self.object_heading(names, object)?;
-        for span in spans {
-            if object_of(span) == object {
-                self.span_row(names, span, entries)?;
-            }
+/// The table of accesses, in this order.
+fn access_table(
+    page: &mut Page,
+    names: &Names,
+    marks: Option<&Marks>,
+    spans: &[Span],
+    grouping: &Grouping,
+    places: &[usize],
+    entries: u64,
+) -> Result<(), AllocError> {
+    begin_table(page, CAPTION, &TITLES)?;
+    for place in places {
+        if let Some(group) = grouping.groups.get(*place) {
+            access_row(page, names, marks, spans, grouping, group, entries)?;
         }
-        self.markup("</tbody>\n")
     }
+    end_table(page)
+}
 
-    /// The table of spans, object by object.
-    fn span_table(
-        &mut self,
-        names: &Names,
-        spans: &[Span],
-        entries: u64,
-    ) -> Result<(), AllocError> {
-        if spans.is_empty() {
-            return self.markup("<p>Nothing was held.</p>\n");
-        }
-        self.markup(TABLE)?;
-        for (index, span) in spans.iter().enumerate() {
-            if is_first(spans, index, object_of(span)) {
-                self.object_rows(names, spans, object_of(span), entries)?;
-            }
-        }
-        self.markup("</table>\n")
+/// The tables of accesses.
+fn access_tables(
+    page: &mut Page,
+    names: &Names,
+    marks: Option<&Marks>,
+    spans: &[Span],
+    grouping: &Grouping,
+    places: &[usize],
+    entries: u64,
+) -> Result<(), AllocError> {
+    access_table(
+        page,
+        names,
+        marks,
+        spans,
+        grouping,
+        heaviest(places),
+        entries,
+    )?;
+    if begin_appendix(page, &HELD, places.len())? {
+        access_table(
+            page,
+            names,
+            marks,
+            spans,
+            grouping,
+            lighter(places),
+            entries,
+        )?;
+        end_appendix(page)?;
     }
+    Ok(())
+}
 
-    /// Appends who held what, as `mls held` tells it, over a journal of so many entries.
-    ///
-    /// # Errors
-    /// `AllocError` where an allocation failed.
-    pub fn add_spans(
-        &mut self,
-        names: &Names,
-        spans: &[Span],
-        entries: u64,
-    ) -> Result<(), AllocError> {
-        self.section(&HELD)?;
-        self.span_table(names, shown(spans), entries)?;
-        self.end_section(&HELD, spans.len())
+/// The accesses that spans are of.
+fn add_groups(
+    page: &mut Page,
+    names: &Names,
+    marks: Option<&Marks>,
+    spans: &[Span],
+    grouping: &Grouping,
+    entries: u64,
+) -> Result<(), AllocError> {
+    let places = in_order(page.alloc(), spans, grouping, entries)?;
+    let done = access_tables(page, names, marks, spans, grouping, &places, entries);
+    drop(places);
+    done
+}
+
+/// The accesses that spans are of, where there are any.
+fn add_accesses(
+    page: &mut Page,
+    names: &Names,
+    marks: Option<&Marks>,
+    spans: &[Span],
+    entries: u64,
+) -> Result<(), AllocError> {
+    let keys = access_keys(page.alloc(), spans)?;
+    let grouping = grouped(page.alloc(), &keys);
+    drop(keys);
+    let grouping = grouping?;
+    let done = add_groups(page, names, marks, spans, &grouping, entries);
+    drop(grouping);
+    done
+}
+
+/// Appends who held what over a journal of so many entries: each access, in how many spans, and when; where there are
+/// marks, with days.
+///
+/// # Errors
+/// `AllocError` where an allocation failed.
+pub fn add_spans(
+    page: &mut Page,
+    names: &Names,
+    marks: Option<&Marks>,
+    spans: &[Span],
+    entries: u64,
+) -> Result<(), AllocError> {
+    begin_section(page, &HELD)?;
+    if spans.is_empty() {
+        page.leaf(Tag::Paragraph, "Nothing was held.")?;
+        page.line()?;
+        return end_section(page);
     }
+    add_accesses(page, names, marks, spans, entries)?;
+    end_section(page)
 }

@@ -76,8 +76,9 @@ fn number(words: &[String], place: usize) -> u64 {
     }
 }
 
-/// Does the job that the words name: gate, mutex or alone, then how many threads, turns each, and rounds of work between two
-/// turns; for the gate also how many threads look beside them, and how often each. Prints how many entries that left.
+/// Does the job that the words name: gate, mutex or alone, then how many threads, turns each, and rounds of work
+/// between two turns; for the gate also how many threads look beside them, and how often each. Prints how many entries
+/// that left.
 pub fn time_turns<R: Threads + Wait + Sync>(threads: &R, rt: &HostRuntime) -> io::Result<()> {
     let words = env::args(rt)?.collect::<Vec<String>>(rt.alloc())?;
     let job = Job {

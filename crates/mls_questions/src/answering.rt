@@ -1,6 +1,7 @@
 //! The command of a question, and how it ends.
 use crate::comparison::compare;
 use crate::describing::about;
+use crate::form_meant::{Due, Meant, form_due, form_meant};
 use crate::listing::journal;
 use crate::named::Named;
 use crate::one_state::{OfState, listed_as, why};
@@ -8,16 +9,17 @@ use crate::report::report;
 use crate::seeing::answer_state;
 use crate::source_names::source_of;
 use crate::sources::read_source;
-use crate::spans::{held, usage, who_ever};
-use crate::starts::{lattice, lint};
+use crate::spans::{held, who_ever};
+use crate::starts::lint;
+use crate::usages::usage;
 use mls_command_line::{Question, Source};
 use mls_explain_text::{Sort, fault_line, thing_line, word_line};
-use mls_files::{command_refused, fault_file};
+use mls_files::{Hint, fault_file, load_hint, refused_with_place, start_hint};
 use mls_lines::LineFault;
-use mls_replay::QuestionFault;
+use mls_replay::{CommandFault, QuestionFault};
+use mls_start_file::read_start;
 use mls_terminal::{NO_MEMORY, Progress, refused};
-use mls_wording::Answer;
-use std::alloc::AllocError;
+use std::alloc::{AllocError, Global};
 use std::process::ExitCode;
 
 /// The status of a command whose answer is a negative one.
@@ -35,8 +37,26 @@ fn told(rt: &HostRuntime, line: Result<String, AllocError>) -> ExitCode {
     }
 }
 
+/// Tells that a line has no form, and which it may be, and says whether that is known.
+fn tell_form(rt: &HostRuntime, line: &str) -> bool {
+    if let Some(meant) = form_meant(rt.alloc(), line) {
+        let Meant { word, deed } = meant;
+        let _ = eprintln!(rt; "mls: line: bad form: {word} ({deed}?)");
+        return true;
+    }
+    if let Some(due) = form_due(line) {
+        let Due { deed, operands } = due;
+        let _ = eprintln!(rt; "mls: line: bad form: SUBJECT {deed} {operands}");
+        return true;
+    }
+    false
+}
+
 /// Tells for which fault a line is refused, by the bytes of the start file.
 fn line_refused(rt: &HostRuntime, start: &[u8], line: &str, fault: LineFault) -> ExitCode {
+    if matches!(fault, LineFault::BadForm) && tell_form(rt, line) {
+        return ExitCode::from(1);
+    }
     told(rt, fault_line(rt.alloc(), start, line, fault))
 }
 
@@ -56,28 +76,84 @@ pub(crate) fn bare_refused(rt: &HostRuntime, word: &str) -> ExitCode {
     ExitCode::from(1)
 }
 
-/// Tells that a journal has no entry of a number.
-fn entry_refused(rt: &HostRuntime, journal: &str, what: &str, number: u64) -> ExitCode {
-    let _ = eprintln!(rt; "mls: {journal}: {what} {number}");
+/// Tells that a word is no label of its scheme.
+pub(crate) fn label_refused(rt: &HostRuntime, word: &str) -> ExitCode {
+    let _ = eprintln!(rt; "mls: {word}: bad label");
     ExitCode::from(1)
+}
+
+/// The word for so many entries.
+fn noun_of(entries: u64) -> &'static str {
+    if entries == 1 { "entry" } else { "entries" }
+}
+
+/// Tells that a journal has only so many entries.
+fn few_refused(rt: &HostRuntime, journal: &str, entries: u64) -> ExitCode {
+    let noun = noun_of(entries);
+    let _ = eprintln!(rt; "mls: {journal}: the journal has {entries} {noun}");
+    ExitCode::from(1)
+}
+
+/// Tells that a journal has no entry of a number, which is how many it has.
+fn entry_refused(rt: &HostRuntime, journal: &str, entries: u64) -> ExitCode {
+    let noun = noun_of(entries);
+    let _ = eprintln!(rt; "mls: {journal}: no entry {entries}: the journal has {entries} {noun}");
+    ExitCode::from(1)
+}
+
+/// Which of these sorts of things of a start has this name.
+fn sort_of(alloc: Global, start: &[u8], word: &str) -> Option<&'static str> {
+    let Ok(loaded) = read_start(alloc, start) else {
+        return None;
+    };
+    let names = loaded.names();
+    let sort = if names.object(word).is_some() {
+        Some("an object")
+    } else if names.subject(word).is_some() {
+        Some("a subject")
+    } else {
+        None
+    };
+    drop(loaded);
+    sort
+}
+
+/// Tells that a word names no subject, or no object, of the bytes of a start file; where it names the other, that.
+pub(crate) fn other_refused(rt: &HostRuntime, start: &[u8], sort: Sort, word: &str) -> ExitCode {
+    match sort_of(rt.alloc(), start, word) {
+        Some(other) => {
+            let _ = eprintln!(rt; "mls: {word}: bad name: it is {other}: mls about");
+            ExitCode::from(1)
+        }
+        None => name_refused(rt, start, sort, word),
+    }
+}
+
+/// What a refused file looks like: what was seen of it, or of a start file by its bytes.
+fn hint_by(fault: &CommandFault, hint: Hint, start: &[u8]) -> Hint {
+    match hint {
+        Hint::None if !start.is_empty() => load_hint(fault, start_hint(start)),
+        hint => hint,
+    }
 }
 
 /// Tells why a question has no answer, by the bytes of the start file.
 pub(crate) fn question_refused(
     rt: &HostRuntime,
-    named: Named<'_>,
+    named: &Named<'_>,
     start: &[u8],
     fault: QuestionFault,
 ) -> ExitCode {
     match fault {
         QuestionFault::Files(fault) => {
-            command_refused(rt, fault_file(&fault, named.start, named.journal), &fault)
+            let file = fault_file(&fault, named.start, named.journal);
+            refused_with_place(rt, file, &fault, hint_by(&fault, named.hint, start))
         }
-        QuestionFault::AtMost(entries) => entry_refused(rt, named.journal, "at most", entries),
-        QuestionFault::NoEntry(entry) => entry_refused(rt, named.journal, "no entry", entry),
+        QuestionFault::AtMost(entries) => few_refused(rt, named.journal, entries),
+        QuestionFault::NoEntry(entry) => entry_refused(rt, named.journal, entry),
         QuestionFault::Line(fault) => line_refused(rt, start, named.line, fault),
-        QuestionFault::Subject => name_refused(rt, start, Sort::Subject, named.subject),
-        QuestionFault::Object => name_refused(rt, start, Sort::Object, named.object),
+        QuestionFault::Subject => other_refused(rt, start, Sort::Subject, named.subject),
+        QuestionFault::Object => other_refused(rt, start, Sort::Object, named.object),
     }
 }
 
@@ -87,32 +163,6 @@ pub(crate) fn status_of(is_positive: bool) -> ExitCode {
         ExitCode::SUCCESS
     } else {
         ExitCode::from(NEGATIVE)
-    }
-}
-
-/// Prints an answer.
-pub(crate) fn answered(progress: &mut Progress<'_>, answer: Answer) -> ExitCode {
-    let Answer { text, is_positive } = answer;
-    let printed = progress.print(text.as_bytes());
-    drop(text);
-    if printed == ExitCode::SUCCESS {
-        status_of(is_positive)
-    } else {
-        printed
-    }
-}
-
-/// Ends a command over the bytes of a start file: prints the answer, or tells why there is none.
-pub(crate) fn ended(
-    progress: &mut Progress<'_>,
-    named: Named<'_>,
-    start: &[u8],
-    done: Result<Answer, QuestionFault>,
-) -> ExitCode {
-    progress.end();
-    match done {
-        Ok(answer) => answered(progress, answer),
-        Err(fault) => question_refused(progress.rt(), named, start, fault),
     }
 }
 
@@ -147,12 +197,16 @@ pub fn answer(progress: &mut Progress<'_>, question: &Question<'_>) -> ExitCode 
             ..
         } => {
             let (actors, object, mode) = (*actors, *object, *mode);
-            let asked = OfState::Could {
+            let asked = OfState::WhoCould {
                 actors,
                 object,
                 mode,
             };
             answer_state(progress, &source, asked)
+        }
+        Question::Could { actors, line, .. } => {
+            let (actors, line) = (*actors, *line);
+            answer_state(progress, &source, OfState::Could { actors, line })
         }
         Question::Powers {
             subject,
@@ -175,16 +229,12 @@ pub fn answer(progress: &mut Progress<'_>, question: &Question<'_>) -> ExitCode 
             ..
         } => about_files(progress, &source, *name, *is_object),
         Question::Lint { .. } => lint(progress, &source),
-        Question::Lattice { .. } => lattice(progress, &source),
+        Question::Lattice { .. } => answer_state(progress, &source, OfState::Lattice),
         Question::Journal(words) => journal(progress, &source, words),
         Question::Held(words) => held(progress, &source, words),
         Question::Usage(words) => usage(progress, &source, words),
         Question::WhoEver(words) => who_ever(progress, &source, words),
-        Question::Compare {
-            second,
-            journal,
-            ..
-        } => compare(progress, &source, *second, *journal),
+        Question::Compare(words) => compare(progress, &source, words),
         Question::Report(words) => report(progress, &source, words),
     }
 }

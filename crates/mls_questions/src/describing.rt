@@ -1,11 +1,13 @@
 //! The command that tells all of a subject or of an object.
-use crate::answering::thing_refused;
+use crate::answering::{name_refused, thing_refused};
 use crate::named::Named;
 use crate::past::{Past, past_refused, replayed};
 use crate::row_answers::{form_of, rows_ended};
 use crate::sources::Bytes;
 use mls_answers::about as told;
 use mls_command_line::Source;
+use mls_explain_text::Sort;
+use mls_files::Hint;
 use mls_replay::QuestionFault;
 use mls_rows::Listing;
 use mls_terminal::Progress;
@@ -14,22 +16,34 @@ use std::process::ExitCode;
 /// Ends the command over the bytes of a start file: prints the answer, or tells why there is none.
 fn ended_about(
     progress: &mut Progress<'_>,
-    named: Named<'_>,
+    named: &Named<'_>,
     start: &[u8],
     done: Result<Listing, QuestionFault>,
 ) -> ExitCode {
-    if let Err(QuestionFault::Subject) = &done {
-        progress.end();
-        drop(done);
-        return thing_refused(progress.rt(), start, named.object);
+    let fault = match &done {
+        Err(fault) => Some(*fault),
+        Ok(_) => None,
+    };
+    let (rt, word) = (progress.rt(), named.object);
+    match fault {
+        Some(QuestionFault::Subject) => {
+            progress.end();
+            drop(done);
+            thing_refused(rt, start, word)
+        }
+        Some(QuestionFault::Object) => {
+            progress.end();
+            drop(done);
+            name_refused(rt, start, Sort::Object, word)
+        }
+        _ => rows_ended(progress, named, start, done),
     }
-    rows_ended(progress, named, start, done)
 }
 
 /// Prints all that there is to tell over a journal that was replayed, or over a start alone.
 fn about_past(
     progress: &mut Progress<'_>,
-    named: Named<'_>,
+    named: &Named<'_>,
     past: &Past,
     has_journal: bool,
     is_object: bool,
@@ -65,13 +79,14 @@ pub(crate) fn about(
         subject: "",
         object: name,
         line: "",
+        hint: Hint::None,
     };
     match replayed(progress.rt().alloc(), bytes, at) {
         Ok(past) => {
-            let status = about_past(progress, named, &past, has_journal, is_object);
+            let status = about_past(progress, &named, &past, has_journal, is_object);
             drop(past);
             status
         }
-        Err(fault) => past_refused(progress, named, fault),
+        Err(fault) => past_refused(progress, &named, fault),
     }
 }

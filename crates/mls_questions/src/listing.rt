@@ -1,16 +1,17 @@
 //! The command that lists what a journal has.
-use crate::answering::{name_refused, question_refused, status_of};
+use crate::answering::{other_refused, question_refused, status_of};
 use crate::named::Named;
 use crate::past::{Past, past_refused, replayed};
 use crate::renaming::journal_after;
 use crate::row_answers::listed;
 use crate::sources::{Bytes, read_source};
-use mls_answers::{journal as list_journal, journal_explained as write_explained};
+use mls_answers::{journal as list_journal, journal_explained as write_explained, journal_trusted};
 use mls_command_line::{JournalWords, Source};
 use mls_explain_text::{Sort, WriteFault};
+use mls_files::Hint;
 use mls_listings::{Filter, ListFault, Words};
 use mls_marks::Marks;
-use mls_terminal::{NOT_WRITTEN, Progress, refused};
+use mls_terminal::{AnswerOutput, Progress};
 use std::io::Write;
 use std::process::ExitCode;
 
@@ -30,15 +31,16 @@ fn list_refused(
                 subject: filter.subject.unwrap_or(""),
                 object: filter.object.unwrap_or(""),
                 line: "",
+                hint: Hint::None,
             };
-            question_refused(rt, named, start, fault)
+            question_refused(rt, &named, start, fault)
         }
-        ListFault::By => name_refused(rt, start, Sort::Subject, filter.by.unwrap_or("")),
+        ListFault::By => other_refused(rt, start, Sort::Subject, filter.by.unwrap_or("")),
     }
 }
 
 /// The greater of two numbers of first entries, where they are asked for.
-fn later(from: Option<u64>, since: Option<u64>) -> Option<u64> {
+pub(crate) fn later(from: Option<u64>, since: Option<u64>) -> Option<u64> {
     match (from, since) {
         (Some(from), Some(since)) => Some(from.max(since)),
         (from, since) => from.or(since),
@@ -88,8 +90,8 @@ fn marked_filter<'a>(words: &JournalWords<'a>, marks: Option<&Marks>) -> Words<'
     }
 }
 
-/// Prints the entries of a journal that was replayed that a filter asks for, each with why it has its reply, as they are
-/// explained.
+/// Prints the entries of a journal that was replayed that a filter asks for, each with why it has its reply, as they
+/// are explained.
 fn journal_explained(
     progress: &mut Progress<'_>,
     words: &JournalWords<'_>,
@@ -99,7 +101,7 @@ fn journal_explained(
     progress.end();
     let rt = progress.rt();
     let history = &past.history;
-    let mut output = rt.stdout();
+    let mut output = AnswerOutput::new(rt);
     match write_explained(
         rt.alloc(),
         &mut output,
@@ -108,7 +110,7 @@ fn journal_explained(
         filter,
     ) {
         Ok(is_any) if output.flush().is_ok() => status_of(is_any),
-        Ok(_) | Err(WriteFault::Write) => refused(rt, NOT_WRITTEN, 1),
+        Ok(_) | Err(WriteFault::Write) => output.refused(rt),
         Err(WriteFault::List(fault)) => list_refused(rt, words, history.start_file(), fault),
     }
 }
@@ -122,7 +124,12 @@ fn journal_listed(
 ) -> ExitCode {
     let rt = progress.rt();
     let history = &past.history;
-    let done = list_journal(rt.alloc(), history, past.marks.as_ref(), filter, words.form);
+    let marks = past.marks.as_ref();
+    let done = if words.is_trusted {
+        journal_trusted(rt.alloc(), history, marks, filter, words.form)
+    } else {
+        list_journal(rt.alloc(), history, marks, filter, words.form)
+    };
     progress.end();
     match done {
         Ok(listing) => listed(progress, listing),
@@ -149,7 +156,7 @@ fn journal_bytes(progress: &mut Progress<'_>, words: &JournalWords<'_>, bytes: B
             drop(past);
             status
         }
-        Err(fault) => past_refused(progress, Named::files(words.start, words.journal), fault),
+        Err(fault) => past_refused(progress, &Named::files(words.start, words.journal), fault),
     }
 }
 

@@ -1,4 +1,6 @@
 //! What fault lines name.
+use mls_files::{Hint, journal_hint, load_hint};
+use mls_replay::{CommandFault, QuestionFault};
 
 /// The words that the fault lines of a question name.
 #[derive(Clone, Copy)]
@@ -11,6 +13,8 @@ pub(crate) struct Named<'a> {
     pub object: &'a str,
     /// The line that is asked about.
     pub line: &'a str,
+    /// What the file looks like that is refused.
+    pub hint: Hint,
 }
 
 impl<'a> Named<'a> {
@@ -22,6 +26,30 @@ impl<'a> Named<'a> {
             subject: "",
             object: "",
             line: "",
+            hint: Hint::None,
         }
+    }
+
+    /// The same words, where the file that is refused looks so.
+    pub(crate) fn with_hint(&self, hint: Hint) -> Named<'a> {
+        Named {
+            start: self.start,
+            journal: self.journal,
+            subject: self.subject,
+            object: self.object,
+            line: self.line,
+            hint,
+        }
+    }
+}
+
+/// What the file looks like that is refused: the start file, or the journal of these bytes.
+pub(crate) fn hint_of(fault: &QuestionFault, look: Hint, journal: &[u8]) -> Hint {
+    match fault {
+        QuestionFault::Files(fault) => match fault {
+            CommandFault::Load(_) => load_hint(fault, look),
+            fault => journal_hint(fault, journal),
+        },
+        _ => Hint::None,
     }
 }

@@ -1,8 +1,10 @@
 //! Questions about one state.
 use crate::acting::chosen;
-use mls_answers::{ask, explain, powers, state, who};
+use crate::state_findings::state_findings;
+use mls_answers::{ask, explain, lattice, powers, state, who};
 use mls_command_line::Actors;
 use mls_could::who_could;
+use mls_futures_text::could;
 use mls_replay::QuestionFault;
 use mls_requests::read_mode;
 use mls_rows::{Form, Listing};
@@ -24,8 +26,13 @@ pub(crate) enum OfState<'a> {
         object: &'a str,
         mode: Option<&'a str>,
     },
-    /// What becomes of the accesses to an object, whatever some subjects do.
+    /// Whether the get of a line could come about, whatever some subjects do.
     Could {
+        actors: Actors<'a>,
+        line: &'a str,
+    },
+    /// What becomes of the accesses to an object, whatever some subjects do.
+    WhoCould {
         actors: Actors<'a>,
         object: &'a str,
         mode: Option<&'a str>,
@@ -35,6 +42,10 @@ pub(crate) enum OfState<'a> {
         subject: Option<&'a str>,
         downgrades: bool,
     },
+    /// What is suspicious.
+    Lint,
+    /// The labels and their order.
+    Lattice,
     /// What there is.
     List,
     /// The start file that opens with it, and the file that is made then, which tells the old numbers of its objects.
@@ -66,7 +77,9 @@ impl<'a> OfState<'a> {
         match self {
             OfState::Line(_) => "asking",
             OfState::Why(_) | OfState::Next => "explaining",
-            OfState::Who { .. } | OfState::Could { .. } | OfState::Powers { .. } => "looking",
+            OfState::Who { .. } | OfState::WhoCould { .. } => "looking",
+            OfState::Could { .. } | OfState::Powers { .. } | OfState::Lint => "looking",
+            OfState::Lattice => "drawing",
             OfState::List => "listing",
             OfState::StartFile { .. } => "writing",
         }
@@ -96,7 +109,11 @@ pub(crate) fn answer_seen(
         OfState::Why(line) => explain(alloc, form, seen, Some(line.as_bytes())),
         OfState::Next => explain(alloc, form, seen, None),
         OfState::Who { object, mode } => who(alloc, form, seen, object, mode_of(mode)),
-        OfState::Could {
+        OfState::Could { actors, line } => {
+            let (choice, words) = chosen(actors);
+            could(alloc, form, seen, choice, words, line.as_bytes())
+        }
+        OfState::WhoCould {
             actors,
             object,
             mode,
@@ -108,6 +125,8 @@ pub(crate) fn answer_seen(
             subject,
             downgrades,
         } => powers(alloc, form, seen, subject, downgrades),
+        OfState::Lint => state_findings(alloc, form, seen),
+        OfState::Lattice => lattice(alloc, seen),
         OfState::List | OfState::StartFile { .. } => state(alloc, form, seen),
     }
 }

@@ -1,7 +1,8 @@
 //! A journal that was replayed for a question about all its entries.
 use crate::answering::question_refused;
-use crate::named::Named;
+use crate::named::{Named, hint_of};
 use crate::sources::Bytes;
+use mls_files::{Hint, start_hint};
 use mls_marks::{Marks, Verified};
 use mls_replay::QuestionFault;
 use mls_seen::History;
@@ -19,15 +20,17 @@ pub(crate) struct Past {
     pub verified: Option<Verified>,
 }
 
+/// Why a journal isn't replayed, and what the file looks like that is refused.
+pub(crate) struct NotReplayed {
+    fault: QuestionFault,
+    hint: Hint,
+}
+
 /// The journal, replayed, with the state before the entry of a number, or the one that all entries lead to.
 ///
 /// # Errors
 /// Why it isn't replayed.
-pub(crate) fn replayed(
-    alloc: Global,
-    bytes: Bytes,
-    at: Option<u64>,
-) -> Result<Past, QuestionFault> {
+pub(crate) fn replayed(alloc: Global, bytes: Bytes, at: Option<u64>) -> Result<Past, NotReplayed> {
     let Bytes {
         start,
         journal,
@@ -35,23 +38,24 @@ pub(crate) fn replayed(
         verified,
         at: _,
     } = bytes;
-    let read = History::read(
-        alloc,
-        start,
-        journal.as_deref().unwrap_or(b"".as_slice()),
-        at,
-    );
-    drop(journal);
+    let entries = journal.as_deref().unwrap_or(b"".as_slice());
+    let look = start_hint(&start);
+    let read = History::read(alloc, start, entries, at);
     match read {
-        Ok(history) => Ok(Past {
-            history,
-            marks,
-            verified,
-        }),
+        Ok(history) => {
+            drop(journal);
+            Ok(Past {
+                history,
+                marks,
+                verified,
+            })
+        }
         Err(fault) => {
             drop(marks);
             drop(verified);
-            Err(fault)
+            let hint = hint_of(&fault, look, entries);
+            drop(journal);
+            Err(NotReplayed { fault, hint })
         }
     }
 }
@@ -59,9 +63,10 @@ pub(crate) fn replayed(
 /// Tells why a journal isn't replayed.
 pub(crate) fn past_refused(
     progress: &mut Progress<'_>,
-    named: Named<'_>,
-    fault: QuestionFault,
+    named: &Named<'_>,
+    refused: NotReplayed,
 ) -> ExitCode {
     progress.end();
-    question_refused(progress.rt(), named, b"".as_slice(), fault)
+    let NotReplayed { fault, hint } = refused;
+    question_refused(progress.rt(), &named.with_hint(hint), b"".as_slice(), fault)
 }

@@ -4,18 +4,19 @@ use crate::named::Named;
 use crate::past::{Past, past_refused, replayed};
 use crate::row_answers::{form_of, listed};
 use crate::sources::Bytes;
+use crate::usages::{are_all, chosen, named as usage_words};
 use mls_command_line::{HeldWords, JournalWords, UsageWords};
 use mls_compare::{MapFault, names_after};
 use mls_explain_text::explain_chosen;
-use mls_files::{judge_start, start_file};
+use mls_files::{Hint, judge_start, start_file};
 use mls_lines::Names;
-use mls_listings::{Choice, Filter, ListFault, Words, choose, list_chosen};
+use mls_listings::{Choice, Filter, ListFault, Words, choose, list_chosen, trusted_entries};
 use mls_marks::Marks;
 use mls_replay::{QuestionFault, Replay};
 use mls_rows::{Form, Listing};
 use mls_spans::{
     Filter as SpanFilter, States, Words as SpanWords, choose as choose_spans, list_spans,
-    list_usage,
+    list_usage, list_usage_of,
 };
 use mls_terminal::{NO_MEMORY, Progress, file_refused, refused};
 use mls_wording::{Answer, push_number};
@@ -110,7 +111,12 @@ fn list_entries(
 ) -> Result<Listing, ListFault> {
     let start = replay.start();
     let entries = replay.entries();
-    if words.is_explained {
+    if words.is_trusted {
+        let found = trusted_entries(alloc, start, entries)?;
+        let listing = list_chosen(alloc, names, &found, marks, choice, words.form);
+        drop(found);
+        listing
+    } else if words.is_explained {
         let Answer { text, is_positive } = explain_chosen(
             alloc, names, start, entries, marks, choice,
         )?;
@@ -149,7 +155,7 @@ fn list_replayed(
 /// Tells why there is no answer.
 fn refused_by(
     progress: &mut Progress<'_>,
-    named: Named<'_>,
+    named: &Named<'_>,
     start: &[u8],
     fault: QuestionFault,
 ) -> ExitCode {
@@ -163,7 +169,7 @@ fn refused_by(
 /// Ends a command whose answer is of rows: prints the answer, or tells why there is none.
 fn ended_by(
     progress: &mut Progress<'_>,
-    named: Named<'_>,
+    named: &Named<'_>,
     start: &[u8],
     done: Result<Listing, QuestionFault>,
 ) -> ExitCode {
@@ -189,6 +195,7 @@ fn named<'a>(
         subject: subject.unwrap_or(""),
         object: object.unwrap_or(""),
         line: "",
+        hint: Hint::None,
     }
 }
 
@@ -211,11 +218,11 @@ fn journal_past<'a>(
         }
         Err(ListFault::Question(fault)) => {
             let about = named(words.start, words.journal, filter.subject, filter.object);
-            refused_by(progress, about, start, fault)
+            refused_by(progress, &about, start, fault)
         }
         Err(ListFault::By) => {
             let about = named(words.start, words.journal, filter.by, filter.object);
-            refused_by(progress, about, start, QuestionFault::Subject)
+            refused_by(progress, &about, start, QuestionFault::Subject)
         }
     }
 }
@@ -235,7 +242,7 @@ fn journal_by<'a>(
             drop(past);
             status
         }
-        Err(fault) => past_refused(progress, Named::files(words.start, words.journal), fault),
+        Err(fault) => past_refused(progress, &Named::files(words.start, words.journal), fault),
     }
 }
 
@@ -292,7 +299,7 @@ fn held_by(
 /// Prints who held what over a journal, by these names of objects.
 fn held_named<'a>(
     progress: &mut Progress<'_>,
-    about: Named<'a>,
+    about: &Named<'a>,
     names: &Names,
     bytes: Bytes,
     filter: &SpanWords<'a>,
@@ -322,7 +329,7 @@ pub(crate) fn held_after<'a>(
     let about = named(words.start, words.journal, filter.subject, filter.object);
     match names_of(progress, words.start, &bytes, map) {
         Ok(names) => {
-            let status = held_named(progress, about, &names, bytes, filter);
+            let status = held_named(progress, &about, &names, bytes, filter);
             drop(names);
             status
         }
@@ -333,37 +340,79 @@ pub(crate) fn held_after<'a>(
     }
 }
 
-/// How the permissions over some states of a journal were used, by these names of objects.
+/// How the permissions over some states of a journal were used, of those that are asked for, by these names of objects.
+fn usage_chosen(
+    alloc: Global,
+    form: Form,
+    names: &Names,
+    past: &Past,
+    words: &SpanWords<'_>,
+    never: bool,
+) -> Result<Listing, QuestionFault> {
+    let (replay, marks) = (past.history.replay(), past.marks.as_ref());
+    let object = any_number_word(alloc, names, words.object)?;
+    let by_number = SpanFilter {
+        subject: words.subject,
+        object: object.as_deref(),
+        mode: words.mode,
+        states: words.states,
+    };
+    let choice = choose_spans(names, &by_number)?;
+    Ok(list_usage_of(
+        alloc,
+        form,
+        names,
+        replay,
+        marks,
+        &choice,
+        words.states,
+        never,
+    )?)
+}
+
+/// How the permissions over some states of a journal were used, as they are asked for, by these names of objects.
 fn usage_by(
     alloc: Global,
     form: Form,
     names: &Names,
     past: &Past,
+    words: &UsageWords<'_>,
     states: States,
 ) -> Result<Listing, QuestionFault> {
-    let (replay, marks) = (past.history.replay(), past.marks.as_ref());
-    Ok(list_usage(alloc, form, names, replay, marks, states)?)
+    if are_all(words) {
+        let (replay, marks) = (past.history.replay(), past.marks.as_ref());
+        return Ok(list_usage(alloc, form, names, replay, marks, states)?);
+    }
+    usage_chosen(
+        alloc,
+        form,
+        names,
+        past,
+        &chosen(words, states),
+        words.never,
+    )
 }
 
 /// Prints how the permissions over some states of a journal were used, by these names of objects.
 fn usage_named(
     progress: &mut Progress<'_>,
-    about: Named<'_>,
+    words: &UsageWords<'_>,
     names: &Names,
     bytes: Bytes,
     states: States,
 ) -> ExitCode {
     progress.begin("listing");
+    let about = usage_words(words);
     let form = form_of(progress);
     let alloc = progress.rt().alloc();
     match replayed(alloc, bytes, Some(states.first)) {
         Ok(past) => {
-            let done = usage_by(alloc, form, names, &past, states);
-            let status = ended_by(progress, about, past.history.start_file(), done);
+            let done = usage_by(alloc, form, names, &past, words, states);
+            let status = ended_by(progress, &about, past.history.start_file(), done);
             drop(past);
             status
         }
-        Err(fault) => past_refused(progress, about, fault),
+        Err(fault) => past_refused(progress, &about, fault),
     }
 }
 
@@ -375,10 +424,9 @@ pub(crate) fn usage_after(
     bytes: Bytes,
     states: States,
 ) -> ExitCode {
-    let about = Named::files(words.start, words.journal);
     match names_of(progress, words.start, &bytes, map) {
         Ok(names) => {
-            let status = usage_named(progress, about, &names, bytes, states);
+            let status = usage_named(progress, words, &names, bytes, states);
             drop(names);
             status
         }

@@ -1,20 +1,62 @@
 //! The command that prints a page about a journal.
+use crate::answering::question_refused;
 use crate::named::Named;
+use crate::part::Part;
 use crate::past::{Past, past_refused, replayed};
 use crate::report_parts::add_sections;
 use crate::sources::{Bytes, read_source};
+use crate::spans::states_of;
 use mls_command_line::{ReportWords, Source};
-use mls_page::Page;
-use mls_terminal::{NO_MEMORY, Progress, print, refused};
+use mls_markup::Page;
+use mls_page::{add_part, begin_report, end_report};
+use mls_replay::QuestionFault;
+use mls_spans::States;
+use mls_terminal::{NO_MEMORY, Progress, refused};
 use std::alloc::{AllocError, Global};
 use std::process::ExitCode;
 
-/// The page about a journal that was replayed.
-fn page_of(alloc: Global, words: &ReportWords<'_>, past: &Past) -> Result<Vec<u8>, AllocError> {
-    let mut page = Page::new(alloc, words.start, words.journal)?;
-    let (verified, marks) = (past.verified.as_ref(), past.marks.as_ref());
-    match add_sections(alloc, &mut page, past.history.replay(), verified, marks) {
-        Ok(()) => Ok(page.into_html()),
+/// Whether a page is asked for about a part of the journal alone.
+fn is_part(words: &ReportWords<'_>) -> bool {
+    let times = &words.times;
+    let is_timed = times.since.is_some() || times.until.is_some() || times.when.is_some();
+    let is_numbered = words.states.first > 0 || words.states.last.is_some();
+    words.at.is_some() || is_timed || is_numbered
+}
+
+/// The states that a page is about: those up to one, where the journal is to end there, or those of words.
+fn states(words: &ReportWords<'_>, bytes: &Bytes) -> States {
+    match bytes.at.or(words.at) {
+        Some(at) => States {
+            first: 0,
+            last: Some(at),
+        },
+        None => states_of(words.states, &words.times, bytes),
+    }
+}
+
+/// Appends which part of the journal the page is about, where it isn't about all of it, and all sections.
+fn add_all(
+    page: &mut Page,
+    words: &ReportWords<'_>,
+    past: &Past,
+    part: &Part<'_>,
+) -> Result<(), AllocError> {
+    if is_part(words) {
+        add_part(page, part.first(), part.last())?;
+    }
+    add_sections(page, part, past.verified.as_ref(), past.marks.as_ref())
+}
+
+/// The page about a part of a journal.
+fn page_about(
+    alloc: Global,
+    words: &ReportWords<'_>,
+    past: &Past,
+    part: &Part<'_>,
+) -> Result<Vec<u8>, AllocError> {
+    let mut page = begin_report(alloc, words.start, words.journal)?;
+    match add_all(&mut page, words, past, part) {
+        Ok(()) => end_report(page),
         Err(fault) => {
             drop(page);
             Err(fault)
@@ -22,13 +64,38 @@ fn page_of(alloc: Global, words: &ReportWords<'_>, past: &Past) -> Result<Vec<u8
     }
 }
 
-/// Prints a page about a journal that was replayed.
-fn report_over(progress: &mut Progress<'_>, words: &ReportWords<'_>, past: &Past) -> ExitCode {
-    let done = page_of(progress.rt().alloc(), words, past);
+/// The page about some states of a journal that was replayed, and the entries between them.
+fn page_of(
+    alloc: Global,
+    words: &ReportWords<'_>,
+    past: &Past,
+    states: States,
+) -> Result<Vec<u8>, AllocError> {
+    let part = Part::of(alloc, past.history.replay(), states)?;
+    let page = page_about(alloc, words, past, &part);
+    drop(part);
+    page
+}
+
+/// Prints a page about some states of a journal that was replayed.
+fn report_over(
+    progress: &mut Progress<'_>,
+    words: &ReportWords<'_>,
+    past: &Past,
+    states: States,
+) -> ExitCode {
+    let many = past.history.replay().entries().len() as u64;
+    if words.at.unwrap_or(0) > many {
+        progress.end();
+        let named = Named::files(words.start, words.journal);
+        let fault = QuestionFault::AtMost(many);
+        return question_refused(progress.rt(), &named, b"".as_slice(), fault);
+    }
+    let done = page_of(progress.rt().alloc(), words, past, states);
     progress.end();
     match done {
         Ok(html) => {
-            let status = print(progress.rt(), &html);
+            let status = progress.print(&html);
             drop(html);
             status
         }
@@ -38,14 +105,15 @@ fn report_over(progress: &mut Progress<'_>, words: &ReportWords<'_>, past: &Past
 
 /// Prints a page about a journal, over the bytes of its files.
 fn report_bytes(progress: &mut Progress<'_>, words: &ReportWords<'_>, bytes: Bytes) -> ExitCode {
+    let states = states(words, &bytes);
     progress.begin("reporting");
-    match replayed(progress.rt().alloc(), bytes, None) {
+    match replayed(progress.rt().alloc(), bytes, Some(states.first)) {
         Ok(past) => {
-            let status = report_over(progress, words, &past);
+            let status = report_over(progress, words, &past, states);
             drop(past);
             status
         }
-        Err(fault) => past_refused(progress, Named::files(words.start, words.journal), fault),
+        Err(fault) => past_refused(progress, &Named::files(words.start, words.journal), fault),
     }
 }
 

@@ -30,7 +30,7 @@ pub(crate) fn listed(progress: &mut Progress<'_>, listing: Listing) -> ExitCode 
 /// Ends a command over the bytes of a start file: prints the answer, or tells why there is none.
 pub(crate) fn rows_ended(
     progress: &mut Progress<'_>,
-    named: Named<'_>,
+    named: &Named<'_>,
     start: &[u8],
     done: Result<Listing, QuestionFault>,
 ) -> ExitCode {

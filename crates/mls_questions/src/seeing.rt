@@ -2,16 +2,21 @@
 //! before, any other whole.
 use crate::acting::unknown_word;
 use crate::answering::question_refused;
-use crate::named::Named;
+use crate::form_meant::asks_no_get;
+use crate::named::{Named, hint_of};
 use crate::one_state::{OfState, answer_seen};
 use crate::row_answers::{form_of, rows_ended};
 use crate::snapshots::{ended_start, start_of};
-use crate::sources::{Bytes, read_source};
+use crate::sources::{Bytes, read_source, start_unread};
 use mls_command_line::Source;
-use mls_files::{Goal, Sought, Wanted, open_start, seek, segments_of, start_file};
-use mls_replay::QuestionFault;
+use mls_files::{
+    Goal, Hint, Sought, Wanted, open_start, seek, segments_of, start_file, start_hint,
+};
+use mls_lines::LineFault;
+use mls_replay::{QuestionFault, named_object};
+use mls_rows::Listing;
 use mls_seen::Seen;
-use mls_terminal::{Progress, file_refused};
+use mls_terminal::Progress;
 use std::process::ExitCode;
 
 /// The words that fault lines name.
@@ -20,9 +25,11 @@ fn named<'a>(source: &Source<'a>, asked: OfState<'a>) -> Named<'a> {
     match asked {
         OfState::Line(line) | OfState::Why(line) => named.line = line,
         OfState::Who { object, .. } => named.object = object,
-        OfState::Could { object, .. } => named.object = object,
+        OfState::WhoCould { object, .. } => named.object = object,
+        OfState::Could { line, .. } => named.line = line,
         OfState::Powers { subject, .. } => named.subject = subject.unwrap_or(""),
-        OfState::Next | OfState::List | OfState::StartFile { .. } => {}
+        OfState::Next | OfState::Lint | OfState::Lattice => {}
+        OfState::List | OfState::StartFile { .. } => {}
     }
     named
 }
@@ -32,14 +39,17 @@ fn told<'a>(
     progress: &mut Progress<'_>,
     source: &Source<'a>,
     asked: OfState<'a>,
+    hint: Hint,
     done: Result<Seen, QuestionFault>,
 ) -> Result<Seen, ExitCode> {
     match done {
         Ok(seen) => Ok(seen),
         Err(fault) => {
             progress.end();
+            let mut named = named(source, asked);
+            named.hint = hint;
             let none = b"".as_slice();
-            Err(question_refused(progress.rt(), named(source, asked), none, fault))
+            Err(question_refused(progress.rt(), &named, none, fault))
         }
     }
 }
@@ -62,9 +72,14 @@ fn see_whole<'a>(
     drop(marks);
     drop(verified);
     let entries = journal.as_deref().unwrap_or(b"".as_slice());
+    let look = start_hint(&start);
     let done = Seen::whole(progress.rt().alloc(), start, entries, at);
+    let hint = match &done {
+        Ok(_) => Hint::None,
+        Err(fault) => hint_of(fault, look, entries),
+    };
     drop(journal);
-    told(progress, source, asked, done)
+    told(progress, source, asked, hint, done)
 }
 
 /// What the entries are replayed for.
@@ -85,7 +100,7 @@ fn see_segments<'a>(
 ) -> Result<Seen, ExitCode> {
     let bytes = match start_file(source.start).read(progress) {
         Ok(bytes) => bytes,
-        Err(fault) => return Err(file_refused(progress, source.start, fault)),
+        Err(fault) => return Err(start_unread(progress, source, fault)),
     };
     let opened = open_start(progress, source.start, bytes)?;
     let wanted = Wanted {
@@ -99,6 +114,7 @@ fn see_segments<'a>(
         progress,
         source,
         asked,
+        Hint::None,
         Seen::behind(seeing, source.at, next),
     )
 }
@@ -127,6 +143,33 @@ fn see<'a>(
     }
 }
 
+/// Tells that a word names no object of the state that is seen, where it is the number of one that isn't there.
+fn tell_none(rt: &HostRuntime, seen: &Seen, object: &str) {
+    if let Ok(o) = named_object(seen.names(), object) {
+        if !seen.state().is_active(o) {
+            let _ = eprintln!(rt; "mls: {object}: there is no such object");
+        }
+    }
+}
+
+/// Ends the question what could come about: prints the answer, or tells why there is none.
+fn ended_could(
+    progress: &mut Progress<'_>,
+    named: &Named<'_>,
+    start: &[u8],
+    line: &str,
+    done: Result<Listing, QuestionFault>,
+) -> ExitCode {
+    let is_bad = matches!(&done, Err(QuestionFault::Line(LineFault::BadForm)));
+    if is_bad && asks_no_get(line) {
+        progress.end();
+        drop(done);
+        let _ = eprintln!(progress.rt(); "mls: line: bad form: could asks of a get");
+        return ExitCode::from(1);
+    }
+    rows_ended(progress, named, start, done)
+}
+
 /// Ends the command in the state that is seen.
 fn end_seen<'a>(
     progress: &mut Progress<'_>,
@@ -136,15 +179,25 @@ fn end_seen<'a>(
 ) -> ExitCode {
     let alloc = progress.rt().alloc();
     let mut named = named(source, asked);
-    if let OfState::Could { actors, .. } = asked {
-        named.subject = unknown_word(seen, actors);
+    match asked {
+        OfState::Could { actors, .. } | OfState::WhoCould { actors, .. } => {
+            named.subject = unknown_word(seen, actors);
+        }
+        _ => {}
     }
     if let OfState::StartFile { map } = asked {
         let done = start_of(alloc, seen, map.is_some());
-        return ended_start(progress, named, map, done);
+        return ended_start(progress, &named, seen.start_file(), map, done);
     }
     let done = answer_seen(alloc, form_of(progress), seen, asked);
-    rows_ended(progress, named, seen.start_file(), done)
+    if let OfState::Could { line, .. } = asked {
+        return ended_could(progress, &named, seen.start_file(), line, done);
+    }
+    let status = rows_ended(progress, &named, seen.start_file(), done);
+    if let OfState::Who { object, .. } = asked {
+        tell_none(progress.rt(), seen, object);
+    }
+    status
 }
 
 /// Answers a question about one state over its files.

@@ -6,7 +6,7 @@ use mls_compare::map_text;
 use mls_replay::{CommandFault, QuestionFault};
 use mls_seen::Seen;
 use mls_snapshots::StateStart;
-use mls_terminal::{FileFault, Progress, file_refused, make_file, print, refused};
+use mls_terminal::{FileFault, Progress, file_refused, make_file, refused};
 use std::alloc::{AllocError, Global};
 use std::process::ExitCode;
 
@@ -17,10 +17,15 @@ pub(crate) struct NewStart {
     map: Option<String>,
 }
 
-/// Tells why there is no start file.
-fn snapshot_refused(rt: &HostRuntime, named: Named<'_>, fault: SnapshotFault) -> ExitCode {
+/// Tells why there is no start file, by the bytes of the start file that was read.
+fn snapshot_refused(
+    rt: &HostRuntime,
+    named: &Named<'_>,
+    start: &[u8],
+    fault: SnapshotFault,
+) -> ExitCode {
     match fault {
-        SnapshotFault::Question(fault) => question_refused(rt, named, b"".as_slice(), fault),
+        SnapshotFault::Question(fault) => question_refused(rt, named, start, fault),
         SnapshotFault::TooLong => refused(rt, "mls: output: too long", 1),
         SnapshotFault::Differs => refused(rt, "mls: output: differs", 1),
     }
@@ -29,11 +34,11 @@ fn snapshot_refused(rt: &HostRuntime, named: Named<'_>, fault: SnapshotFault) ->
 /// Makes the file of the map, where one is asked for, and prints the start file.
 fn printed(progress: &mut Progress<'_>, path: Option<&str>, made: &NewStart) -> ExitCode {
     if let (Some(path), Some(map)) = (path, &made.map) {
-        if !make_file(progress.rt(), path, map.as_str()) {
-            return file_refused(progress, path, FileFault::File);
+        if let Err(error) = make_file(progress.rt(), path, map.as_str()) {
+            return file_refused(progress, path, FileFault::System(error));
         }
     }
-    print(progress.rt(), made.text.as_bytes())
+    progress.print(made.text.as_bytes())
 }
 
 /// That an allocation failed.
@@ -61,11 +66,19 @@ pub(crate) fn start_of(
     }
 }
 
+/// A start file without a map.
+pub(crate) fn unmapped(done: Result<StateStart, SnapshotFault>) -> Result<NewStart, SnapshotFault> {
+    let StateStart { text, order } = done?;
+    drop(order);
+    Ok(NewStart { text, map: None })
+}
+
 /// Ends the command: makes the file of the map, where one is asked for, and prints the
 /// start file that was written; or tells why there is none.
 pub(crate) fn ended_start(
     progress: &mut Progress<'_>,
-    named: Named<'_>,
+    named: &Named<'_>,
+    start: &[u8],
     map: Option<&str>,
     done: Result<NewStart, SnapshotFault>,
 ) -> ExitCode {
@@ -76,6 +89,6 @@ pub(crate) fn ended_start(
             drop(made);
             status
         }
-        Err(fault) => snapshot_refused(progress.rt(), named, fault),
+        Err(fault) => snapshot_refused(progress.rt(), named, start, fault),
     }
 }

@@ -2,11 +2,12 @@
 use crate::listing::earlier;
 use crate::named::Named;
 use crate::past::{Past, past_refused, replayed};
-use crate::renaming::{held_after, usage_after};
+use crate::renaming::held_after;
 use crate::row_answers::{form_of, rows_ended};
 use crate::sources::{Bytes, read_source};
-use mls_answers::{held as answer_held, usage as answer_usage, who_ever as answer_who_ever};
-use mls_command_line::{EverWords, HeldWords, Source, Times, UsageWords};
+use mls_answers::{held as answer_held, who_ever as answer_who_ever};
+use mls_command_line::{EverWords, HeldWords, Source, Times};
+use mls_files::Hint;
 use mls_marks::{Marks, Time};
 use mls_spans::{Filter, States, Words};
 use mls_terminal::Progress;
@@ -32,7 +33,7 @@ fn state_until(marks: &Marks, time: &Time) -> u64 {
 }
 
 /// The states that are asked about, by number and by time. The only one by a time was found as the files were read.
-fn states_of(states: States, times: &Times, bytes: &Bytes) -> States {
+pub(crate) fn states_of(states: States, times: &Times, bytes: &Bytes) -> States {
     if let Some(at) = bytes.at {
         return States::at(at);
     }
@@ -67,7 +68,7 @@ fn timed_filter<'a>(words: &HeldWords<'a>, bytes: &Bytes) -> Words<'a> {
 /// Prints who held what over a journal that was replayed.
 fn held_over<'a>(
     progress: &mut Progress<'_>,
-    named: Named<'a>,
+    named: &Named<'a>,
     past: &Past,
     filter: &Words<'a>,
 ) -> ExitCode {
@@ -89,53 +90,23 @@ fn held_bytes(progress: &mut Progress<'_>, words: &HeldWords<'_>, bytes: Bytes) 
         subject: filter.subject.unwrap_or(""),
         object: filter.object.unwrap_or(""),
         line: "",
+        hint: Hint::None,
     };
     progress.begin("listing");
     match replayed(progress.rt().alloc(), bytes, None) {
         Ok(past) => {
-            let status = held_over(progress, named, &past, &filter);
+            let status = held_over(progress, &named, &past, &filter);
             drop(past);
             status
         }
-        Err(fault) => past_refused(progress, named, fault),
-    }
-}
-
-/// Prints how the permissions were used over a journal that was replayed.
-fn usage_over(
-    progress: &mut Progress<'_>,
-    named: Named<'_>,
-    past: &Past,
-    last: Option<u64>,
-) -> ExitCode {
-    let alloc = progress.rt().alloc();
-    let form = form_of(progress);
-    let done = answer_usage(alloc, form, &past.history, past.marks.as_ref(), last);
-    rows_ended(progress, named, past.history.start_file(), done)
-}
-
-/// Prints how the permissions over a journal were used, over the bytes of its files.
-fn usage_bytes(progress: &mut Progress<'_>, words: &UsageWords<'_>, bytes: Bytes) -> ExitCode {
-    let states = states_of(words.states, &words.times, &bytes);
-    if let Some(map) = words.after {
-        return usage_after(progress, words, map, bytes, states);
-    }
-    let named = Named::files(words.start, words.journal);
-    progress.begin("listing");
-    match replayed(progress.rt().alloc(), bytes, Some(states.first)) {
-        Ok(past) => {
-            let status = usage_over(progress, named, &past, states.last);
-            drop(past);
-            status
-        }
-        Err(fault) => past_refused(progress, named, fault),
+        Err(fault) => past_refused(progress, &named, fault),
     }
 }
 
 /// Prints who could ever get an object over a journal that was replayed.
 fn who_ever_over<'a>(
     progress: &mut Progress<'_>,
-    named: Named<'a>,
+    named: &Named<'a>,
     words: &EverWords<'a>,
     past: &Past,
     last: Option<u64>,
@@ -161,15 +132,16 @@ fn who_ever_bytes(progress: &mut Progress<'_>, words: &EverWords<'_>, bytes: Byt
         subject: "",
         object: words.object,
         line: "",
+        hint: Hint::None,
     };
     progress.begin("looking");
     match replayed(progress.rt().alloc(), bytes, Some(states.first)) {
         Ok(past) => {
-            let status = who_ever_over(progress, named, words, &past, states.last);
+            let status = who_ever_over(progress, &named, words, &past, states.last);
             drop(past);
             status
         }
-        Err(fault) => past_refused(progress, named, fault),
+        Err(fault) => past_refused(progress, &named, fault),
     }
 }
 
@@ -181,18 +153,6 @@ pub(crate) fn held(
 ) -> ExitCode {
     match read_source(progress, source) {
         Ok(bytes) => held_bytes(progress, words, bytes),
-        Err(status) => status,
-    }
-}
-
-/// Prints how the permissions over a journal were used.
-pub(crate) fn usage(
-    progress: &mut Progress<'_>,
-    source: &Source<'_>,
-    words: &UsageWords<'_>,
-) -> ExitCode {
-    match read_source(progress, source) {
-        Ok(bytes) => usage_bytes(progress, words, bytes),
         Err(status) => status,
     }
 }

@@ -3,8 +3,8 @@ ghost use Rattle.std.specs.Prelude.{◌≡◌, ◌++◌, codes};
 ghost use Rattle.std.specs.List.{flat_map};
 ghost use Rattle.mls_rows.specs.Members.{Adds, list_member, object_member, text_member};
 ghost use Rattle.mls_review.specs.Granted.{relabels};
-ghost use Rattle.mls_review.specs.PowerRows.{directed_members, granted_members, label_tokens, labels_member, over_members};
-ghost use Rattle.mls_review.specs.PowerRows.{power_name, relabeling_members, what_member};
+ghost use Rattle.mls_review.specs.PowerRows.{directed_members, granted_members, label_tokens, labels_member};
+ghost use Rattle.mls_review.specs.PowerRows.{over_members, power_name, relabeling_members, what_member};
 
 use crate::power::Power;
 use crate::relabeling::Relabeling;

@@ -1,4 +1,4 @@
-//! The drawing of a start's labels.
+//! The drawing of a state's labels.
 ghost use Rattle.std.specs.Prelude.{◌≡◌, true, string_bytes, IfOk};
 ghost use Rattle.mls_review.specs.Drawing.{drawing};
 
@@ -6,7 +6,6 @@ use crate::covering::covering_pairs;
 use crate::distinct::distinct_labels;
 use crate::drawing::{push_edges, push_nodes};
 use mls_lines::Names;
-use mls_start::Start;
 use mls_state::State;
 use mls_wording::Answer;
 use std::alloc::{AllocError, Global};
@@ -24,21 +23,18 @@ fn drawing(alloc: Global, names: &Names, state: &State) -> Result<String, AllocE
     Ok(text)
 }
 
-/// The security labels of a start and their covering pairs, as the state has them that it opens with, drawn as DOT: a
-/// node for each label, with the names of those that have it, and an edge from each label to each that covers it. The
-/// answer is always positive.
+/// The security labels of a state and their covering pairs, drawn as DOT: a node for each label, with the names of
+/// those that have it, and an edge from each label to each that covers it. The answer is always positive.
 ///
 /// # Errors
 /// `AllocError` where an allocation failed.
-pub fn lattice(alloc: Global, names: &Names, start: &Start) -> Result<Answer, AllocError>
-    ensures text { IfOk result (λ drawn. string_bytes drawn.text ≡ drawing names.now start.now) }
+pub fn lattice(alloc: Global, names: &Names, state: &State) -> Result<Answer, AllocError>
+    ensures text { IfOk result (λ drawn. string_bytes drawn.text ≡ drawing names.now state.now) }
     ensures positive { IfOk result (λ drawn. drawn.is_positive ≡ true) }
 {
-    let state = start.opening(alloc)?;
-    let text = drawing(alloc, names, &state);
-    drop(state);
+    let text = drawing(alloc, names, state)?;
     Ok(Answer {
-        text: text?,
+        text,
         is_positive: true,
     })
 }

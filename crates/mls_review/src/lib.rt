@@ -1,5 +1,5 @@
-//! A start, reviewed: its labels drawn as a lattice, what is suspicious in its permissions, and what its subjects may
-//! change.
+//! A start or a state, reviewed: its labels drawn as a lattice, what is suspicious in its permissions, and what its
+//! subjects may change.
 #![tactic(auto)]
 
 mod authority;
@@ -45,7 +45,7 @@ pub use finding::Finding;
 pub use flows::downflows;
 pub use holder::Holder;
 pub use holding::holders;
-pub use linting::{findings, lint};
+pub use linting::{findings, lint, lint_state};
 pub use live::dead_at_all_labels;
 pub use power::Power;
 pub use relabeling::Relabeling;

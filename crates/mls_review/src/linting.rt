@@ -123,9 +123,28 @@ fn listed(
     })
 }
 
-/// What is suspicious in a start, a row each in this form: just its dead permissions, its unused objects, its idle
-/// subjects and the flows downwards of trusted subjects, as the state has them that it opens with. The answer is
-/// positive where there is nothing.
+/// What is suspicious in a state, a row each in this form: just its dead permissions, its unused objects, its idle
+/// subjects and the flows downwards of trusted subjects. The answer is positive where there is nothing.
+///
+/// # Errors
+/// `AllocError` where an allocation failed.
+pub fn lint_state(
+    alloc: Global,
+    form: Form,
+    names: &Names,
+    state: &State,
+) -> Result<Listing, AllocError>
+    ensures bytes { IfOk result (λ listing. listing.bytes.items ≡ lint_bytes form names.now state.now) }
+    ensures positive { IfOk result
+        (λ listing. listing.is_positive ≡ (length (findings_in state.now) == 0)) }
+{
+    let found = findings(alloc, state)?;
+    let listing = listed(alloc, form, names, &found);
+    drop(found);
+    listing
+}
+
+/// What is suspicious in a start, as [`lint_state`] tells it of the state that it opens with.
 ///
 /// # Errors
 /// `AllocError` where an allocation failed.
@@ -135,10 +154,7 @@ pub fn lint(alloc: Global, form: Form, names: &Names, start: &Start) -> Result<L
         (λ listing. listing.is_positive ≡ (length (findings_in start.now) == 0)) }
 {
     let state = start.opening(alloc)?;
-    let found = findings(alloc, &state);
+    let listing = lint_state(alloc, form, names, &state);
     drop(state);
-    let found = found?;
-    let listing = listed(alloc, form, names, &found);
-    drop(found);
     listing
 }

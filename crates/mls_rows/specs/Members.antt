@@ -1,6 +1,6 @@
 -- The members of JSON objects, and their objects.
-use Rattle.std.specs.Prelude.{◌≡◌, ℕ, ◌==◌, Bool, false, is_some, List, [], ◌∷◌, ◌++◌, codes, drop, Option, Some, None, Result}
-use Rattle.std.specs.Prelude.{OnOk, slice_get, if◌then◌else◌}
+use Rattle.std.specs.Prelude.{◌≡◌, ℕ, ◌==◌, Bool, false, is_some, List, [], ◌∷◌, ◌++◌, codes, drop, Option, Some, None}
+use Rattle.std.specs.Prelude.{Result, OnOk, slice_get, if◌then◌else◌}
 use Rattle.std.specs.Fmt.{decimal}
 use Rattle.json.specs.Print.{print}
 use Rattle.json.specs.Token.{Token, begin_array, end_array, begin_object, end_object, key, string, number, null}

@@ -5,8 +5,8 @@ use Rattle.mls_journal.specs.EntryText.{journal_text}
 use Rattle.mls_replay.specs.Replays.{Replayed, ReplaysAt, replayed_code}
 use Rattle.mls_seen.specs.Files.{Files, files_code}
 
--- The bytes of files, the number of the entry before which the state is looked at, where that is asked for, and what the
--- files are replayed as. (own)
+-- The bytes of files, the number of the entry before which the state is looked at, where that is asked for, and what
+-- the files are replayed as. (own)
 pub record History : Type 0 where
   pub files : Files
   pub at : Option ℕ

@@ -50,7 +50,8 @@ Quiet start old new notes cells = (i w : ℕ) → i < cells → Agrees notes i w
 -- that is as noted tells what it told. (own)
 pub record OneWord (start : State) (old new : List Entry) (notes : List Note) (cells at word : ℕ) : Type 0 where
   pub now : Tells (fold start new) at word
-  pub others : (i w : ℕ) → i ≢ at → i < cells → Agrees notes i w → Tells (fold start old) i w → Tells (fold start new) i w
+  pub others : (i w : ℕ) → i ≢ at → i < cells → Agrees notes i w → Tells (fold start old) i w
+      → Tells (fold start new) i w
 
 -- Each of the first k words that isn't noted to be blank is that of an object which is active in this state. (own)
 abbrev pub OfActive : State → List Note → ℕ → Type 0

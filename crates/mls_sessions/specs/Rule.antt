@@ -91,8 +91,8 @@ module _ (key : Charter) (later : List Entry) (owner : ℕ → ℕ) (seat : ℕ)
 -- The rule once the monitor was put in. Clause 1: the word is 0 and the monitor with the present journal is at home; or
 -- one seat holds, and the word names its session. Clause 2: the present journal is legal from the office's start,
 -- begins with the journal when the office was opened, and its later entries have session numbers less than n. Clauses 3
--- to 5 are what each seat knows. Clause 6: each word of accesses is blank or tells of the state that the present journal
--- leads to, and is what the holder noted of it. (own)
+-- to 5 are what each seat knows. Clause 6: each word of accesses is blank or tells of the state that the present
+-- journal leads to, and is what the holder noted of it. (own)
 pub record Running (key : Charter) (s : TableState (Option Journal) View) : Type 0 where
   pub later : List Entry
   pub owner : ℕ → ℕ

@@ -32,7 +32,8 @@ pub(crate) fn gather(gate: &Gate, mut sessions: Vec<Session>) -> GateSeat
 
 /// Takes the monitor out of a table that all its sessions are given back to.
 pub(crate) fn take_home(table: GateTable, sessions: Vec<Session>) -> BoxedMonitor
-    requires table { (table.shared.table_id.words ≡ table.shared.key.cells + FIRST) × (table.shared.table_id.slots ≡ 1) }
+    requires table { (table.shared.table_id.words ≡ table.shared.key.cells + FIRST)
+        × (table.shared.table_id.slots ≡ 1) }
     requires office { Ascending (office_at table.shared.table_id table.shared.key) 0 sessions.items }
     requires all { (length sessions.items ≡ table.shared.key.count) × (0 < table.shared.key.count) }
     ensures { Leaves (office_at table.shared.table_id table.shared.key) sessions.items result }

@@ -46,8 +46,8 @@ fn publish_one(
     store_word(gate, seat, monitor, at, word)
 }
 
-/// Lets the entry that was just made into the present journal where it changes what a word tells. Else the entry is left
-/// to the next store, or to the swap that puts the monitor home.
+/// Lets the entry that was just made into the present journal where it changes what a word tells. Else the entry is
+/// left to the next store, or to the swap that puts the monitor home.
 pub(crate) fn publish(
     gate: &Gate,
     seat: &mut GateSeat,

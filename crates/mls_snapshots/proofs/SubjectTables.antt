@@ -15,7 +15,7 @@ use Rattle.mls_snapshots.specs.Reading.{IsFixedSubject, HasFixedSubjects}
 use Rattle.mls_snapshots.specs.Renumbering.{IsSameSubject, HasSameSubjects}
 
 -- below a number or not
-by_count : (count s : ℕ) (P : Type 0) → (s < count → P) → (nat_lt s count ≡ false → P) → P
+pub by_count : (count s : ℕ) (P : Type 0) → (s < count → P) → (nat_lt s count ≡ false → P) → P
 by_count count s P below above = from (nat_lt s count) refl where
   from : (b : Bool) → nat_lt s count ≡ b → P
   from true is = below (grind (arith, nat_tests, is))

@@ -1,7 +1,9 @@
 -- States that are read.
-use Rattle.std.specs.Prelude.{◌≡◌, ℕ}
+use Rattle.std.specs.Prelude.{◌≡◌, ℕ, IsTrue, IfSome}
 use Rattle.std.specs.FinMap as map
 use Rattle.std.specs.FinSet as set
+use Rattle.mls_labels.specs.Label.{has_label}
+use Rattle.mls_state.specs.Properties.{HasTree, HasWholeTables}
 use Rattle.mls_state.specs.State.{State}
 
 -- A subject has the same maximum and integrity labels in two states, and is trusted in both or in neither. (own)
@@ -23,3 +25,27 @@ pub record IsOfStart (start v : State) : Type 0 where
   pub security : v.security ≡ start.security
   pub integrity : v.integrity ≡ start.integrity
   pub subjects : HasFixedSubjects start v
+
+-- The labels of a subject are within the bounds of a state. (own)
+pub record IsSubjectWithin (v : State) (s : ℕ) : Type 0 where
+  pub maximum : IfSome (map.get v.maximum s) (λ l. IsTrue (has_label v.security l))
+  pub current : IfSome (map.get v.current s) (λ l. IsTrue (has_label v.security l))
+  pub integrity : IfSome (map.get v.subject_integrity s) (λ l. IsTrue (has_label v.integrity l))
+
+-- The labels of an object are within the bounds of a state. (own)
+pub record IsObjectWithin (v : State) (o : ℕ) : Type 0 where
+  pub security : IfSome (map.get v.object_label o) (λ l. IsTrue (has_label v.security l))
+  pub integrity : IfSome (map.get v.object_integrity o) (λ l. IsTrue (has_label v.integrity l))
+
+-- All labels of a state are within its bounds. (own)
+pub record HasLabelsWithin (v : State) : Type 0 where
+  pub subjects : (s : ℕ) → IsSubjectWithin v s
+  pub objects : (o : ℕ) → IsObjectWithin v o
+
+-- A state stands over a start: it is of the start, its objects are a tree and its tables agree, and all its labels are
+-- within its bounds. (own)
+pub record IsOver (opening v : State) : Type 0 where
+  pub start : IsOfStart opening v
+  pub tree : HasTree v
+  pub whole : HasWholeTables v
+  pub labels : HasLabelsWithin v

@@ -2,6 +2,7 @@
 #![tactic(auto)]
 
 mod cells;
+mod labels;
 mod names;
 mod new_names;
 mod objects;
@@ -21,6 +22,7 @@ mod state_writing;
 mod subjects;
 mod table_lines;
 mod text_lists;
+mod theorems;
 
 pub use read_fault::ReadStateFault;
 pub use scheme_names::{category_names, level_names};
@@ -29,3 +31,4 @@ pub use state_reading::read_state;
 pub use state_start::{StateStart, StateStartFault, start_of_state};
 pub use state_writing::state_text;
 pub use table_lines::{push_cell, push_row};
+pub use theorems::{a_start_has_names, a_text_is_of_one_state};

@@ -1,5 +1,6 @@
 //! The names of a scheme's levels and categories, read out of what it writes of labels.
-ghost use Rattle.std.specs.Prelude.{◌≡◌, ◌++◌, ◌+◌, ◌<◌, ◌==◌, IfOk, IfNone, IfSome, OnOk, length, map, option_map, slice_get, string_bytes};
+ghost use Rattle.std.specs.Prelude.{◌≡◌, ◌++◌, ◌+◌, ◌<◌, ◌==◌, IfOk, IfNone, IfSome, OnOk, length, map, option_map};
+ghost use Rattle.std.specs.Prelude.{slice_get, string_bytes};
 ghost use Rattle.std.specs.List.{after_first, position_or_len};
 ghost use Rattle.mls_labels.specs.Scheme.{IsScheme};
 ghost use Rattle.mls_snapshots.specs.Schemes.{name_where};

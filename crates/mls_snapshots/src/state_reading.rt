@@ -1,10 +1,11 @@
 //! States read from their text.
 ghost use Rattle.std.specs.Prelude.{◌≡◌, IsTrue, IfOk, OnOk, string_bytes};
-ghost use Rattle.mls_snapshots.specs.Reading.{IsOfStart};
+ghost use Rattle.mls_snapshots.specs.Reading.{IsOfStart, HasLabelsWithin};
 ghost use Rattle.mls_snapshots.specs.Renumbering.{HasSameSubjects};
 ghost use Rattle.mls_snapshots.specs.States.{state_text};
 ghost use Rattle.mls_state.specs.Properties.{IsSecure};
 
+use crate::labels::has_labels_within;
 use crate::names::is_same_text;
 use crate::read_fault::ReadStateFault;
 use crate::rebuilding::rebuild;
@@ -76,14 +77,15 @@ fn read_text(alloc: Global, names: &Names, text: &str) -> Result<State, ReadStat
     }
 }
 
-/// Whether a state is of a start: what no rule changes is as there.
+/// Whether a state is of a start: what no rule changes is as there, and no label is outside the bounds.
 fn is_of_start(alloc: Global, start: &Start, state: &State) -> Result<bool, AllocError>
-    ensures { IfOk result (λ is. IsTrue is → IsOfStart start.now state.now) }
+    ensures start { IfOk result (λ is. IsTrue is → IsOfStart start.now state.now) }
+    ensures within { IfOk result (λ is. IsTrue is → HasLabelsWithin state.now) }
 {
     let opening = start.opening(alloc)?;
     let is = has_same_kind(&opening, state) && has_fixed_subjects(&opening, state);
     drop(opening);
-    Ok(is)
+    Ok(is && has_labels_within(state))
 }
 
 /// The start that opens with a state.
@@ -108,7 +110,7 @@ fn begin(alloc: Global, state: State) -> Result<Start, ReadStateFault>
 /// # Errors
 /// - `Line` where the text isn't that of a state: the first line at which it differs, or that says nothing.
 /// - `OtherStart` where no rules lead from the start to such a state: profile, bounds of labels, or what no rule
-///   changes of subjects is not the start's.
+///   changes of subjects is not the start's, or a label is outside the bounds.
 /// - `NotSecure` where the state isn't secure.
 /// - `Memory` as soon as an allocation fails.
 pub fn read_state(
@@ -119,6 +121,7 @@ pub fn read_state(
 ) -> Result<Start, ReadStateFault>
     ensures text { IfOk result (λ begun. state_text names.now begun ≡ bytes.now) }
     ensures start { IfOk result (λ begun. IsOfStart start.now begun) }
+    ensures within { IfOk result (λ begun. HasLabelsWithin begun) }
     ensures secure { IfOk result (λ begun. IsSecure begun) }
 {
     let Ok(text) = str::from_utf8(bytes) else {

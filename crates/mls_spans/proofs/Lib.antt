@@ -18,3 +18,4 @@ mod Turned
 mod Pairing
 mod EverRows
 mod EverListed
+mod TrustUses

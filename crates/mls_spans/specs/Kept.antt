@@ -1,6 +1,6 @@
 -- What is kept of the uses of permissions, and what an entry makes of it.
-use Rattle.std.specs.Prelude.{◌≡◌, ℕ, ◌+◌, ◌*◌, ◌<◌, Bool, false, ◌&&◌, ◌||◌, List, [], ◌∷◌, map, filter, Option, Some, None}
-use Rattle.std.specs.Prelude.{is_some, if◌then◌else◌}
+use Rattle.std.specs.Prelude.{◌≡◌, ℕ, ◌+◌, ◌*◌, ◌<◌, Bool, false, ◌&&◌, ◌||◌, List, [], ◌∷◌, map, filter, Option}
+use Rattle.std.specs.Prelude.{Some, None, is_some, if◌then◌else◌}
 use Rattle.std.specs.BTreeMap.{get}
 use Rattle.std.specs.Ordering.{nat_cmp}
 use Rattle.mls_requests.specs.declared.action.Action.{Action}

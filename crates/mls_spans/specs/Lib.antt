@@ -8,8 +8,10 @@ pub mod Listings
 pub mod Opening
 pub mod Uses
 pub mod Kept
+pub mod Trust
 pub mod UsageLines
 pub mod UsageListings
+pub mod UsageChosen
 pub mod Windows
 pub mod Turning
 pub mod Permissions

@@ -5,8 +5,8 @@ use Rattle.json.specs.Token.{Token}
 use Rattle.mls_lines.specs.Names.{Names}
 use Rattle.mls_marks.specs.declared.row.Row.{Row}
 use Rattle.mls_requests.specs.ActionWords.{action_word}
-use Rattle.mls_rows.specs.Members.{access_members, list_member, mode_member, null_member, object_of, subject_member, text_member}
-use Rattle.mls_rows.specs.Members.{two_members}
+use Rattle.mls_rows.specs.Members.{access_members, list_member, mode_member, null_member, object_of, subject_member}
+use Rattle.mls_rows.specs.Members.{text_member, two_members}
 use Rattle.mls_rows.specs.Times.{entry_members}
 use Rattle.mls_tables.specs.Triples.{Triple}
 use Rattle.mls_spans.specs.declared.span.Ending.{Ending}

@@ -31,8 +31,8 @@ abbrev pub AreAmong : List Span → List ℕ → Type 0
 AreAmong spans places = (i : ℕ) (d : Span) → i < length spans → IsTrue (is_open (get_or spans i d))
     → IsTrue (list_any (λ k. i == k) places)
 
--- Some of the spans are ended where they are lost, and it is left to look at these places: what is kept and what is left
--- has the places of all that aren't ended. (own)
+-- Some of the spans are ended where they are lost, and it is left to look at these places: what is kept and what is
+-- left has the places of all that aren't ended. (own)
 pub record Sweeps (w : State) (x : Ending) (first spans : List Span) (left kept : List ℕ) : Type 0 where
   pub same : map (closed w x) spans ≡ map (closed w x) first
   pub lost : (i : ℕ) (d : Span) → i < length spans → IsTrue (is_lost w (get_or spans i d))

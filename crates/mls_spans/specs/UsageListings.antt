@@ -8,9 +8,11 @@ use Rattle.mls_replay.specs.Replays.{Replayed}
 use Rattle.mls_rows.specs.declared.form.Form.{Form}
 use Rattle.mls_rows.specs.declared.listing.Listing.{Listing}
 use Rattle.mls_spans.specs.Asked.{is_some_state}
+use Rattle.mls_spans.specs.Trust.{trust_bytes, trust_uses}
 use Rattle.mls_spans.specs.UsageLines.{usages_bytes, ending_row}
 use Rattle.mls_spans.specs.Uses.{is_unused, usages}
 use Rattle.mls_spans.specs.declared.states.States.{States}
+use Rattle.mls_spans.specs.declared.trust.TrustUse.{TrustUse}
 use Rattle.mls_spans.specs.declared.usage.Usage.{Usage}
 
 -- The entries below a number, where one is told, or else all. An entry's number is its place. (own)
@@ -30,10 +32,14 @@ usages_seen r states = if is_some_state states then usages r.state (entries_betw
 abbrev pub count_unused : List Usage → ℕ
 count_unused found = length (filter is_unused found)
 
--- Permissions in a form, with times by the rows of marks, where there are some, then how many they are and how many of
--- them were never granted; it is positive where that is none. (own)
-pub record IsUsage (form : Form) (names : Names) (rows : Option (List Row)) (found : List Usage) (listing : Listing)
-    : Type 0 where
-  pub bytes : listing.bytes.items
-      ≡ usages_bytes form names rows found ++ ending_row form (length found) (count_unused found)
+-- The uses of trust in some states of a replay; none where there is no such state. (own)
+abbrev pub trust_seen : Replayed → States → List TrustUse
+trust_seen r states = if is_some_state states then trust_uses r.state (entries_between states r.entries) else []
+
+-- Permissions in a form, with times by the rows of marks, where there are some, the uses of trust, then how many
+-- permissions there are and how many of them were never granted; it is positive where that is none. (own)
+pub record IsUsage (form : Form) (names : Names) (rows : Option (List Row)) (found : List Usage)
+    (trust : List TrustUse) (listing : Listing) : Type 0 where
+  pub bytes : listing.bytes.items ≡ usages_bytes form names rows found ++ trust_bytes form names rows trust
+      ++ ending_row form (length found) (count_unused found)
   pub positive : listing.is_positive ≡ (count_unused found == 0)

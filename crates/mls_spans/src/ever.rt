@@ -178,8 +178,8 @@ fn tell_object(
 /// Who could ever get an object over a replay, and when: a row in this form for each subject and mode of which one of
 /// some states has the permission on it, with the spans of states in which the get would be granted, as long as they
 /// are, that have one of the states. With the journal's marks the times of their entries are told. The replay looks at
-/// the first of the states. The object is named by a name of the start, or by `#` and its number; without a mode all are
-/// asked for. The answer is a positive one where there is such a span.
+/// the first of the states. The object is named by a name of the start, or by `#` and its number; without a mode all
+/// are asked for. The answer is a positive one where there is such a span.
 ///
 /// # Errors
 /// - `Object` where the word is neither a name of the start's objects nor `#` and a number.

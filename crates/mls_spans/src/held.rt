@@ -92,8 +92,8 @@ fn list_replay(
 }
 
 /// The spans of states in which an access is held over a replay, as long as they are, a row each in this form: those
-/// that a filter asks for. Where there are marks the times of entries are told. The answer is a positive one where there
-/// is such a span.
+/// that a filter asks for. Where there are marks the times of entries are told. The answer is a positive one where
+/// there is such a span.
 ///
 /// # Errors
 /// - `AtMost` with the number of entries, where the number of the first state that is asked about is above it.

@@ -96,7 +96,7 @@ impl States {
     }
 
     /// Whether there is one of them.
-    pub(crate) fn are_some(&self) -> bool
+    pub fn are_some(&self) -> bool
         ensures { result ≡ is_some_state self.now }
     {
         match self.last {

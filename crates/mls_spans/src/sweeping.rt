@@ -1,5 +1,6 @@
 //! The spans that a state ends.
-ghost use Rattle.std.specs.Prelude.{◌≡◌, ◌<◌, ◌&&◌, ◌∷◌, ℕ, List, map, length, get_or, nat_lt, Some, IsTrue, IfOk, OnOk};
+ghost use Rattle.std.specs.Prelude.{◌≡◌, ◌<◌, ◌&&◌, ◌∷◌, ℕ, List, map, length, get_or, nat_lt, Some, IsTrue, IfOk};
+ghost use Rattle.std.specs.Prelude.{OnOk};
 ghost use Rattle.mls_spans.specs.Sweeping.{closed, AreAmong, Sweeps};
 ghost use Rattle.mls_spans.specs.Sweeping.{is_lost as is_lost_in};
 ghost use Rattle.mls_spans.specs.declared.span.Span.{Span as SpanView};
@@ -19,7 +20,8 @@ fn is_lost(state: &State, span: &Span) -> bool
 /// Whether the span at a place isn't ended yet, and its access is no longer held.
 fn is_lost_at(spans: &[Span], at: usize, state: &State) -> bool
     ensures within { IsTrue result → at < length spans.now }
-    ensures lost { (d : SpanView) → result ≡ (nat_lt at (length spans.now) && is_lost_in state.now (get_or spans.now at d)) }
+    ensures lost { (d : SpanView) → result
+        ≡ (nat_lt at (length spans.now) && is_lost_in state.now (get_or spans.now at d)) }
 {
     if at >= spans.len() {
         return false;

@@ -3,23 +3,26 @@ ghost use Rattle.std.specs.Prelude.{◌≡◌, ◌++◌, codes, length, filter, 
 ghost use Rattle.mls_rows.specs.Members.{Adds, two_members};
 ghost use Rattle.mls_rows.specs.Times.{entry_members, rows_lent};
 ghost use Rattle.mls_spans.specs.Members.{ending_members, usage_members};
+ghost use Rattle.mls_rows.specs.Rows.{bytes_of, form_of};
+ghost use Rattle.mls_spans.specs.Trust.{trust_bytes};
 ghost use Rattle.mls_spans.specs.UsageLines.{ending_row, ending_text, usage_line, usages_bytes};
 ghost use Rattle.mls_spans.specs.Uses.{is_unused};
 
+use crate::trust::TrustUse;
 use crate::usage::Usage;
 use crate::usage_lines::{push_ending, push_usage};
 use crate::uses::Uses;
 use json::Writer;
 use mls_lines::Names;
 use mls_marks::Marks;
-use mls_rows::{Form, Plain, Told, write_access, write_entry, write_two, written};
+use mls_rows::{Form, Output, Plain, Told, write_access, write_entry, write_two, written};
 use std::alloc::{AllocError, Global};
 
 /// How many permissions there are, and how many of them were never granted.
 #[derive(Clone, Copy)]
-struct Counted {
-    count: u64,
-    unused: u64,
+pub(crate) struct Counted {
+    pub count: u64,
+    pub unused: u64,
 }
 
 /// Writes how many gets were granted and denied.
@@ -102,23 +105,44 @@ pub fn count_unused(usages: &[Usage]) -> u64
     count
 }
 
-/// Permissions, with times where there are marks, and how many they and those never granted are.
+/// An output with the uses of trust, with times where there are marks.
+fn with_trust(
+    output: Output,
+    names: &Names,
+    marks: Option<&Marks>,
+    trust: &[TrustUse],
+) -> Result<Output, AllocError>
+    ensures form { IfOk result (λ new. form_of new ≡ form_of output) }
+    ensures bytes { IfOk result (λ new. bytes_of new
+        ≡ bytes_of output ++ trust_bytes (form_of output) names.now (rows_lent marks.entry) trust.now) }
+{
+    let mut written = output;
+    for used in trust {
+        written = written.with(names, marks, used)?;
+    }
+    Ok(written)
+}
+
+/// Permissions, with times where there are marks, the uses of trust, and how many permissions there are and how many of
+/// them were never granted.
 pub(crate) fn usages_written(
     alloc: Global,
     form: Form,
     names: &Names,
     marks: Option<&Marks>,
     usages: &[Usage],
+    trust: &[TrustUse],
     unused: u64,
 ) -> Result<Vec<u8>, AllocError>
     ensures { IfOk result (λ bytes. bytes.items ≡ usages_bytes form names.now (rows_lent marks.entry) usages.now
-        ++ ending_row form (length usages.now) unused) }
+        ++ trust_bytes form names.now (rows_lent marks.entry) trust.now ++ ending_row form (length usages.now) unused) }
 {
     let counted = Counted {
         count: usages.len() as u64,
         unused,
     };
     let output = written(alloc, form, names, marks, usages)?;
+    let output = with_trust(output, names, marks, trust)?;
     let output = output.with_plain(&counted)?;
     Ok(output.into_bytes())
 }

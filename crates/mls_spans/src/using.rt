@@ -2,11 +2,14 @@
 ghost use Rattle.std.specs.Prelude.{◌≡◌, drop as dropped, IfOk};
 ghost use Rattle.mls_rows.specs.Times.{rows_lent};
 ghost use Rattle.mls_spans.specs.Uses.{usages as usages_in};
-ghost use Rattle.mls_spans.specs.UsageListings.{IsUsage, up_to, usages_seen};
+ghost use Rattle.mls_spans.specs.Trust.{trust_uses};
+ghost use Rattle.mls_spans.specs.UsageListings.{IsUsage, trust_seen, up_to, usages_seen};
 ghost use Rattle.mls_spans.specs.UsageListings.{entries_between as between};
 
 use crate::states::States;
 use crate::tallying::tally_over;
+use crate::trust::TrustUse;
+use crate::trusting::trust_over;
 use crate::usage::{Usage, usages_by};
 use crate::usage_rows::{count_unused, usages_written};
 use mls_lines::Names;
@@ -38,14 +41,14 @@ fn entries_from(entries: &[Entry], first: u64) -> &[Entry]
 }
 
 /// The entries between the first and the last of some states.
-pub(crate) fn entries_between(entries: &[Entry], states: States) -> &[Entry]
+pub fn entries_between(entries: &[Entry], states: States) -> &[Entry]
     ensures { result.now ≡ between states entries.now }
 {
     entries_from(entries_up_to(entries, states.last), states.first)
 }
 
-/// How the permissions over entries were used, from a state: each permission of one of the states, by subject, object and
-/// mode.
+/// How the permissions over entries were used, from a state: each permission of one of the states, by subject, object
+/// and mode.
 ///
 /// # Errors
 /// `AllocError` where an allocation failed.
@@ -63,7 +66,14 @@ pub fn usages_over(
 }
 
 /// How the permissions of some states of a replay were used.
-fn usages_of(alloc: Global, replay: &Replay, states: States) -> Result<Vec<Usage>, AllocError>
+///
+/// # Errors
+/// `AllocError` where an allocation failed.
+pub(crate) fn usages_of(
+    alloc: Global,
+    replay: &Replay,
+    states: States,
+) -> Result<Vec<Usage>, AllocError>
     ensures { IfOk result (λ usages. usages.items ≡ usages_seen replay.now states) }
 {
     if !states.are_some() {
@@ -76,18 +86,34 @@ fn usages_of(alloc: Global, replay: &Replay, states: States) -> Result<Vec<Usage
     )
 }
 
-/// The answer that lists permissions.
+/// How trust was used in some states of a replay.
+fn trust_in(alloc: Global, replay: &Replay, states: States) -> Result<Vec<TrustUse>, AllocError>
+    ensures { IfOk result (λ trust. trust.items ≡ trust_seen replay.now states) }
+{
+    if !states.are_some() {
+        return Ok(Vec::new(alloc));
+    }
+    trust_over(
+        alloc,
+        replay.state(),
+        entries_between(replay.entries(), states),
+    )
+}
+
+/// The answer that lists permissions, and the uses of trust.
 fn list_permissions(
     alloc: Global,
     form: Form,
     names: &Names,
     marks: Option<&Marks>,
     usages: &[Usage],
+    trust: &[TrustUse],
 ) -> Result<Listing, AllocError>
-    ensures { IfOk result (λ listing. IsUsage form names.now (rows_lent marks.entry) usages.now listing) }
+    ensures { IfOk result
+        (λ listing. IsUsage form names.now (rows_lent marks.entry) usages.now trust.now listing) }
 {
     let unused = count_unused(usages);
-    let bytes = usages_written(alloc, form, names, marks, usages, unused)?;
+    let bytes = usages_written(alloc, form, names, marks, usages, trust, unused)?;
     Ok(Listing {
         bytes,
         is_positive: unused == 0,
@@ -107,20 +133,23 @@ pub fn list_usages(
     first: &State,
     entries: &[Entry],
 ) -> Result<Listing, AllocError>
-    ensures { IfOk result
-        (λ listing. IsUsage form names.now (rows_lent marks.entry) (usages_in first.now entries.now) listing) }
+    ensures { IfOk result (λ listing. IsUsage form names.now (rows_lent marks.entry)
+        (usages_in first.now entries.now) (trust_uses first.now entries.now) listing) }
 {
     let usages = usages_over(alloc, first, entries)?;
-    let listing = list_permissions(alloc, form, names, marks, &usages);
+    let trust = trust_over(alloc, first, entries)?;
+    let listing = list_permissions(alloc, form, names, marks, &usages, &trust);
+    drop(trust);
     drop(usages);
     listing
 }
 
-/// How the permissions of some states of a replay were used, by these names, a row each in this form: of each permission
-/// of one of the states, how many of its gets were granted and how many were denied while it was there, and which was
-/// the last; what the first of the states has as a current access counts as one granted. Where there are marks the time
-/// of the last is told. The replay looks at the first of the states. The answer is a positive one where each permission
-/// was granted, also where there is none.
+/// How the permissions of some states of a replay were used, by these names, a row each in this form: of each
+/// permission of one of the states, how many of its gets were granted and how many were denied while it was there, and
+/// which was the last; what the first of the states has as a current access counts as one granted. Then of each subject
+/// that is trusted, how many entries its trust granted, and which was the last. Where there are marks the time of the
+/// last is told. The replay looks at the first of the states. The answer is a positive one where each permission was
+/// granted, also where there is none.
 ///
 /// # Errors
 /// `AllocError` where an allocation failed.
@@ -132,11 +161,13 @@ pub fn list_usage(
     marks: Option<&Marks>,
     states: States,
 ) -> Result<Listing, AllocError>
-    ensures { IfOk result
-        (λ listing. IsUsage form names.now (rows_lent marks.entry) (usages_seen replay.now states) listing) }
+    ensures { IfOk result (λ listing. IsUsage form names.now (rows_lent marks.entry) (usages_seen replay.now states)
+        (trust_seen replay.now states) listing) }
 {
     let usages = usages_of(alloc, replay, states)?;
-    let listing = list_permissions(alloc, form, names, marks, &usages);
+    let trust = trust_in(alloc, replay, states)?;
+    let listing = list_permissions(alloc, form, names, marks, &usages, &trust);
+    drop(trust);
     drop(usages);
     listing
 }

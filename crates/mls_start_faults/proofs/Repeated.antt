@@ -25,3 +25,7 @@ pushed_where r old new so so' w w' is same added =
 -- a place is added, told by what is equal
 pub pushed : {A B : Type 0} (r : Result A B) (old new : List Located) (w w' : Wrong) → w ≡ w' → OnOk r (new ≡ old ++ located w) → OnOk r (new ≡ old ++ located w')
 pushed r old new w w' same added = subst (λ it. OnOk r (new ≡ old ++ located it)) same added
+
+-- places are added that are one place, told by what is equal
+pub pushed_as : {A B : Type 0} (r : Result A B) (old new places : List Located) (w w' : Wrong) → w ≡ w' → located w' ≡ places → OnOk r (new ≡ old ++ located w) → OnOk r (new ≡ old ++ places)
+pushed_as r old new places w w' same told added = subst (λ it. OnOk r (new ≡ old ++ it)) (ap located same ∙ told) added

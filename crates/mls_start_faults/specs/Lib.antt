@@ -7,6 +7,7 @@ pub mod Members
 pub mod NameFaults
 pub mod Naming
 pub mod PlaceRows
+pub mod Permissions
 pub mod Places
 pub mod Repeated
 pub mod Rows

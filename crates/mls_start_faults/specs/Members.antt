@@ -1,37 +1,58 @@
--- What is wrong first with the members of a start file.
-use Rattle.std.specs.Prelude.{ℕ, Bool, true, false, ◌==◌, ◌||◌, List, [], ◌∷◌, codes, Option, Some, None, if◌then◌else◌}
+-- What is wrong with the members of a start file.
+use Rattle.std.specs.Prelude.{ℕ, Bool, true, false, ◌==◌, ◌||◌, List, [], ◌∷◌, ◌++◌, codes, Option, Some, None}
+use Rattle.std.specs.Prelude.{if◌then◌else◌}
 use Rattle.mls_facts.specs.Numbered.{holds_of}
-use Rattle.serde_json.specs.Data.{Data, Items, no_items, item}
+use Rattle.serde_json.specs.Data.{Data, Items, Members, no_items, item}
 use Rattle.serde_json.specs.Find.{get, as_number, as_u64, as_array, as_object}
 use Rattle.mls_start_text.specs.Each.{having}
-use Rattle.mls_start_faults.specs.Places.{Located, key, Wrong, located}
-use Rattle.mls_start_faults.specs.Rows.{within, here, required, items_wrong, members_wrong, scheme_wrong, row_wrong}
+use Rattle.mls_start_text.specs.Looking.{list_of}
+use Rattle.mls_start_faults.specs.Each.{at_each}
+use Rattle.mls_start_faults.specs.Places.{Located, key, located, on_list}
+use Rattle.mls_start_faults.specs.Rows.{part_places, scheme_places, rows_at, others_places}
 use Rattle.mls_start_faults.specs.declared.rows.Row.{Row}
 use Rattle.mls_start_faults.specs.declared.rows.Row.TheVariants.{Subject, Object, Cell}
 
--- A list of rows. (own)
-abbrev pub rows_wrong : Row → Data → Option Wrong
-rows_wrong row d = items_wrong (row_wrong row) (as_array d)
+-- The places of a required scheme. (own)
+abbrev pub scheme_at : List ℕ → Option Data → List Located
+scheme_at k None = located (on_list k (codes "missing"))
+scheme_at k (Some d) = part_places (key k ∷ []) (scheme_places (key k ∷ []) d) (as_object d)
 
--- Whether a value is a list without items. (own)
+-- The places of what is to be a list of rows. (own)
+abbrev pub listed_at : Row → List ℕ → Option Items → List Located
+listed_at row k None = located (on_list k (codes "not a list"))
+listed_at row k (Some items) = at_each (rows_at row k) 0 (list_of items)
+
+-- The places of a required list of rows. (own)
+abbrev pub list_at : Row → List ℕ → Option Data → List Located
+list_at row k None = located (on_list k (codes "missing"))
+list_at row k (Some d) = listed_at row k (as_array d)
+
+-- A value is a list without items. (own)
 abbrev pub has_none : Option Items → Bool
 has_none None = false
 has_none (Some no_items) = true
 has_none (Some (item d items)) = false
 
--- The list of objects, which has a root. (own)
-abbrev pub objects_wrong : Data → Option Wrong
-objects_wrong d = if has_none (as_array d) then here (codes "empty") else rows_wrong Object d
+-- The places of the objects, of which there is a root. (own)
+abbrev pub objects_at : Option Data → List Located
+objects_at None = located (on_list (codes "objects") (codes "missing"))
+objects_at (Some d) =
+    if has_none (as_array d) then located (on_list (codes "objects") (codes "empty"))
+    else listed_at Object (codes "objects") (as_array d)
 
--- A member that may be left out. (own)
-abbrev pub optional : List ℕ → (Data → Option Wrong) → Option Data → Option Wrong
-optional k wrong None = None
-optional k wrong (Some d) = within (key k) (wrong d)
+-- The places of the accesses, which may be left out. (own)
+abbrev pub accesses_at : Option Data → List Located
+accesses_at None = []
+accesses_at (Some d) = listed_at Cell (codes "accesses") (as_array d)
 
--- A profile. (own)
-abbrev pub profile_wrong : Data → Option Wrong
-profile_wrong d =
-    if holds_of (λ n. (n == 1) || (n == 2)) (having (as_number d) as_u64) then None else here (codes "not 1 or 2")
+-- A value is the number of a profile. (own)
+abbrev pub is_profile : Data → Bool
+is_profile d = holds_of (λ n. (n == 1) || (n == 2)) (having (as_number d) as_u64)
+
+-- The place of the profile, which may be left out. (own)
+abbrev pub profile_at : Option Data → List Located
+profile_at None = []
+profile_at (Some d) = if is_profile d then [] else located (on_list (codes "profile") (codes "not 1 or 2"))
 
 -- The keys of a start file's members. (own)
 abbrev pub file_keys : List (List ℕ)
@@ -39,27 +60,31 @@ file_keys =
     codes "security" ∷ codes "integrity" ∷ codes "subjects" ∷ codes "objects" ∷ codes "matrix" ∷ codes "accesses"
     ∷ codes "profile" ∷ []
 
--- What is wrong with each of the members of a start file, in their order. (own)
-abbrev pub known_wrong : Data → List (Option Wrong)
-known_wrong d =
-    required (codes "security") scheme_wrong (get (codes "security") d)
-    ∷ required (codes "integrity") scheme_wrong (get (codes "integrity") d)
-    ∷ required (codes "subjects") (rows_wrong Subject) (get (codes "subjects") d)
-    ∷ required (codes "objects") objects_wrong (get (codes "objects") d)
-    ∷ required (codes "matrix") (rows_wrong Cell) (get (codes "matrix") d)
-    ∷ optional (codes "accesses") (rows_wrong Cell) (get (codes "accesses") d)
-    ∷ optional (codes "profile") profile_wrong (get (codes "profile") d)
-    ∷ []
+-- The places of the schemes. (own)
+abbrev pub schemes_at : Data → List Located
+schemes_at d =
+    scheme_at (codes "security") (get (codes "security") d) ++ scheme_at (codes "integrity") (get (codes "integrity") d)
 
--- A start file. (own)
-abbrev pub file_wrong : Data → Option Wrong
-file_wrong d = members_wrong (known_wrong d) file_keys (as_object d)
+-- The places of the subjects and the objects. (own)
+abbrev pub known_at : Data → List Located
+known_at d = list_at Subject (codes "subjects") (get (codes "subjects") d) ++ objects_at (get (codes "objects") d)
 
--- The place of what is wrong, if anything. (own)
-abbrev pub wrong_place : Option Wrong → List Located
-wrong_place None = []
-wrong_place (Some w) = located w
+-- The places of the matrix and the accesses. (own)
+abbrev pub cells_at : Data → List Located
+cells_at d = list_at Cell (codes "matrix") (get (codes "matrix") d) ++ accesses_at (get (codes "accesses") d)
 
--- The place of the first thing that is wrong with a start file's members. (own)
+-- The places of the lists. (own)
+abbrev pub lists_at : Data → List Located
+lists_at d = known_at d ++ cells_at d
+
+-- The places of the other members. (own)
+abbrev pub rest_at : Data → Members → List Located
+rest_at d members = profile_at (get (codes "profile") d) ++ others_places [] file_keys members
+
+-- The places of a start file that is an object. (own)
+abbrev pub file_at : Data → Members → List Located
+file_at d members = schemes_at d ++ (lists_at d ++ rest_at d members)
+
+-- The places of what is wrong with a start file's members, in the file's order. (own)
 abbrev pub members_found : Data → List Located
-members_found d = wrong_place (file_wrong d)
+members_found d = part_places [] (file_at d) (as_object d)

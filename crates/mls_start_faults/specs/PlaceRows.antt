@@ -8,7 +8,8 @@ use Rattle.mls_rows.specs.Rows.{row_bytes}
 use Rattle.mls_rows.specs.declared.form.Form.{Form}
 use Rattle.mls_start_text.specs.declared.load_fault.LoadFault.{LoadFault}
 use Rattle.serde_json.specs.Data.{Data}
-use Rattle.mls_start_faults.specs.Found.{places_found}
+use Rattle.mls_start_text.specs.Texts.{SaidFile}
+use Rattle.mls_start_faults.specs.Found.{file_found, places_found}
 use Rattle.mls_start_faults.specs.Places.{Located}
 use Rattle.mls_start_faults.specs.Repeated.{repeated_found}
 
@@ -39,3 +40,7 @@ places_bytes form fault d = flat_map (located_row form) (places_found fault d)
 -- What is printed in a form of the members that a start file has more than once in one object. (own)
 abbrev pub repeated_bytes : Form → Json → List ℕ
 repeated_bytes form j = flat_map (located_row form) (repeated_found j)
+
+-- What is printed in a form of the places of a file that has the members of one, for its fault. (own)
+abbrev pub file_bytes : Form → LoadFault → SaidFile → List ℕ
+file_bytes form fault file = flat_map (located_row form) (file_found fault file)

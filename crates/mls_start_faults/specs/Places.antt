@@ -5,6 +5,8 @@ use Rattle.std.specs.Prelude.{if◌then◌else◌}
 use Rattle.std.specs.Fmt.{decimal}
 use Rattle.std.specs.List.{flat_map}
 use Rattle.std.proofs.Common.{Bor}
+use Rattle.mls_start_faults.specs.declared.place.Part.{Part}
+use Rattle.mls_start_faults.specs.declared.place.Part.TheVariants.{File, Scheme, Row}
 use Rattle.mls_start_faults.specs.declared.place.Place.{Place}
 use Rattle.mls_start_faults.specs.declared.place.Spot.{Spot}
 use Rattle.mls_start_faults.specs.declared.place_row.PlaceRow.{PlaceRow}
@@ -57,6 +59,10 @@ located w = (pointer w.0, w.1) ∷ []
 abbrev pub on_list : List ℕ → List ℕ → Wrong
 on_list list words = (key list ∷ [], words)
 
+-- An item of a list of the file. (own)
+abbrev pub on_row : List ℕ → ℕ → List ℕ → Wrong
+on_row list n words = (key list ∷ number n ∷ [], words)
+
 -- A member of an object in a list of the file. (own)
 abbrev pub on_member : List ℕ → ℕ → List ℕ → List ℕ → Wrong
 on_member list n member words = (key list ∷ number n ∷ key member ∷ [], words)
@@ -94,3 +100,9 @@ place_view p = (key p.list.now ∷ number_steps p.row ++ (spot_view p.spot).0, p
 -- What is told of a place, as contracts see it. (own)
 abbrev pub located_view : PlaceRow → Located
 located_view row = (string_bytes row.pointer, row.words.now)
+
+-- The steps to a part of a file that has members. (own)
+abbrev pub part_steps : Part → List Step
+part_steps File = []
+part_steps (Scheme scheme) = key scheme.now ∷ []
+part_steps (Row list n) = key list.now ∷ number n ∷ []

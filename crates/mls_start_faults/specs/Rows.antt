@@ -1,133 +1,119 @@
--- What is wrong first with a value that is to have the members of a part of a start file.
-use Rattle.std.specs.Prelude.{ℕ, suc, ◌==◌, List, [], ◌∷◌, codes, Option, Some, None, option_map, is_some}
-use Rattle.std.specs.Prelude.{if◌then◌else◌}
-use Rattle.std.specs.List.{list_any}
-use Rattle.std.specs.Option.{option_or}
+-- What is wrong with a value that is to have the members of a part of a start file.
+use Rattle.std.specs.Prelude.{ℕ, ◌==◌, List, [], ◌∷◌, ◌++◌, codes, Option, Some, None, is_some, if◌then◌else◌}
+use Rattle.std.specs.List.{flat_map, list_any}
 use Rattle.std.specs.Str.{bytes_eq}
 use Rattle.serde_json.specs.Data.{Data, Items, Members, no_members, member}
 use Rattle.serde_json.specs.Find.{get, as_null, as_bool, as_str, as_array, as_object}
 use Rattle.mls_start_text.specs.Looking.{list_of}
-use Rattle.mls_start_faults.specs.Places.{Step, key, number, Wrong}
+use Rattle.mls_start_faults.specs.Each.{at_each}
+use Rattle.mls_start_faults.specs.Places.{Step, Located, key, number, located}
 use Rattle.mls_start_faults.specs.declared.rows.Row.{Row}
 use Rattle.mls_start_faults.specs.declared.rows.Row.TheVariants.{Subject, Object, Cell}
 
--- What is wrong in a part, from the whole that it is a part of. (own)
-abbrev pub within : Step → Option Wrong → Option Wrong
-within step found = option_map (λ w. (step ∷ w.0, w.1)) found
+-- The words for a required member that is to be a text, where it isn't. (own)
+abbrev pub text_words : Option Data → Option (List ℕ)
+text_words None = Some (codes "missing")
+text_words (Some d) = if is_some (as_str d) then None else Some (codes "not a string")
 
--- These words, of a value itself. (own)
-abbrev pub here : List ℕ → Option Wrong
-here words = Some ([], words)
+-- The words for the required member that is to be true or false. (own)
+abbrev pub bool_words : Option Data → Option (List ℕ)
+bool_words None = Some (codes "missing")
+bool_words (Some d) = if is_some (as_bool d) then None else Some (codes "not true or false")
 
--- The first of these that there is. (own)
-abbrev pub first_found : List (Option Wrong) → Option Wrong
-first_found [] = None
-first_found (found ∷ more) = option_or found (first_found more)
+-- The words for the root's parent, which is null. (own)
+abbrev pub null_words : Option Data → Option (List ℕ)
+null_words None = Some (codes "missing")
+null_words (Some d) = if is_some (as_null d) then None else Some (codes "not null")
 
--- A member by what it is to be: these words where it is there and isn't. (own)
-abbrev pub required : List ℕ → (Data → Option Wrong) → Option Data → Option Wrong
-required k wrong None = within (key k) (here (codes "missing"))
-required k wrong (Some d) = within (key k) (wrong d)
+-- The words for the parent of the object of a number: null of the root, a text of any other. (own)
+abbrev pub parent_words : ℕ → Option Data → Option (List ℕ)
+parent_words n found = if n == 0 then null_words found else text_words found
 
--- A text. (own)
-abbrev pub text_wrong : Data → Option Wrong
-text_wrong d = if is_some (as_str d) then None else here (codes "not a string")
+-- The place of a member of the part that these steps lead to, where there are words for it. (own)
+abbrev pub member_places : List Step → List ℕ → Option (List ℕ) → List Located
+member_places steps k None = []
+member_places steps k (Some words) = located (steps ++ key k ∷ [], words)
 
--- True or false. (own)
-abbrev pub bool_wrong : Data → Option Wrong
-bool_wrong d = if is_some (as_bool d) then None else here (codes "not true or false")
+-- The place of an item that is to be a text, of a member that is a list. (own)
+abbrev pub item_places : List Step → List ℕ → ℕ → Data → List Located
+item_places steps k n d =
+    if is_some (as_str d) then [] else located (steps ++ key k ∷ number n ∷ [], codes "not a string")
 
--- Null. (own)
-abbrev pub null_wrong : Data → Option Wrong
-null_wrong d = if is_some (as_null d) then None else here (codes "not null")
+-- The places of a member that is to be a list of texts. (own)
+abbrev pub list_places : List Step → List ℕ → Option Items → List Located
+list_places steps k None = member_places steps k (Some (codes "not a list"))
+list_places steps k (Some items) = at_each (item_places steps k) 0 (list_of items)
 
--- The first of the values in a list, counted from n, with which something is wrong. (own)
-abbrev pub first_of : (ℕ → Data → Option Wrong) → ℕ → List Data → Option Wrong
-first_of wrong n [] = None
-first_of wrong n (d ∷ values) = option_or (within (number n) (wrong n d)) (first_of wrong (suc n) values)
+-- The places of a required member that is to be a list of texts. (own)
+abbrev pub texts_places : List Step → List ℕ → Option Data → List Located
+texts_places steps k None = member_places steps k (Some (codes "missing"))
+texts_places steps k (Some d) = list_places steps k (as_array d)
 
--- A list, by what is wrong with its values. (own)
-abbrev pub items_wrong : (ℕ → Data → Option Wrong) → Option Items → Option Wrong
-items_wrong wrong None = here (codes "not a list")
-items_wrong wrong (Some items) = first_of wrong 0 (list_of items)
-
--- A list of texts. (own)
-abbrev pub texts_wrong : Data → Option Wrong
-texts_wrong d = items_wrong (λ n. text_wrong) (as_array d)
-
--- A required member that is a text. (own)
-abbrev pub text_at : List ℕ → Data → Option Wrong
-text_at k d = required k text_wrong (get k d)
-
--- A required member that is a list of texts. (own)
-abbrev pub texts_at : List ℕ → Data → Option Wrong
-texts_at k d = required k texts_wrong (get k d)
+-- The place of a member whose key isn't one of these. (own)
+abbrev pub unknown_places : List Step → List (List ℕ) → List ℕ → List Located
+unknown_places steps known k =
+    if list_any (bytes_eq k) known then [] else located (steps ++ key k ∷ [], codes "unknown member")
 
 -- The keys of members. (own)
 abbrev pub keys_of : Members → List (List ℕ)
 keys_of no_members = []
 keys_of (member k d members) = k ∷ keys_of members
 
--- The first of some keys that isn't one of these. (own)
-abbrev pub first_unknown : List (List ℕ) → List (List ℕ) → Option (List ℕ)
-first_unknown known [] = None
-first_unknown known (k ∷ keys) = if list_any (bytes_eq k) known then first_unknown known keys else Some k
+-- The places of the members beside those of these keys. (own)
+abbrev pub others_places : List Step → List (List ℕ) → Members → List Located
+others_places steps known members = flat_map (unknown_places steps known) (keys_of members)
 
--- What is wrong with a member of an unknown key. (own)
-abbrev pub unknown_wrong : Option (List ℕ) → Option Wrong
-unknown_wrong None = None
-unknown_wrong (Some k) = within (key k) (here (codes "unknown member"))
+-- The place of a required member that is to be a text. (own)
+abbrev pub text_places : List Step → List ℕ → Data → List Located
+text_places steps k d = member_places steps k (text_words (get k d))
 
--- What is wrong with members beside those of these keys. (own)
-abbrev pub unknown_among : List (List ℕ) → Members → Option Wrong
-unknown_among known members = unknown_wrong (first_unknown known (keys_of members))
+-- The places of a scheme that is an object. (own)
+abbrev pub scheme_places : List Step → Data → Members → List Located
+scheme_places steps d members =
+    texts_places steps (codes "levels") (get (codes "levels") d)
+    ++ (texts_places steps (codes "categories") (get (codes "categories") d)
+    ++ others_places steps (codes "levels" ∷ codes "categories" ∷ []) members)
 
--- An object, by what is wrong with its members, and behind that by its other members. (own)
-abbrev pub members_wrong : List (Option Wrong) → List (List ℕ) → Option Members → Option Wrong
-members_wrong wrong known None = here (codes "not an object")
-members_wrong wrong known (Some members) = option_or (first_found wrong) (unknown_among known members)
+-- The places of a subject that is an object. (own)
+abbrev pub subject_places : List Step → Data → Members → List Located
+subject_places steps d members =
+    text_places steps (codes "name") d
+    ++ (text_places steps (codes "maximum") d
+    ++ (text_places steps (codes "current") d
+    ++ (text_places steps (codes "integrity") d
+    ++ (member_places steps (codes "trusted") (bool_words (get (codes "trusted") d))
+    ++ others_places steps
+    (codes "name" ∷ codes "maximum" ∷ codes "current" ∷ codes "integrity" ∷ codes "trusted" ∷ []) members))))
 
--- A scheme. (own)
-abbrev pub scheme_wrong : Data → Option Wrong
-scheme_wrong d =
-    members_wrong (texts_at (codes "levels") d ∷ texts_at (codes "categories") d ∷ [])
-    (codes "levels" ∷ codes "categories" ∷ []) (as_object d)
+-- The places of the object of a number, which is one of the tree's objects too. (own)
+abbrev pub object_places : List Step → ℕ → Data → Members → List Located
+object_places steps n d members =
+    text_places steps (codes "name") d
+    ++ (member_places steps (codes "parent") (parent_words n (get (codes "parent") d))
+    ++ (text_places steps (codes "security") d
+    ++ (text_places steps (codes "integrity") d
+    ++ others_places steps (codes "name" ∷ codes "parent" ∷ codes "security" ∷ codes "integrity" ∷ []) members)))
 
--- A subject. (own)
-abbrev pub subject_wrong : Data → Option Wrong
-subject_wrong d =
-    members_wrong
-    (text_at (codes "name") d
-    ∷ text_at (codes "maximum") d
-    ∷ text_at (codes "current") d
-    ∷ text_at (codes "integrity") d
-    ∷ required (codes "trusted") bool_wrong (get (codes "trusted") d)
-    ∷ [])
-    (codes "name" ∷ codes "maximum" ∷ codes "current" ∷ codes "integrity" ∷ codes "trusted" ∷ []) (as_object d)
+-- The places of a cell that is an object. (own)
+abbrev pub cell_places : List Step → Data → Members → List Located
+cell_places steps d members =
+    text_places steps (codes "subject") d
+    ++ (text_places steps (codes "object") d
+    ++ (texts_places steps (codes "modes") (get (codes "modes") d)
+    ++ others_places steps (codes "subject" ∷ codes "object" ∷ codes "modes" ∷ []) members))
 
--- The parent of the object of a number: null of the root, a text of any other. (own)
-abbrev pub parent_wrong : ℕ → Data → Option Wrong
-parent_wrong n d = if n == 0 then null_wrong d else text_wrong d
+-- The places of a row of a number that is an object. (own)
+abbrev pub row_places : Row → List Step → ℕ → Data → Members → List Located
+row_places Subject steps n d members = subject_places steps d members
+row_places Object steps n d members = object_places steps n d members
+row_places Cell steps n d members = cell_places steps d members
 
--- The object of a number. (own)
-abbrev pub object_wrong : ℕ → Data → Option Wrong
-object_wrong n d =
-    members_wrong
-    (text_at (codes "name") d
-    ∷ required (codes "parent") (parent_wrong n) (get (codes "parent") d)
-    ∷ text_at (codes "security") d
-    ∷ text_at (codes "integrity") d
-    ∷ [])
-    (codes "name" ∷ codes "parent" ∷ codes "security" ∷ codes "integrity" ∷ []) (as_object d)
+-- The places of a value that is to be an object with the members of a part, by its members if it is one. (own)
+abbrev pub part_places : List Step → (Members → List Located) → Option Members → List Located
+part_places steps places None = located (steps, codes "not an object")
+part_places steps places (Some members) = places members
 
--- A cell. (own)
-abbrev pub cell_wrong : Data → Option Wrong
-cell_wrong d =
-    members_wrong (text_at (codes "subject") d ∷ text_at (codes "object") d ∷ texts_at (codes "modes") d ∷ [])
-    (codes "subject" ∷ codes "object" ∷ codes "modes" ∷ []) (as_object d)
-
--- A value that is to be the row of a number. (own)
-abbrev pub row_wrong : Row → ℕ → Data → Option Wrong
-row_wrong Subject n d = subject_wrong d
-row_wrong Object n d = object_wrong n d
-row_wrong Cell n d = cell_wrong d
+-- The places of the row of a number in a list. (own)
+abbrev pub rows_at : Row → List ℕ → ℕ → Data → List Located
+rows_at row list n d =
+    part_places (key list ∷ number n ∷ []) (row_places row (key list ∷ number n ∷ []) n d) (as_object d)

@@ -7,7 +7,7 @@ ghost use Rattle.mls_start_file.specs.Says.{RefusesStart};
 ghost use Rattle.mls_start_text.specs.Views.{file_view};
 ghost use Rattle.mls_start_faults.specs.JsonPlaces.{TellsJson};
 ghost use Rattle.mls_start_faults.specs.Found.{file_found, by_file, places_found};
-ghost use Rattle.mls_start_faults.specs.PlaceRows.{places_bytes};
+ghost use Rattle.mls_start_faults.specs.PlaceRows.{file_bytes, places_bytes};
 ghost use Rattle.mls_start_faults.specs.Places.{located_view};
 
 use crate::labels::labels_found;
@@ -96,9 +96,8 @@ fn bytes_written(
 }
 
 /// The places where the fault applies for which [`read_start`](mls_start_file::read_start) refuses the bytes of a start
-/// file, a row each in this form: a JSON pointer and some words, in the file's order. Of `Members` it is the first
-/// place alone; of `Json` it is the line and the column where the JSON breaks off, and no clause says that these are
-/// the right ones.
+/// file, a row each in this form: a JSON pointer and some words, in the file's order. Of `Json` it is the line and the
+/// column where the JSON breaks off, and no clause says that these are the right ones.
 ///
 /// # Errors
 /// `AllocError` where an allocation failed.
@@ -117,4 +116,23 @@ pub fn places(
         LoadFault::Json => json_written(alloc, form, bytes),
         fault => bytes_written(alloc, form, bytes, fault),
     }
+}
+
+/// The places where a fault applies for which the texts of a file are refused, a row each in this form, as
+/// [`places`] has them of a start file with these texts.
+///
+/// # Errors
+/// `AllocError` where an allocation failed.
+pub fn file_places(
+    alloc: Global,
+    form: Form,
+    fault: LoadFault,
+    file: FileText<'_>,
+) -> Result<Vec<u8>, AllocError>
+    ensures { IfOk result (λ out. out.items ≡ file_bytes form fault (file_view file.entry)) }
+{
+    let found = file_found(alloc, fault, file)?;
+    let written = places_written(alloc, form, &found);
+    drop(found);
+    written
 }

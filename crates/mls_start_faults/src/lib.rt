@@ -1,4 +1,5 @@
-//! Where the fault of a start file that is refused applies, and where one that is accepted has a member twice.
+//! Where the fault of a start file that is refused applies, and where one that is accepted has a member or a permission
+//! twice.
 #![tactic(auto)]
 
 mod accesses;
@@ -7,6 +8,7 @@ mod labels;
 mod members;
 mod name_fault;
 mod naming;
+mod permissions;
 mod place;
 mod place_row;
 mod refused_json;
@@ -19,5 +21,6 @@ mod starts;
 mod unknowns;
 mod writing;
 
-pub use answering::places;
+pub use answering::{file_places, places};
+pub use permissions::repeated_permissions;
 pub use repeating::repeated_members;

@@ -1,7 +1,8 @@
 //! Places in a start file.
-ghost use Rattle.std.specs.Prelude.{◌≡◌, [], ◌∷◌};
-ghost use Rattle.mls_start_faults.specs.Places.{key, number, on_list, on_member, on_item, on_names, on_name};
-ghost use Rattle.mls_start_faults.specs.Places.{spot_view, place_view};
+ghost use Rattle.std.specs.Prelude.{◌≡◌, [], ◌∷◌, ◌++◌};
+ghost use Rattle.mls_start_faults.specs.Places.{key, number, on_list, on_row, on_member, on_item, on_names};
+ghost use Rattle.mls_start_faults.specs.Places.{on_name};
+ghost use Rattle.mls_start_faults.specs.Places.{part_steps, spot_view, place_view};
 
 /// What is wrong within a value: with the value itself, with one of its members, or with an item of a member that is a
 /// list.
@@ -18,6 +19,14 @@ pub(crate) struct Place<'a> {
     pub list: &'a str,
     pub row: Option<usize>,
     pub spot: Spot<'a>,
+}
+
+/// A part of a start file that has members: the file, one of its schemes, or a row of one of its lists.
+#[derive(Clone, Copy)]
+pub(crate) enum Part<'a> {
+    File,
+    Scheme(&'a str),
+    Row(&'a str, usize),
 }
 
 impl<'a> Spot<'a> {
@@ -63,6 +72,17 @@ impl<'a> Place<'a> {
         Place {
             list,
             row: None,
+            spot: Spot::here(words),
+        }
+    }
+
+    /// An item of a list of the file.
+    pub(crate) fn row(list: &'a str, row: usize, words: &'static str) -> Place<'a>
+        ensures { place_view result ≡ on_row list.now row words.now }
+    {
+        Place {
+            list,
+            row: Some(row),
             spot: Spot::here(words),
         }
     }
@@ -124,6 +144,30 @@ impl<'a> Place<'a> {
             list: scheme,
             row: None,
             spot: Spot::item(list, item, words),
+        }
+    }
+}
+
+impl<'a> Part<'a> {
+    /// A member of the part.
+    pub(crate) fn member(self, member: &'a str, words: &'static str) -> Place<'a>
+        ensures { place_view result ≡ (part_steps self.entry ++ key member.now ∷ [], words.now) }
+    {
+        match self {
+            Part::File => Place::list(member, words),
+            Part::Scheme(scheme) => Place::names(scheme, member, words),
+            Part::Row(list, n) => Place::member(list, n, member, words),
+        }
+    }
+
+    /// An item of a member of the part that is a list.
+    pub(crate) fn item(self, member: &'a str, k: usize, words: &'static str) -> Place<'a>
+        ensures { place_view result ≡ (part_steps self.entry ++ key member.now ∷ number k ∷ [], words.now) }
+    {
+        match self {
+            Part::File => Place::row(member, k, words),
+            Part::Scheme(scheme) => Place::name(scheme, member, k, words),
+            Part::Row(list, n) => Place::item(list, n, member, k, words),
         }
     }
 }

@@ -1,5 +1,5 @@
 //! Places of a start file, as rows.
-ghost use Rattle.std.specs.Prelude.{◌≡◌, ◌++◌, ◌∷◌, [], codes, map, string_bytes, IfOk, OnOk};
+ghost use Rattle.std.specs.Prelude.{◌≡◌, ◌++◌, ◌∷◌, ◌==◌, [], codes, length, map, string_bytes, IfOk, OnOk};
 ghost use Rattle.std.specs.List.{flat_map};
 ghost use Rattle.mls_rows.specs.Members.{Adds};
 ghost use Rattle.mls_start_faults.specs.PlaceRows.{finding_member, located_line, located_members, located_row};
@@ -8,7 +8,7 @@ ghost use Rattle.mls_rows.specs.Rows.{bytes_of};
 ghost use Rattle.mls_start_faults.specs.Places.{located_view};
 
 use json::Writer;
-use mls_rows::{Form, Output, Plain, write_text};
+use mls_rows::{Form, Listing, Output, Plain, write_text};
 use std::alloc::{AllocError, Global};
 
 /// A place of a start file where something is wrong: a JSON pointer, and what is wrong there.
@@ -104,4 +104,16 @@ pub(crate) fn places_written(
 {
     let output = written(alloc, form, found)?;
     Ok(output.into_bytes())
+}
+
+/// Places in a form, as an answer: a positive one where there is none.
+pub(crate) fn listed(alloc: Global, form: Form, found: &[PlaceRow]) -> Result<Listing, AllocError>
+    ensures bytes { IfOk result
+        (λ listing. listing.bytes.items ≡ flat_map (located_row form) (map located_view found.now)) }
+    ensures positive { IfOk result
+        (λ listing. listing.is_positive ≡ (length (map located_view found.now) == 0)) }
+{
+    let bytes = places_written(alloc, form, found)?;
+    let is_positive = found.is_empty();
+    Ok(Listing { bytes, is_positive })
 }

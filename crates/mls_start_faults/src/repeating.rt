@@ -1,13 +1,12 @@
 //! Where a start file has a member more than once in one object. The last one counts, and is accepted.
 ghost use Rattle.std.specs.Prelude.{◌≡◌, ◌==◌, length, map, Some, IfOk};
-ghost use Rattle.std.specs.List.{flat_map};
 ghost use Rattle.std.specs.Str.{IsUtf8};
 ghost use Rattle.json.specs.Json.{Json, document};
-ghost use Rattle.mls_start_faults.specs.PlaceRows.{located_row, repeated_bytes};
+ghost use Rattle.mls_start_faults.specs.PlaceRows.{repeated_bytes};
 ghost use Rattle.mls_start_faults.specs.Places.{located_view};
 ghost use Rattle.mls_start_faults.specs.Repeated.{repeated_found};
 
-use crate::place_row::{PlaceRow, places_written};
+use crate::place_row::{PlaceRow, listed};
 use crate::repeats::file_found;
 use json::{Error, Scratch, Value};
 use mls_rows::{Form, Listing};
@@ -24,18 +23,6 @@ fn bytes_found(alloc: Global, bytes: &[u8]) -> Result<Vec<PlaceRow>, AllocError>
         Err(Error::OutOfMemory) => Err(AllocError),
         Err(_) => Ok(Vec::new(alloc)),
     }
-}
-
-/// Places in a form, as an answer: a positive one where there is none.
-fn listed(alloc: Global, form: Form, found: &[PlaceRow]) -> Result<Listing, AllocError>
-    ensures bytes { IfOk result
-        (λ listing. listing.bytes.items ≡ flat_map (located_row form) (map located_view found.now)) }
-    ensures positive { IfOk result
-        (λ listing. listing.is_positive ≡ (length (map located_view found.now) == 0)) }
-{
-    let bytes = places_written(alloc, form, found)?;
-    let is_positive = found.is_empty();
-    Ok(Listing { bytes, is_positive })
 }
 
 /// The members that an object of a start file has more than once, a row each in this form: a JSON pointer and

@@ -3,7 +3,8 @@ ghost use Rattle.std.specs.Prelude.{◌≡◌, map, is_some, option_map};
 ghost use Rattle.serde_json.specs.Find.{as_str};
 ghost use Rattle.serde_json.specs.View.{view};
 ghost use Rattle.mls_start_text.specs.Each.{each_of};
-ghost use Rattle.mls_start_text.specs.Looking.{member_count, text_at, bool_at, is_null_at, has_member, number_at, list_at};
+ghost use Rattle.mls_start_text.specs.Looking.{member_count, text_at, bool_at, is_null_at, has_member, number_at};
+ghost use Rattle.mls_start_text.specs.Looking.{list_at};
 
 use serde_json::Value;
 

@@ -7,6 +7,7 @@ mod Holders
 mod Kept
 pub mod Laws
 mod NumberedSet
+mod Padding
 mod Removing
 mod Replacing
 mod Tables

@@ -15,7 +15,7 @@ use Rattle.mls_state.specs.Changes.{with_object_label, with_object, stays, witho
 use Rattle.mls_state.proofs.EachTriple.{kept_there, kept_passes}
 
 -- a known triple stays known where its object stays active
-known_still : (v w : State) (t : Triple) → w.maximum ≡ v.maximum → (is_active v t.1 ≡ true → is_active w t.1 ≡ true)
+pub known_still : (v w : State) (t : Triple) → w.maximum ≡ v.maximum → (is_active v t.1 ≡ true → is_active w t.1 ≡ true)
     → is_known v t ≡ true → is_known w t ≡ true
 known_still v w t same still known =
     let subject : is_subject w t.0 ≡ true = ap (λ m. map.contains_key m t.0) same ∙ (and_parts (is_subject v t.0) (is_active v t.1) known).0 in

@@ -1,5 +1,5 @@
 -- States that differ from another by one change.
-use Rattle.std.specs.Prelude.{ℕ, ◌+◌, Bool, not}
+use Rattle.std.specs.Prelude.{ℕ, ◌+◌, max, Bool, not}
 use Rattle.std.specs.FinSet as set
 use Rattle.std.specs.FinMap as map
 use Rattle.mls_labels.specs.Label.{Label}
@@ -26,6 +26,15 @@ with_object v parent l i = renumbered (record v {
   object_integrity = map.insert v.object_integrity v.next i;
   parent = map.insert v.parent v.next parent;
 }) (v.next + 1)
+
+-- The state with an object of this number, which has these labels and this parent; in profile 1 the next number is
+-- above it. (own)
+abbrev pub with_object_at : State → ℕ → ℕ → Label → Label → State
+with_object_at v o parent l i = renumbered (record v {
+  object_label = map.insert v.object_label o l;
+  object_integrity = map.insert v.object_integrity o i;
+  parent = map.insert v.parent o parent;
+}) (max v.next (o + 1))
 
 -- Whether an object stays when one is deleted: it is no inferior of that one. (own, after MTR-2997's rule to delete an
 -- object group)

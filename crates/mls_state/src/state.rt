@@ -18,6 +18,7 @@ mod changes;
 mod copying;
 mod listing;
 mod making;
+mod placing;
 mod removing;
 
 /// The state of the monitor, the `(b, M, f, H)` of MTR-2997 with integrity labels. Its tables agree and its objects

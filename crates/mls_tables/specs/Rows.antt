@@ -57,8 +57,8 @@ pub record PartsAt (xs : List ℕ) (bound place : ℕ) : Type 0 where
 abbrev pub is_in_run : ℕ → ℕ → ℕ → Bool
 is_in_run first end x = not (nat_lt x first) && nat_lt x end
 
--- A run of columns is taken out of the lists of the rows that are marked: whatever relation the lists told, they tell it
--- less those pairs. (own)
+-- A run of columns is taken out of the lists of the rows that are marked: whatever relation the lists told, they tell
+-- it less those pairs. (own)
 pub record TakenOut (marks : List Bool) (first end : ℕ) (before after : List (List ℕ)) : Type 0 where
   pub told : (p : ℕ → ℕ → Bool) (n : ℕ) → IsRows p n before
       → IsRows (λ a b. p a b && not (slice_index_or marks a false && is_in_run first end b)) n after

@@ -2,9 +2,10 @@
 ghost use Rattle.std.specs.Prelude.{◌≡◌, ◌≤◌, vec_len, IfOk, OnOk};
 
 use crate::held::Held;
-use crate::output::is_taken;
+use crate::output::{is_taken, write_bytes};
 use crate::progress::Progress;
 use std::fs::{File, OpenOptions};
+use std::io;
 use std::io::Read;
 
 /// Why a file wasn't read or written.
@@ -12,6 +13,8 @@ use std::io::Read;
 pub enum FileFault {
     /// It couldn't be opened, read or written. An interrupted read counts as failed.
     File,
+    /// The system refused to open, read or write it, for this reason.
+    System(io::Error),
     /// Another open of it holds its lock.
     InUse,
     /// It has more bytes than its limit.
@@ -22,6 +25,14 @@ pub enum FileFault {
 
 /// The most bytes that are asked of a file at once.
 const PIECE: usize = 65_536;
+
+/// Opens a file to read it.
+fn opened(rt: &HostRuntime, path: &str) -> Result<File, FileFault> {
+    match File::open(rt, path) {
+        Ok(file) => Ok(file),
+        Err(error) => Err(FileFault::System(error)),
+    }
+}
 
 /// A file that is to be read, by the word that names it, and the most bytes that it may have.
 #[derive(Clone, Copy)]
@@ -44,8 +55,9 @@ impl Input<'_> {
     {
         let mut room = self.limit;
         loop {
-            let Ok(count) = reader.read(piece) else {
-                return Err(FileFault::File);
+            let count = match reader.read(piece) {
+                Ok(count) => count,
+                Err(error) => return Err(FileFault::System(error)),
             };
             if count == 0 {
                 return Ok(());
@@ -92,9 +104,7 @@ impl Input<'_> {
     pub fn read(&self, progress: &mut Progress<'_>) -> Result<Vec<u8>, FileFault>
         ensures { IfOk result (λ bytes. vec_len bytes ≤ self.now.limit) }
     {
-        let Ok(mut file) = File::open(progress.rt(), self.path) else {
-            return Err(FileFault::File);
-        };
+        let mut file = opened(progress.rt(), self.path)?;
         let read = self.read_all(progress, &mut file);
         drop(file);
         read
@@ -111,9 +121,7 @@ impl Input<'_> {
     ) -> Result<Vec<u8>, FileFault>
         ensures { IfOk result (λ bytes. vec_len bytes ≤ self.now.limit) }
     {
-        let Ok(mut file) = File::open(progress.rt(), self.path) else {
-            return Err(FileFault::File);
-        };
+        let mut file = opened(progress.rt(), self.path)?;
         if let Err(fault) = held.lock(&file) {
             drop(file);
             return Err(fault);
@@ -129,14 +137,15 @@ impl Input<'_> {
     }
 }
 
-/// Makes a file that isn't there yet, whatever has its name, with this text, and says whether all of it was written.
-pub fn make_file(rt: &HostRuntime, path: &str, text: &str) -> bool {
+/// Makes a file that isn't there yet, whatever has its name, with this text.
+///
+/// # Errors
+/// Why not all of it was written.
+pub fn make_file(rt: &HostRuntime, path: &str, text: &str) -> io::Result<()> {
     let mut options = OpenOptions::new();
     options.write(true).create_new(true);
-    let Ok(mut file) = options.open(rt, path) else {
-        return false;
-    };
-    let written = is_taken(&mut file, text.as_bytes());
+    let mut file = options.open(rt, path)?;
+    let written = write_bytes(&mut file, text.as_bytes());
     drop(file);
     written
 }

@@ -2,7 +2,7 @@
 use crate::files::FileFault;
 use crate::progress::Progress;
 use std::io;
-use std::io::{ErrorKind, Write};
+use std::io::{ErrorKind, Stdout, Write};
 use std::process::ExitCode;
 
 /// Why a command's output wasn't written.
@@ -38,17 +38,46 @@ pub fn refused(rt: &HostRuntime, line: &str, status: u8) -> ExitCode {
     ExitCode::from(status)
 }
 
-/// Tells why a file wasn't read or written.
-pub fn file_refused(progress: &mut Progress<'_>, file: &str, fault: FileFault) -> ExitCode {
+/// Tells that the system refused a file, for this reason, and what may help. A command whose lines are fixed tells
+/// neither, but to a person at a terminal the reason.
+fn tell_system(
+    progress: &Progress<'_>,
+    file: &str,
+    error: io::Error,
+    next: &str,
+) -> io::Result<()> {
+    let rt = progress.rt();
+    if !progress.has_fixed_lines() {
+        eprintln!(rt; "mls: {file}: {error}{next}")
+    } else if progress.is_adding() {
+        eprintln!(rt; "mls: {file}: file: {error}")
+    } else {
+        eprintln!(rt; "mls: {file}: file")
+    }
+}
+
+/// Tells why a file wasn't read or written, and behind the system's reason what may help.
+pub fn file_refused_so(
+    progress: &mut Progress<'_>,
+    file: &str,
+    fault: FileFault,
+    next: &str,
+) -> ExitCode {
     progress.end();
     let rt = progress.rt();
     let _ = match fault {
         FileFault::File => eprintln!(rt; "mls: {file}: file"),
+        FileFault::System(error) => tell_system(progress, file, error, next),
         FileFault::InUse => eprintln!(rt; "mls: {file}: in use"),
         FileFault::TooLong => eprintln!(rt; "mls: {file}: too long"),
         FileFault::Memory => eprintln!(rt; "{NO_MEMORY}"),
     };
     ExitCode::from(1)
+}
+
+/// Tells why a file wasn't read or written.
+pub fn file_refused(progress: &mut Progress<'_>, file: &str, fault: FileFault) -> ExitCode {
+    file_refused_so(progress, file, fault, "")
 }
 
 /// Writes the output of a command to standard output.
@@ -57,5 +86,57 @@ pub fn print(rt: &HostRuntime, output: &[u8]) -> ExitCode {
         ExitCode::SUCCESS
     } else {
         refused(rt, NOT_WRITTEN, 1)
+    }
+}
+
+/// Standard output, to which the answer to a question is written in parts.
+#[derive(Drop)]
+pub struct AnswerOutput {
+    output: Stdout,
+    /// Whether who reads it has stopped.
+    is_unread: bool,
+}
+
+impl AnswerOutput {
+    /// Standard output, to which nothing is written yet.
+    pub fn new(rt: &HostRuntime) -> AnswerOutput {
+        AnswerOutput {
+            output: rt.stdout(),
+            is_unread: false,
+        }
+    }
+
+    /// Tells that a part wasn't written, unless who reads it has stopped.
+    pub fn refused(&self, rt: &HostRuntime) -> ExitCode {
+        if self.is_unread {
+            ExitCode::from(1)
+        } else {
+            refused(rt, NOT_WRITTEN, 1)
+        }
+    }
+}
+
+impl Write for AnswerOutput {
+    fn write(&mut self, buf: &[u8]) -> io::Result<usize> {
+        match self.output.write(buf) {
+            Ok(count) => Ok(count),
+            Err(error) => {
+                self.is_unread = error.kind() == ErrorKind::BrokenPipe;
+                Err(error)
+            }
+        }
+    }
+
+    fn flush(&mut self) -> io::Result<()> {
+        self.output.flush()
+    }
+}
+
+/// Writes the answer to a question to standard output. Who reads it may stop: then nothing is said of what is left.
+pub fn print_answer(rt: &HostRuntime, answer: &[u8]) -> ExitCode {
+    match write_bytes(&mut rt.stdout(), answer) {
+        Ok(()) => ExitCode::SUCCESS,
+        Err(error) if error.kind() == ErrorKind::BrokenPipe => ExitCode::from(1),
+        Err(_) => refused(rt, NOT_WRITTEN, 1),
     }
 }

@@ -1,7 +1,7 @@
 //! What a person at a terminal is told while a command works for more than a second, and how its answer is printed.
 ghost use Rattle.std.specs.Prelude.{◌≡◌};
 
-use crate::output::print;
+use crate::output::{print, print_answer};
 use std::io::IsTerminal;
 use std::process::ExitCode;
 use std::time::Instant;
@@ -27,11 +27,14 @@ pub struct Progress<'a> {
     is_shown: bool,
     /// Whether JSON objects are asked for.
     is_json: bool,
+    /// Whether the lines that tell of a fault are fixed: what they don't say is told at a terminal alone.
+    has_fixed_lines: bool,
 }
 
 impl<'a> Progress<'a> {
-    /// The progress of work that begins now, whose answer may be asked for as JSON objects.
-    pub fn new(rt: &'a HostRuntime, is_json: bool) -> Progress<'a> {
+    /// The progress of work that begins now, whose answer may be asked for as JSON objects, and whose faults may have
+    /// fixed lines.
+    pub fn new(rt: &'a HostRuntime, is_json: bool, has_fixed_lines: bool) -> Progress<'a> {
         let begun = if rt.stderr().is_terminal() {
             Instant::now(rt).ok()
         } else {
@@ -43,6 +46,7 @@ impl<'a> Progress<'a> {
             read: 0,
             is_shown: false,
             is_json,
+            has_fixed_lines,
         }
     }
 
@@ -96,9 +100,23 @@ impl<'a> Progress<'a> {
         self.is_json
     }
 
+    /// Whether the lines that tell of a fault are fixed.
+    pub fn has_fixed_lines(&self) -> bool {
+        self.has_fixed_lines
+    }
+
+    /// Whether it is told why, and what next, where the line of a fault is fixed or not.
+    pub fn is_adding(&self) -> bool {
+        !self.has_fixed_lines || self.rt.stderr().is_terminal()
+    }
+
     /// Ends the work, and prints the answer that it came to.
     pub fn print(&mut self, answer: &[u8]) -> ExitCode {
         self.end();
-        print(self.rt, answer)
+        if self.has_fixed_lines {
+            print(self.rt, answer)
+        } else {
+            print_answer(self.rt, answer)
+        }
     }
 }

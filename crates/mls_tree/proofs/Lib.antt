@@ -7,3 +7,4 @@ pub mod Listed
 pub mod Laws
 pub mod Found
 pub mod Kept
+pub mod Padded

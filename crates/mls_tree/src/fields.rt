@@ -1,7 +1,7 @@
 //! Steps on what a tree is kept as: a list of parents, and a list of children for each object.
 ghost use Rattle.std.specs.Prelude.{◌≡◌, ℕ, ◌<◌, ◌≤◌, ◌==◌, ◌++◌, [], ◌∷◌, not, Some, None, IfSome, IfNone};
 ghost use Rattle.std.specs.Prelude.{if◌then◌else◌, All, length, filter, slice_index, slice_index_or, slice_set};
-ghost use Rattle.std.specs.Prelude.{vec_len, IfOk, OnOk, OnErr};
+ghost use Rattle.std.specs.Prelude.{vec_len, max, take, IfOk, OnOk, OnErr};
 ghost use Rattle.std.specs.FinSet as set;
 ghost use Rattle.std.specs.List.{list_any};
 ghost use Rattle.std.specs.List.Sorted.{IsStrictlyIncreasing};
@@ -60,6 +60,53 @@ pub(crate) fn enter<A: Allocator>(
     parents.reserve(1)?;
     lists.insert(parent.number() as usize, ObjectId::new(next))?;
     put_at(parents, next as usize, Some(parent));
+    Ok(())
+}
+
+/// Makes sure that there is a list at each place below one, where there are as many as begin. What is added is empty.
+///
+/// # Errors
+/// Where allocation fails. Some empty lists may then be there more.
+fn make_lists<A: Allocator>(
+    lists: &mut Lists<ObjectId, A>,
+    begin: usize,
+    end: usize,
+) -> Result<(), AllocError>
+    requires { begin ≤ length lists.old.lists }
+    ensures room { OnOk result (end ≤ length lists.new.lists) }
+    ensures longer { length lists.old.lists ≤ length lists.new.lists }
+    ensures same { (q : ℕ) → slice_index_or lists.new.lists q [] ≡ slice_index_or lists.old.lists q [] }
+{
+    for i in begin..end {
+        lists.ensure_list(i)?;
+    }
+    Ok(())
+}
+
+/// Makes sure that each number below one has a place, and a list. None of those that are added has a parent or a child.
+///
+/// # Errors
+/// Where allocation fails. The parents are then unchanged.
+pub(crate) fn make_places<A: Allocator>(
+    parents: &mut Vec<Option<ObjectId>, A>,
+    lists: &mut Lists<ObjectId, A>,
+    end: u16,
+) -> Result<(), AllocError>
+    requires { length parents.old.items ≤ length lists.old.lists }
+    ensures many { OnOk result (length parents.new.items ≡ max (length parents.old.items) end) }
+    ensures unchanged { OnErr result (parents.new.items ≡ parents.old.items) }
+    ensures front { take (length parents.old.items) parents.new.items ≡ parents.old.items }
+    ensures parents { (q : ℕ) → slice_index_or parents.new.items q None ≡ slice_index_or parents.old.items q None }
+    ensures room { length parents.new.items ≤ length lists.new.lists }
+    ensures longer { length lists.old.lists ≤ length lists.new.lists }
+    ensures same { (q : ℕ) → slice_index_or lists.new.lists q [] ≡ slice_index_or lists.old.lists q [] }
+{
+    let (count, wanted) = (parents.len(), end as usize);
+    if wanted <= count {
+        return Ok(());
+    }
+    make_lists(lists, count, wanted)?;
+    parents.resize(wanted, None)?;
     Ok(())
 }
 

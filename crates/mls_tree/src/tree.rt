@@ -1,5 +1,6 @@
 //! The tree, kept as the parent of each object number that was ever used.
-ghost use Rattle.std.specs.Prelude.{◌≡◌, ℕ, ◌+◌, ◌<◌, ◌≤◌, ◌↔◌, ◌≢◌, not, IsTrue, IfOk, OnOk, OnErr, IsErrOf};
+ghost use Rattle.std.specs.Prelude.{◌≡◌, ℕ, ◌+◌, ◌<◌, ◌≤◌, ◌↔◌, ◌≢◌, max, not, false, IsTrue, IfOk, OnOk, OnErr};
+ghost use Rattle.std.specs.Prelude.{IsErrOf};
 ghost use Rattle.std.specs.FinMap as map;
 ghost use Rattle.mls_tables.specs.declared.limits.TheConstants.{MAX_OBJECTS};
 ghost use Rattle.mls_tree.specs.Tree.{is_active, IsTree, HasNext, with_parents, is_inferior, children, inferiors};
@@ -135,6 +136,47 @@ impl<A: Allocator> Tree<A> {
         fields::enter(&mut self.parents, &mut self.children, parent, next)?;
         self.active.insert(next);
         Ok(ObjectId::new(next))
+    }
+
+    /// Takes the numbers below one as used. In profile 1 none of them is given out any more; in profile 2 nothing is
+    /// seen of it.
+    ///
+    /// # Errors
+    /// Where allocation fails. The tree is then unchanged.
+    pub fn skip_to(&mut self, end: u16) -> Result<(), AllocError>
+        requires { end ≤ MAX_OBJECTS }
+        ensures ok { OnOk result (self.new ≡ with_parents self.old self.old.parent (max self.old.next end)) }
+        ensures err { OnErr result (self.new ≡ self.old) }
+    {
+        fields::make_places(&mut self.parents, &mut self.children, end)?;
+        Ok(())
+    }
+
+    /// Adds an object of a number that isn't active below an active one. In profile 1 the next number is then above its
+    /// own.
+    ///
+    /// # Errors
+    /// Where allocation fails. The tree is then unchanged.
+    pub fn add_at(&mut self, o: ObjectId, parent: ObjectId) -> Result<(), AllocError>
+        requires room { o < MAX_OBJECTS }
+        requires free { is_active self.old.parent o ≡ false }
+        requires parent { IsTrue (is_active self.old.parent parent) }
+        ensures ok { OnOk result (self.new ≡
+            with_parents self.old (map.insert self.old.parent o parent) (max self.old.next (o + 1))) }
+        ensures err { OnErr result (self.new ≡ self.old) }
+    {
+        let (count, number) = (self.parents.len(), o.number());
+        fields::make_places(&mut self.parents, &mut self.children, number + 1)?;
+        match fields::enter(&mut self.parents, &mut self.children, parent, number) {
+            Ok(()) => {
+                self.active.insert(number);
+                Ok(())
+            }
+            Err(AllocError) => {
+                self.parents.truncate(count);
+                Err(AllocError)
+            }
+        }
     }
 
     /// The inferiors of an active object, ascending: itself and all below it.

@@ -91,6 +91,13 @@ impl BoxedMonitor {
         self.monitor.entries()
     }
 
+    /// The monitor, to look at.
+    pub fn monitor(&self) -> &Monitor
+        ensures { journal_of result.now ≡ self.now }
+    {
+        &self.monitor
+    }
+
     /// The number of the next entry.
     pub fn next_number(&self) -> u64
         ensures { result ≡ length self.now.entries }

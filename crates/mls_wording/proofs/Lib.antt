@@ -1,2 +1,7 @@
 mod Categories
 mod Extending
+mod LabelNumbers
+pub mod Laws
+mod NamePlaces
+mod RequestLines
+mod Tokens

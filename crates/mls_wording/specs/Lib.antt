@@ -1,3 +1,4 @@
+pub mod ReadBack
 pub mod RequestText
 pub mod Where
 pub mod Wording

@@ -8,6 +8,7 @@ mod number;
 mod operands;
 mod reply;
 mod request;
+mod theorems;
 
 pub use answer::Answer;
 pub use label::{push_integrity, push_security};
@@ -15,3 +16,4 @@ pub use name::{push_object, push_subject};
 pub use number::push_number;
 pub use reply::push_reply;
 pub use request::push_request;
+pub use theorems::{labels_have_their_texts, numbers_have_their_texts, requests_are_read_back};

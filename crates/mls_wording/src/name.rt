@@ -1,10 +1,9 @@
 //! Subjects and objects.
-ghost use Rattle.std.specs.Prelude.{◌≡◌, ◌++◌, ◌∷◌, string_bytes, option_map, OnErr, OnOk};
-ghost use Rattle.std.specs.Fmt.{decimal};
+ghost use Rattle.std.specs.Prelude.{◌≡◌, ◌++◌, string_bytes, option_map, OnErr, OnOk};
 ghost use Rattle.mls_labels.specs.LabelText.{Extends};
 ghost use Rattle.mls_wording.specs.Wording.{name_or, subject_text, object_text};
 
-use crate::number::push_number;
+use crate::number::push_numbered;
 use mls_lines::Names;
 use mls_tables::{ObjectId, SubjectId};
 use std::alloc::AllocError;
@@ -21,10 +20,7 @@ fn push_named(text: &mut String, name: Option<&str>, number: u16) -> Result<(), 
 {
     match name {
         Some(name) => text.push_str(name),
-        None => {
-            text.push_str("#")?;
-            push_number(text, u64::from(number))
-        }
+        None => push_numbered(text, u64::from(number)),
     }
 }
 

@@ -34,9 +34,18 @@ denied(Container *c, AccessMode mode, const char *answer)
 	return c->known[mode] = KNOWN_NO;
 }
 
+static bool
+is_of_question(const char *answer)
+{
+	return strncmp(answer, "? ", 2) == 0;
+}
+
+/* Whatever else the monitor answers to a get, or to the question of one: it is told without the mark of a question. */
 static void
 no_answer(const char *answer)
 {
+	if (is_of_question(answer))
+		answer += 2;
 	ereport(ERROR, (errcode(ERRCODE_INSUFFICIENT_PRIVILEGE),
 					errmsg("mls: the monitor says %s to %s", answer, subject_held())));
 }
@@ -50,7 +59,7 @@ is_readable_now(const Container *c)
 	ask_about(c, "? ", "get-", MODE_READ, answer);
 	if (strcmp(answer, "? yes") == 0)
 		return true;
-	if (strncmp(answer, "? ", 2) != 0 || !is_denial(answer + 2))
+	if (!is_of_question(answer) || !is_denial(answer + 2))
 		no_answer(answer);
 	return false;
 }
@@ -123,7 +132,7 @@ is_foreseen(Container *c, AccessMode mode)
 	ask_about(c, "? ", "get-", mode, answer);
 	if (strcmp(answer, "? yes") == 0)
 		return false;
-	if (strncmp(answer, "? ", 2) != 0 || !is_denial(answer + 2))
+	if (!is_of_question(answer) || !is_denial(answer + 2))
 		no_answer(answer);
 	denied(c, mode, answer + 2);
 	return true;

@@ -111,6 +111,29 @@ class Monitor:
             client.shutdown(socket.SHUT_WR)
             return client.makefile().read().splitlines()[1:]
 
+    def open_sessions(self):
+        """The numbers of the sessions that are open, as the sessions file has them since mlsd started."""
+        found = set()
+        with open(f"{self.journal}.sessions", encoding="ascii") as file:
+            for session, what, *_ in (line.split() for line in file if line.endswith("\n")):
+                if (session, what) == ("0", "started"):
+                    found.clear()
+                if what == "opened":
+                    found.add(int(session))
+                if what == "closed":
+                    found.discard(int(session))
+        return found
+
+    def settle(self):
+        """Waits until no client is connected, and what is released for them is in the journal: nobody is told of a
+        release at the end of a transaction, or of a session."""
+        end = time.monotonic() + SECONDS
+        while left := self.open_sessions():
+            assert time.monotonic() < end, f"sessions {left} stay open"
+            time.sleep(0.01)
+        # (the core answers in order, so that all that was asked before is answered)
+        assert self.ask("probe\n") == ["yes"]
+
     def count(self):
         with open(self.journal, "rb") as file:
             return file.read().count(b"\n")

@@ -16,8 +16,8 @@ def closed(world):
 
 
 def held(world):
-    """What the monitor holds once no session is left."""
-    end = time.monotonic() + 10
+    """What the monitor holds once what sessions let go is released: they don't wait for that."""
+    end = time.monotonic() + 60
     while world.monitor.accesses() and time.monotonic() < end:
         time.sleep(0.05)
     return world.monitor.accesses()
@@ -85,7 +85,8 @@ def cancelled(world):
         began = time.monotonic()
         assert bob.ask("SET statement_timeout = 100; SELECT id FROM docs; SET statement_timeout = 0;") == TIMED_OUT
         assert bob.ask("BEGIN; COMMIT;") == ""
-        assert time.monotonic() - began < 2, "a cancel waited for the monitor"
+        # (of the monitor it would wait as long as mls.timeout)
+        assert time.monotonic() - began < 20, "a cancel waited for the monitor"
         os.kill(core, signal.SIGCONT)
         # (the answer that was due then isn't taken for another)
         assert bob.ask("SELECT id FROM docs ORDER BY id; INSERT INTO docs VALUES (60, 'U_lo', 'x');"
@@ -120,22 +121,22 @@ def test_sessions_share_a_subject(world):
     assert world.monitor.accesses() == held_by_first != []
     assert second.ask("SELECT mls.level('U');") == "ERROR:  mls: ann may not work at U: no star\n"
     assert first.ask("SELECT body FROM docs WHERE id = 3; COMMIT;") == "attack at dawn\n"
+    assert held(world) == []
     assert second.ask("SELECT mls.level('U');") == "U\n"
     # (which is the level of both)
     assert first.ask("SELECT id FROM docs;") == "1\n"
 
 
 def test_no_answer_in_time(world):
-    world.server.set(timeout="300ms")
-    core = world.monitor.core()
-    bob = world.server.session("bob")
-    os.kill(core, signal.SIGSTOP)
-    answers = bob.ask("SELECT id FROM docs;"), bob.ask("SELECT id FROM docs;")
-    os.kill(core, signal.SIGCONT)
-    assert answers == (unreached(world, "no answer in time\n"),) * 2, answers
+    with world.server.having(timeout="300ms"):
+        core = world.monitor.core()
+        bob = world.server.session("bob")
+        os.kill(core, signal.SIGSTOP)
+        answers = bob.ask("SELECT id FROM docs;"), bob.ask("SELECT id FROM docs;")
+        os.kill(core, signal.SIGCONT)
+        assert answers == (unreached(world, "no answer in time\n"),) * 2, answers
     assert bob.ask("SELECT id FROM docs;") == "1\n"
     bob.close()
-    world.server.set(timeout="30s")
     assert held(world) == []
 
 

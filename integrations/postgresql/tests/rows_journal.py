@@ -94,51 +94,48 @@ def permits(world, deed):
 
 
 def test_reads_are_kept(world):
-    world.server.set(keep="on")
-    bob = world.server.session("bob")
-    counts = [world.monitor.count()]
-    for sql in ("SELECT id FROM docs WHERE id = 1;", "SELECT id FROM docs WHERE id = 1;", "BEGIN; "
-                                                                                          "SELECT body FROM docs; "
-                                                                                          "COMMIT;"):
-        bob.ask(sql)
-        counts.append(world.monitor.count())
-    # (the first asks; of the third the four that are denied are asked for each time)
-    assert [b - a for a, b in zip(counts, counts[1:])] == [1, 0, 4], counts
-    # (what is kept doesn't stand in the way of another level, and is asked for again there)
-    assert bob.ask("SELECT mls.level('C'); SELECT id FROM docs ORDER BY id; SELECT mls.level('U');") == "C\n1\n2\nU\n"
-    assert bob.ask("BEGIN; SELECT id FROM docs WHERE id = 2; SELECT mls.held(); COMMIT;") == "\n"
-    assert bob.ask("SELECT id FROM docs WHERE id = 1;") == "1\n"
-    # (what is taken away is gone with the next transaction)
-    permits(world, "rescind read bob U_hi")
-    assert bob.ask("SELECT id FROM docs WHERE id = 1; SELECT 'no more';") == "no more\n"
-    permits(world, "give read bob U_hi")
-    assert bob.ask("SELECT id FROM docs WHERE id = 1;") == "1\n"
-    bob.close()
-    world.server.set(keep="off")
+    with world.server.having(keep="on"):
+        bob = world.server.session("bob")
+        counts = [world.monitor.count()]
+        for sql in (*2 * ["SELECT id FROM docs WHERE id = 1;"], "BEGIN; SELECT body FROM docs; COMMIT;"):
+            bob.ask(sql)
+            counts.append(world.monitor.count())
+        # (the first asks; of the third the four that are denied are asked for each time)
+        assert [b - a for a, b in zip(counts, counts[1:])] == [1, 0, 4], counts
+        # (what is kept doesn't stand in the way of another level, and is asked for again there)
+        at_another = bob.ask("SELECT mls.level('C'); SELECT id FROM docs ORDER BY id; SELECT mls.level('U');")
+        assert at_another == "C\n1\n2\nU\n", at_another
+        assert bob.ask("BEGIN; SELECT id FROM docs WHERE id = 2; SELECT mls.held(); COMMIT;") == "\n"
+        assert bob.ask("SELECT id FROM docs WHERE id = 1;") == "1\n"
+        # (what is taken away is gone with the next transaction)
+        permits(world, "rescind read bob U_hi")
+        assert bob.ask("SELECT id FROM docs WHERE id = 1; SELECT 'no more';") == "no more\n"
+        permits(world, "give read bob U_hi")
+        assert bob.ask("SELECT id FROM docs WHERE id = 1;") == "1\n"
+        bob.close()
 
 
 def test_kept_reads_are_asked_about_at_times(world):
-    world.server.set(keep="on", recheck="1min")
-    bob = world.server.session("bob")
-    assert bob.ask("SELECT id FROM docs WHERE id = 1;") == "1\n"
-    permits(world, "rescind read bob U_hi")
-    # (so long, as README.md says, it is still shown)
-    assert bob.ask("SELECT id FROM docs WHERE id = 1;") == "1\n"
-    world.server.set(recheck="10ms")
-    assert bob.ask("SELECT pg_sleep(0.1); SELECT id FROM docs WHERE id = 1;") == "\n"
-    permits(world, "give read bob U_hi")
-    bob.close()
-    world.server.set(keep="off", recheck="0")
+    with world.server.having(keep="on", recheck="1min"):
+        bob = world.server.session("bob")
+        assert bob.ask("SELECT id FROM docs WHERE id = 1;") == "1\n"
+        permits(world, "rescind read bob U_hi")
+        # (so long, as README.md says, it is still shown)
+        assert bob.ask("SELECT id FROM docs WHERE id = 1;") == "1\n"
+        world.server.set(recheck="10ms")
+        assert bob.ask("SELECT pg_sleep(0.1); SELECT id FROM docs WHERE id = 1;") == "\n"
+        permits(world, "give read bob U_hi")
+        bob.close()
 
 
 def test_denials_are_foreseen(world):
-    world.server.set(preview="on")
-    first = world.monitor.count()
-    assert world.ask("bob", "SELECT id FROM docs;") == "1\n"
-    entries = world.monitor.entries()[first:]
-    assert [entry.split(" ", 3)[3] for entry in entries] == ["bob get-read U_hi: yes", "bob release read "
-                                                                                       "U_hi: yes"], entries
-    # (a denial that errors is an entry all the same)
-    assert world.ask("bob", "INSERT INTO docs VALUES (80, 'C_hi', 'x'); "
-                            "UPDATE docs SET label = 'C_hi';").startswith("ERROR:  mls: bob")
-    world.server.set(preview="off")
+    with world.server.having(preview="on"):
+        first = world.monitor.count()
+        assert world.ask("bob", "SELECT id FROM docs;") == "1\n"
+        world.monitor.settle()
+        entries = world.monitor.entries()[first:]
+        said = [entry.split(" ", 3)[3] for entry in entries]
+        assert said == ["bob get-read U_hi: yes", "bob release read U_hi: yes"], entries
+        # (a denial that errors is an entry all the same)
+        assert world.ask("bob", "INSERT INTO docs VALUES (80, 'C_hi', 'x'); "
+                                "UPDATE docs SET label = 'C_hi';").startswith("ERROR:  mls: bob")

@@ -141,11 +141,11 @@ def test_a_role_sees_its_own_queries(world):
     assert "attack at dawn" in low.ask(seen)
     # (what an administrator does about it)
     world.ask("postgres", "ALTER SYSTEM SET track_activities = off;")
-    world.ask("postgres", "SELECT pg_reload_conf(), pg_sleep(0.2);")
+    world.server.reload(track_activities="off")
     high.ask("SELECT 'attack at noon';")
     assert "attack" not in low.ask(seen)
     world.ask("postgres", "ALTER SYSTEM RESET track_activities;")
-    world.ask("postgres", "SELECT pg_reload_conf(), pg_sleep(0.2);")
+    world.server.reload(track_activities="on")
     high.close()
     low.close()
 

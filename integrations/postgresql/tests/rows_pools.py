@@ -25,7 +25,7 @@ def pooled(world):
 def begun(world):
     """A session of ann's that has a subject, once one is free."""
     ann = world.server.session("ann")
-    end = time.monotonic() + 10
+    end = time.monotonic() + 60
     while (found := ann.ask("SELECT count(*) FROM docs;")).startswith("ERROR:  mls: the monitor says busy"):
         assert time.monotonic() < end, "the pool stays busy"
     return ann
@@ -42,6 +42,9 @@ def levels(world):
     assert second.ask("SELECT mls.level('C'); SELECT mls.level('U');") == "C\nU\n"
     none = world.ask("ann", "SELECT * FROM docs;")
     assert none == "ERROR:  mls: the monitor says busy to ann\n", none
+    # (and so where that is only asked as a question)
+    with world.server.having(preview="on"):
+        assert world.ask("ann", "SELECT * FROM docs;") == none
     first.close()
     # (the subject that comes back is at the level of the start)
     third = begun(world)

@@ -1,5 +1,6 @@
 """A PostgreSQL server of the checks' own: its programs and files in a folder of their own, so that the extension is
 installed there and the system's server is left as it is; its socket in that folder; its data new each time."""
+import contextlib
 import glob
 import os
 import pwd
@@ -8,7 +9,7 @@ import subprocess
 
 HERE = os.path.dirname(os.path.realpath(__file__))
 SOURCE = os.path.dirname(HERE)
-SECONDS = 120
+SECONDS = 600
 # For what is done once, on a machine that has much else to do.
 SLOW_SECONDS = 600
 SETTINGS = """
@@ -113,12 +114,27 @@ class Server:
 
     def set(self, **settings):
         """Changes settings of the extension, and waits until new sessions have them."""
+        settings = {f"mls.{name}": value for name, value in settings.items()}
         with open(f"{self.data}/postgresql.conf", "a", encoding="utf-8") as file:
-            file.writelines(f"mls.{name} = '{value}'\n" for name, value in settings.items())
+            file.writelines(f"{name} = '{value}'\n" for name, value in settings.items())
+        self.reload(**settings)
+
+    def reload(self, **settings):
+        """Has the server read its settings, and waits until new sessions have these."""
         self.run(f"{self.bin}/pg_ctl", "-D", self.data, "reload")
         for name, value in settings.items():
-            while self.ask("postgres", f"SHOW mls.{name};") != f"{value}\n":
+            while self.ask("postgres", f"SHOW {name};") != f"{value}\n":
                 pass
+
+    @contextlib.contextmanager
+    def having(self, **settings):
+        """Within it new sessions have these settings of the extension."""
+        before = {name: self.ask("postgres", f"SHOW mls.{name};").rstrip("\n") for name in settings}
+        self.set(**settings)
+        try:
+            yield
+        finally:
+            self.set(**before)
 
     def psql(self, role, database):
         return ["psql", "-h", self.folder, "-U", role, "-d", database, "-X", "-q", "-A", "-t", "-v", "VERBOSITY=terse"]
@@ -139,6 +155,9 @@ class Server:
             session.process.kill()
             session.process.communicate()
         self.sessions = []
+        # (a backend that computes, or waits, doesn't see that its client is gone)
+        self.ask("postgres", "SELECT pg_terminate_backend(pid) FROM pg_stat_activity "
+                             "WHERE backend_type = 'client backend' AND pid <> pg_backend_pid();")
 
 
 class Session:

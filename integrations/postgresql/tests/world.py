@@ -68,6 +68,7 @@ class World:
     def begin(self):
         """The rows as at first, and everybody's level as in the start; no session of another check."""
         self.server.end_sessions()
+        self.monitor.settle()
         said = self.server.ask("postgres", "SET client_min_messages = error;" + ROWS)
         assert said == "", said
         assert self.monitor.ask("ann level U\nbob level U\nsec level U\n") == ["yes"] * 3
@@ -79,8 +80,10 @@ class World:
     def opened(self, setting):
         """Within it a setting of the extension that opens something is on, in new sessions."""
         self.ask("postgres", f"ALTER DATABASE demo SET mls.{setting} = on;")
-        yield
-        self.ask("postgres", f"ALTER DATABASE demo RESET mls.{setting};")
+        try:
+            yield
+        finally:
+            self.ask("postgres", f"ALTER DATABASE demo RESET mls.{setting};")
 
     def same(self, rows):
         """Each row is a role, what it types, and what it must be shown."""

@@ -6,7 +6,7 @@ use std::ptr;
 
 /// The version of the header that this file says.
 pub const MLS_VERSION_MAJOR: u32 = 0;
-pub const MLS_VERSION_MINOR: u32 = 2;
+pub const MLS_VERSION_MINOR: u32 = 3;
 
 // Statuses.
 pub const MLS_OK: c_int = 0;

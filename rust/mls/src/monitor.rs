@@ -1,5 +1,6 @@
 //! A monitor: a handle of the library, with its calls as methods.
 use crate::handle::{version, Handle};
+use crate::library::is_known;
 use crate::{Answer, Kind, Label, LabelError, Mode, Object, OpenError, Reply, Request, Subject};
 use mls_sys::*;
 use std::os::raw::c_int;
@@ -145,15 +146,6 @@ impl fmt::Display for SubmitError {
 
 impl error::Error for SubmitError {}
 
-/// Whether a library of this version has all that this crate calls: as new as the header, and of its major version.
-pub(crate) fn is_known(version: &'static str) -> Result<(), &'static str> {
-    let numbers = version.split_once('.').map(|(major, minor)| (major.parse(), minor.parse::<u32>()));
-    match numbers {
-        Some((Ok(MLS_VERSION_MAJOR), Ok(minor))) if minor >= MLS_VERSION_MINOR => Ok(()),
-        _ => Err(version),
-    }
-}
-
 fn opened(handle: Result<Handle, (c_int, mls_fault)>) -> Result<Monitor, OpenError> {
     match handle {
         Ok(handle) => Ok(Monitor { handle }),
@@ -178,19 +170,4 @@ pub(crate) fn ascii(text: Vec<u8>) -> String {
 /// A call has a status that it doesn't have: the handle is open, and what is asked is well formed.
 pub(crate) fn unknown(call: &str, status: c_int) -> ! {
     panic!("libmls: {call} has status {status}")
-}
-
-#[cfg(test)]
-mod tests {
-    use super::*;
-
-    #[test]
-    fn versions() {
-        for known in ["0.2", "0.3", "0.10"] {
-            assert_eq!(is_known(known), Ok(()));
-        }
-        for other in ["0.1", "1.2", "1.0", "0", "", "0.", "?", "0.2.1", "-0.2"] {
-            assert_eq!(is_known(other), Err(other));
-        }
-    }
 }

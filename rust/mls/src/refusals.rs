@@ -1,6 +1,6 @@
 //! Why a monitor isn't opened.
 use crate::handle::fault_text;
-use crate::{EntryFault, LoadFault, Reply};
+use crate::{EntryFault, LoadFault, OtherVersion, Reply};
 use mls_sys::*;
 use std::os::raw::c_int;
 use std::{error, fmt};
@@ -11,7 +11,7 @@ use std::{error, fmt};
 #[non_exhaustive]
 pub enum OpenError {
     /// The library that was found has this version, and another is wanted.
-    Library(&'static str),
+    Library(OtherVersion),
     /// The start file is refused.
     Start(LoadFault),
     /// A line of the journal is no entry's.
@@ -80,9 +80,7 @@ impl ReplayFault {
 impl fmt::Display for OpenError {
     fn fmt(&self, f: &mut fmt::Formatter<'_>) -> fmt::Result {
         match self {
-            OpenError::Library(found) => {
-                write!(f, "libmls has version {found}, and {MLS_VERSION_MAJOR}.{MLS_VERSION_MINOR} is wanted")
-            }
+            OpenError::Library(other) => other.fmt(f),
             OpenError::Start(fault) => write!(f, "start {fault}"),
             OpenError::Line { line, fault } => write!(f, "line {}: entry {fault}", line.saturating_add(1)),
             OpenError::Replay { entry, fault: ReplayFault::Number } => write!(f, "replay 1 Number at {entry}"),

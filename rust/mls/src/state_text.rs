@@ -1,7 +1,8 @@
 //! The text of a state, and monitors that go on from one.
 use crate::handle::{version, Handle};
-use crate::monitor::{ascii, is_known, unknown};
-use crate::{LoadFault, Monitor};
+use crate::library::is_known;
+use crate::monitor::{ascii, unknown};
+use crate::{LoadFault, Monitor, OtherVersion};
 use mls_sys::*;
 use std::os::raw::c_int;
 use std::{error, fmt};
@@ -19,7 +20,7 @@ pub enum StateTextError {
 #[non_exhaustive]
 pub enum OpenStateError {
     /// The library that was found has this version, and another is wanted.
-    Library(&'static str),
+    Library(OtherVersion),
     /// The start file is refused.
     Start(LoadFault),
     /// The text isn't that of a state: this line, counted from 0, isn't as it must be.
@@ -110,9 +111,7 @@ impl error::Error for StateTextError {}
 impl fmt::Display for OpenStateError {
     fn fmt(&self, f: &mut fmt::Formatter<'_>) -> fmt::Result {
         match self {
-            OpenStateError::Library(found) => {
-                write!(f, "libmls has version {found}, and {MLS_VERSION_MAJOR}.{MLS_VERSION_MINOR} is wanted")
-            }
+            OpenStateError::Library(other) => other.fmt(f),
             OpenStateError::Start(fault) => write!(f, "start {fault}"),
             OpenStateError::Line(line) => write!(f, "line {}: not of a state", line.saturating_add(1)),
             OpenStateError::OtherStart => f.write_str("a state of another start"),

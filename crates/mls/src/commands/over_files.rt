@@ -1,8 +1,8 @@
 //! The commands over files.
 use mls_answers::check as said_of;
 use mls_files::{
-    Goal, Wanted, command_refused, fault_file, open_start, read_journal, seek, segments_of,
-    start_file,
+    Goal, Hint, Wanted, fault_file, journal_hint, load_hint, open_start, read_journal,
+    refused_with_place, seek, segments_of, start_file, start_hint,
 };
 use mls_questions::form_of;
 use mls_replay::{CommandFault, ending, replay_journal};
@@ -10,7 +10,6 @@ use mls_rows::Form;
 use mls_seen::Opened;
 use mls_terminal::{NO_MEMORY, Progress, file_refused, print, refused};
 use std::alloc::Global;
-use std::io::IsTerminal;
 use std::process::ExitCode;
 
 /// Ends a command: writes its output, or tells why it was refused.
@@ -19,6 +18,7 @@ fn ended(
     done: Result<Vec<u8>, CommandFault>,
     start: &str,
     journal: &str,
+    hint: Hint,
 ) -> ExitCode {
     progress.end();
     match done {
@@ -27,14 +27,26 @@ fn ended(
             drop(bytes);
             status
         }
-        Err(fault) => command_refused(progress.rt(), fault_file(&fault, start, journal), &fault),
+        Err(fault) => {
+            let file = fault_file(&fault, start, journal);
+            refused_with_place(progress.rt(), file, &fault, hint)
+        }
     }
 }
 
-/// Says which command tells where the fault of a start file applies, where standard error is a terminal.
-fn point_to_lint(rt: &HostRuntime, start: &str) {
-    if rt.stderr().is_terminal() {
-        let _ = eprintln!(rt; "mls lint {start} tells where");
+/// What is added to the fault of a command, where something is: what a start file looks like, or a journal.
+fn hint_of(
+    progress: &Progress<'_>,
+    done: &Result<Vec<u8>, CommandFault>,
+    start: Hint,
+    journal: &[u8],
+) -> Hint {
+    match done {
+        Err(fault) if progress.is_adding() => match fault {
+            CommandFault::Load(_) => load_hint(fault, start),
+            fault => journal_hint(fault, journal),
+        },
+        _ => Hint::None,
     }
 }
 
@@ -53,13 +65,10 @@ pub fn check(progress: &mut Progress<'_>, start: &str) -> ExitCode {
         Err(fault) => return file_refused(progress, start, fault),
     };
     progress.begin("checking");
+    let look = start_hint(&bytes);
     let done = checked(progress.rt().alloc(), form_of(progress), bytes);
-    let is_refused = matches!(&done, Err(CommandFault::Load(_)));
-    let status = ended(progress, done, start, start);
-    if is_refused {
-        point_to_lint(progress.rt(), start);
-    }
-    status
+    let hint = hint_of(progress, &done, look, b"".as_slice());
+    ended(progress, done, start, start, hint)
 }
 
 /// Replays the files of a journal in segments over a start file that was read, and says how the monitor then stands.
@@ -114,8 +123,9 @@ fn replay_over(progress: &mut Progress<'_>, bytes: &[u8], start: &str, journal: 
     };
     progress.begin("replaying");
     let replayed = replayed(progress.rt().alloc(), bytes, &entries);
+    let hint = hint_of(progress, &replayed, start_hint(bytes), &entries);
     drop(entries);
-    ended(progress, replayed, start, journal)
+    ended(progress, replayed, start, journal, hint)
 }
 
 /// Replays a journal over the bytes of a start file: a segment at a time, where it is in segments.

@@ -3,12 +3,13 @@ ghost use Rattle.std.specs.Prelude.{◌≡◌, ◌≤◌, length, vec_len, All, 
 
 use crate::commands::run_journal::RunJournal;
 use mls_command_line::RunWords;
-use mls_files::command_refused;
+use mls_files::{start_hint, start_refused};
 use mls_replay::{CommandFault, RunText};
 use mls_scripts::SCRIPT_LIMIT;
 use mls_terminal::{FileFault, Held, Input, Progress, file_refused, print};
 use std::alloc::{AllocError, Global};
 use std::process::ExitCode;
+use std::str;
 
 /// A script that wasn't read: its place among the scripts, and why.
 struct ScriptFault {
@@ -46,6 +47,35 @@ fn read_in_order(
     Ok(texts)
 }
 
+/// Whether a line of a script ends in a carriage return, which is no byte of a word.
+fn has_carriage(script: &[u8]) -> bool {
+    let mut is_carriage = false;
+    for byte in script {
+        if *byte == b'\n' && is_carriage {
+            return true;
+        }
+        is_carriage = *byte == b'\r';
+    }
+    false
+}
+
+/// Tells a person at a terminal which scripts have lines that end in a carriage return.
+fn tell_carriages(progress: &mut Progress<'_>, paths: &[&str], scripts: &[Vec<u8>]) {
+    if !progress.is_adding() {
+        return;
+    }
+    progress.end();
+    for (place, path) in paths.iter().enumerate() {
+        let is_told = match scripts.get(place) {
+            Some(script) => has_carriage(script),
+            None => false,
+        };
+        if is_told {
+            let _ = eprintln!(progress.rt(); "mls: {path}: line ends in CR");
+        }
+    }
+}
+
 /// Reads the scripts of a run, in order, or tells why one wasn't read.
 ///
 /// # Errors
@@ -59,7 +89,10 @@ pub fn read_scripts(
     ensures limit { IfOk result (λ texts. All (λ text. vec_len text ≤ SCRIPT_LIMIT) texts.items) }
 {
     match read_in_order(progress, held, &words.scripts) {
-        Ok(texts) => Ok(texts),
+        Ok(texts) => {
+            tell_carriages(progress, &words.scripts, &texts);
+            Ok(texts)
+        }
         Err(ScriptFault { place, fault }) => {
             let path = words.scripts.get(place).copied().unwrap_or("");
             Err(file_refused(progress, path, fault))
@@ -99,6 +132,31 @@ fn write_run(
     print(progress.rt(), &run.output)
 }
 
+/// The status of a run whose output was printed where a line wasn't understood, if that is a fault.
+const NOT_UNDERSTOOD: u8 = 4;
+
+/// Whether an answer says that a line wasn't understood: no other answer begins so.
+fn has_bad_line(output: &[u8]) -> bool {
+    let Ok(text) = str::from_utf8(output) else {
+        return false;
+    };
+    for line in text.lines() {
+        if line.starts_with("bad ") {
+            return true;
+        }
+    }
+    false
+}
+
+/// The status of a run whose output was printed with this status.
+fn run_status(printed: ExitCode, is_strict: bool, output: &[u8]) -> ExitCode {
+    if is_strict && printed == ExitCode::SUCCESS && has_bad_line(output) {
+        ExitCode::from(NOT_UNDERSTOOD)
+    } else {
+        printed
+    }
+}
+
 /// Gives up the file that the journal of a refused run was to be written to.
 pub fn discard(rt: &HostRuntime, journal: &Option<RunJournal<'_>>) {
     if let Some(journal) = journal {
@@ -106,23 +164,25 @@ pub fn discard(rt: &HostRuntime, journal: &Option<RunJournal<'_>>) {
     }
 }
 
-/// Ends a run: prints what it came to, or tells why it was refused.
+/// Ends a run over the bytes of a start file: prints what it came to, or tells why it was refused.
 pub fn ended_run(
     progress: &mut Progress<'_>,
     done: Result<RunText, CommandFault>,
-    start: &str,
+    start: &[u8],
+    words: &RunWords<'_>,
     journal: &mut Option<RunJournal<'_>>,
 ) -> ExitCode {
     match done {
         Ok(run) => {
-            let status = write_run(progress, &run, journal);
+            let printed = write_run(progress, &run, journal);
+            let status = run_status(printed, words.is_strict, &run.output);
             drop(run);
             status
         }
         Err(fault) => {
             discard(progress.rt(), journal);
             progress.end();
-            command_refused(progress.rt(), start, &fault)
+            start_refused(progress, words.start, &fault, start_hint(start))
         }
     }
 }

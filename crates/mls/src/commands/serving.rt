@@ -5,9 +5,9 @@ use mls_monitor::{Monitor, Start};
 use mls_replay::CommandFault;
 use mls_scripts::{ServeFault, serve};
 use mls_start_file::standard_start;
-use mls_terminal::{NO_MEMORY, NOT_WRITTEN, refused};
+use mls_terminal::{NO_MEMORY, NOT_WRITTEN, Prompt, help_text, is_typed, refused};
 use std::alloc::Global;
-use std::io::BufWriter;
+use std::io::{BufWriter, Write};
 use std::process::ExitCode;
 
 /// The line on standard error where serving the script ended before the script did.
@@ -20,6 +20,23 @@ fn serve_line(fault: ServeFault) -> &'static str {
     }
 }
 
+/// Answers what a person types at a terminal, line by line.
+fn serve_typed<W: Write>(
+    rt: &HostRuntime,
+    names: &Names<Global>,
+    monitor: &mut Monitor<Global>,
+    writer: &mut W,
+) -> Result<u64, ServeFault> {
+    let Ok(help) = help_text(rt.alloc(), names) else {
+        return Err(ServeFault::Memory);
+    };
+    let mut prompt = Prompt::new(rt, &help);
+    let served = serve(rt.alloc(), names, monitor, 0, &mut prompt, writer);
+    drop(prompt);
+    drop(help);
+    served
+}
+
 /// Answers the script as session 0, and gives the number of entries, or the line that tells of a fault.
 fn serve_input(
     rt: &HostRuntime,
@@ -29,8 +46,11 @@ fn serve_input(
     let Ok(mut writer) = BufWriter::new(rt.alloc(), rt.stdout()) else {
         return Err(NO_MEMORY);
     };
-    let mut reader = rt.stdin();
-    let served = serve(rt.alloc(), names, monitor, 0, &mut reader, &mut writer);
+    let served = if is_typed(rt) {
+        serve_typed(rt, names, monitor, &mut writer)
+    } else {
+        serve(rt.alloc(), names, monitor, 0, &mut rt.stdin(), &mut writer)
+    };
     drop(writer);
     match served {
         Ok(entries) => Ok(entries),

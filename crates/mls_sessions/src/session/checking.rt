@@ -74,8 +74,8 @@ impl Session {
     /// Returns whether the triple is a current access; false where it names an unknown subject or an object that isn't
     /// active. The history grows by what others added, and the answer is that of the state which it led to.
     ///
-    /// It reads one word, that of the object for eight subjects, and waits for the gate only where the word is blank, or
-    /// the triple has none. All words are blank when the office opens, and those of an object where it is deleted. A
+    /// It reads one word, that of the object for eight subjects, and waits for the gate only where the word is blank,
+    /// or the triple has none. All words are blank when the office opens, and those of an object where it is deleted. A
     /// check that waited fills its word, but one of several asks of one turn fills none. A triple without a word always
     /// waits.
     pub fn check<R: Wait>(

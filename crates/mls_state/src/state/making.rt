@@ -14,7 +14,10 @@ use mls_tables::{AccessSet, Matrix, Mode, ObjectId, SubjectId, put_at};
 use std::alloc::{AllocError, Allocator};
 
 /// Sees that the matrix has a column for the next object.
-fn widen_matrix<A: Allocator>(matrix: &mut Matrix<A>, next: u16) -> Result<(), AllocError>
+pub(crate) fn widen_matrix<A: Allocator>(
+    matrix: &mut Matrix<A>,
+    next: u16,
+) -> Result<(), AllocError>
     requires room { next < MAX_OBJECTS }
     requires near { next ≤ matrix.old.columns }
     ensures ok { OnOk result (next < matrix.new.columns) }
@@ -27,7 +30,10 @@ fn widen_matrix<A: Allocator>(matrix: &mut Matrix<A>, next: u16) -> Result<(), A
 }
 
 /// Sees that the current accesses have a column for the next object.
-fn widen_accesses<A: Allocator>(accesses: &mut AccessSet<A>, next: u16) -> Result<(), AllocError>
+pub(crate) fn widen_accesses<A: Allocator>(
+    accesses: &mut AccessSet<A>,
+    next: u16,
+) -> Result<(), AllocError>
     requires room { next < MAX_OBJECTS }
     requires near { next ≤ accesses.old.columns }
     ensures ok { OnOk result (next < accesses.new.columns) }

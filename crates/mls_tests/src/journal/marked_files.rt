@@ -6,7 +6,7 @@ use crate::standard::{ample_monitor, ample_start};
 use mls_durable::{Asker, AttendFault, Options, Protocol, ServiceFault, TornEnd};
 use mls_lines::Names;
 use mls_marked::{Served, serve_marked};
-use mls_marks::{Chain, Digest, Verifier};
+use mls_marks::{Chain, Digest, Scope, Verifier};
 use mls_monitor::Monitor;
 use std::alloc::Global;
 use std::process::Abort;
@@ -17,8 +17,8 @@ const SCRIPT: &[u8] =
 
 /// The marks of the first two entries and of the others. The digests are those of Python's hashlib.
 const MARKS: &[u8] =
-    b"1 2026-11-27T11:12:26.736512Z aee993828eb6cd2e9d6c53131978d2e26c25154f4da5b136f747ccd3b19253e0\n\
-3 2026-11-27T11:12:26.736512Z 40d2e4a5b9315d03fac9b9ac9fe3680511d3492b71d1e21c8aa0e678be36f159\n";
+    b"1 2026-11-27T11:12:26.736512Z a3b743542803321b8f41a6715ab8cdfd811a6d49fb2d245c6f93a76703b7be5b\n\
+3 2026-11-27T11:12:26.736512Z 66b122778c1fd3ec7d4e8eacb4fceddec62dd2d8ee637c7feb227f5fa4560685\n";
 
 /// How many bytes the first of them has.
 const FIRST_MARK: usize = 95;
@@ -122,7 +122,7 @@ fn the_marks_of_a_live_file_agree_with_it_from_its_first_on(rt: HostRuntime) {
         panic!(rt; "a digest");
     };
     let live = b"2 0 0 release read 1 yes\n3 0 0 get-read 1 yes\n";
-    let mut verifier = Verifier::within(live, digest, 2, None);
+    let mut verifier = Verifier::within(live, Scope::EntriesAndTimes, digest, 2, None);
     sees(&rt, verifier.take(behind).is_ok(), "marks that agree");
     sees(&rt, verifier.end().is_ok(), "a whole line");
     let chain = verifier.verified().chain;

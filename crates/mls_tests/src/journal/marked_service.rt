@@ -24,7 +24,7 @@ const LINE: &[u8] = b"0 0 0 get-read 1 yes\n";
 
 /// The line of its mark. The digest is that of Python's hashlib.
 const MARK: &[u8] =
-    b"0 2026-11-27T11:12:26.736512Z 899c2cfb011b90cd5b0eec4174e340189117785e03f8995f0cbe33892662f344\n";
+    b"0 2026-11-27T11:12:26.736512Z 4ae17cf15e6b41c1f205141e0e4a18b48262628e34fdfb8e6c9bed5987a8e27c\n";
 
 /// A service over a file in memory, with the marks that are there.
 #[derive(Clone, Copy)]

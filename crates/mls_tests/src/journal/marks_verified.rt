@@ -1,6 +1,6 @@
 //! Marks verified in pieces, and asked for. The digests are those of Python's hashlib.
 use crate::seen::sees;
-use mls_marks::{Digest, MarkFault, Marks, Time, Verifier};
+use mls_marks::{Digest, Head, MarkFault, Marks, Scope, Time, Verifier};
 use std::process::Abort;
 
 /// The lines of three entries.
@@ -26,7 +26,7 @@ struct Row {
     marks: u64,
 }
 
-const ROWS: [Row; 10] = [
+const ROWS: [Row; 12] = [
     Row {
         pieces: &[FIRST, FIRST_DIGEST, b"\n", SECOND, SECOND_DIGEST, b"\n"],
         fault: None,
@@ -54,6 +54,18 @@ const ROWS: [Row; 10] = [
         pieces: &[b"0 2026-13-27T11:12:26.736512Z ", FIRST_DIGEST, b"\n"],
         fault: Some(MarkFault::Form { line: 1 }),
         marks: 0,
+    },
+    // a day that isn't one
+    Row {
+        pieces: &[b"0 2026-02-29T11:12:26.736512Z ", FIRST_DIGEST, b"\n"],
+        fault: Some(MarkFault::Form { line: 1 }),
+        marks: 0,
+    },
+    // one that is one in a year with a day more
+    Row {
+        pieces: &[b"0 2028-02-29T11:12:26.736512Z ", FIRST_DIGEST, b"\n"],
+        fault: None,
+        marks: 1,
     },
     // a line that is longer than a mark's
     Row {
@@ -125,7 +137,7 @@ fn assert_row(rt: &impl Abort, row: &Row, verifier: &Verifier<'_>) {
 /// Asserts what the marks of each row come to, whose pieces are taken whole or a byte at a time.
 fn assert_rows(rt: &impl Abort, whole: bool) {
     for row in &ROWS {
-        let mut verifier = Verifier::new(JOURNAL, Digest::zeros(), None);
+        let mut verifier = Verifier::new(JOURNAL, Scope::Entries, Digest::zeros(), None);
         take_row(&mut verifier, row, whole);
         assert_row(rt, row, &verifier);
         drop(verifier);
@@ -162,6 +174,7 @@ fn assert_verified(rt: &impl Abort, verifier: &Verifier<'_>) {
     sees_time(rt, verified.first, LATE);
     sees_time(rt, verified.last, EARLY);
     sees(rt, verified.is_found, "the first digest");
+    sees(rt, verified.back == 1, "how many are earlier");
     sees(rt, verified.len == 190, "how long the marks are");
 }
 
@@ -194,11 +207,102 @@ fn take_first(rt: &impl Abort, verifier: &mut Verifier<'_>, marks: &mut Marks) {
 
 #[test]
 fn marks_say_when_entries_were_made(rt: HostRuntime) {
-    let mut verifier = Verifier::new(JOURNAL, Digest::zeros(), Digest::read(FIRST_DIGEST));
+    let mut verifier = Verifier::new(
+        JOURNAL,
+        Scope::Entries,
+        Digest::zeros(),
+        Digest::read(FIRST_DIGEST),
+    );
     let mut marks = Marks::new(rt.alloc());
     take_first(&rt, &mut verifier, &mut marks);
     assert_verified(&rt, &verifier);
     assert_times(&rt, &marks);
     drop(marks);
     drop(verifier);
+}
+
+/// The head of a start file `start`. The digests below are those of Python's hashlib.
+const HEAD: &[u8] = b"marks 2 cced28c6dc3f99c2396a5eaad732bf6b28142335892b1cd0e6af6cdb53f5ccfa\n";
+
+/// The digest of its line.
+const HEAD_DIGEST: &[u8] = b"d3063e974ac0ac121cffdceebebc2b91d4d34bea930d9145d6261607a6faa6e7";
+
+/// The same that goes on from an older file, and the digest of its line.
+const NEXT_HEAD: &[u8] =
+    b"marks 2 cced28c6dc3f99c2396a5eaad732bf6b28142335892b1cd0e6af6cdb53f5ccfa after \
+5f0c5f0c5f0c5f0c5f0c5f0c5f0c5f0c5f0c5f0c5f0c5f0c5f0c5f0c5f0c5f0c\n";
+
+const NEXT_DIGEST: &[u8] = b"36658cb61040f593d32b9c37f84974dca5f0c44ee7c05bb0a974714aa58aa2ee";
+
+/// The digests of the marks behind the first head: of the number and the time of each, too.
+const FIRST_TIMED: &[u8] = b"97c1b33549c11becf9e34c8f59fdf9684d0fa6e8bc252bf5b086ebd8318b447e";
+
+const SECOND_TIMED: &[u8] = b"734a27c31d4440461f6ef342b98ef4ebaa66ad739f9b2493dbd242c43a734dd8";
+
+/// The head of a text and what stands behind it.
+fn cut<'t>(rt: &impl Abort, text: &'t [u8]) -> (Head, &'t [u8]) {
+    match Head::cut(text) {
+        Some(found) => found,
+        None => panic!(rt; "a head"),
+    }
+}
+
+/// Asserts what a head says whose chain begins from the digest of this text.
+fn assert_head(rt: &impl Abort, line: &[u8], digest: &[u8], has_older: bool) {
+    let (head, rest) = cut(rt, line);
+    sees(rt, rest.is_empty(), "nothing behind it");
+    sees(rt, head.start == Digest::of(b"start"), "whose start it is");
+    sees(rt, head.after.is_some() == has_older, "whether it goes on");
+    sees(
+        rt,
+        Some(head.digest()) == Digest::read(digest),
+        "its digest",
+    );
+}
+
+/// Asserts that bytes don't begin with a head.
+fn assert_none(rt: &impl Abort, bytes: &[u8]) {
+    sees(rt, Head::cut(bytes).is_none(), "no head");
+}
+
+#[test]
+fn heads_are_read(rt: HostRuntime) {
+    assert_head(&rt, HEAD, HEAD_DIGEST, false);
+    assert_head(&rt, NEXT_HEAD, NEXT_DIGEST, true);
+    assert_none(&rt, &HEAD[..HEAD.len() - 1]);
+    assert_none(&rt, &HEAD[1..]);
+    assert_none(&rt, &NEXT_HEAD[..100]);
+    assert_none(&rt, FIRST);
+    assert_none(&rt, b"");
+}
+
+const TIMED_ROWS: [Row; 3] = [
+    Row {
+        pieces: &[FIRST, FIRST_TIMED, b"\n", SECOND, SECOND_TIMED, b"\n"],
+        fault: None,
+        marks: 2,
+    },
+    // the time of another moment
+    Row {
+        pieces: &[b"0 2026-11-27T11:12:26.736513Z ", FIRST_TIMED, b"\n"],
+        fault: Some(MarkFault::Differs { entry: 0 }),
+        marks: 0,
+    },
+    // a digest of the entries alone
+    Row {
+        pieces: &[FIRST, FIRST_DIGEST, b"\n"],
+        fault: Some(MarkFault::Differs { entry: 0 }),
+        marks: 0,
+    },
+];
+
+#[test]
+fn marks_behind_a_head_are_of_their_times(rt: HostRuntime) {
+    let (head, _) = cut(&rt, HEAD);
+    for row in &TIMED_ROWS {
+        let mut verifier = Verifier::new(JOURNAL, Scope::EntriesAndTimes, head.digest(), None);
+        take_row(&mut verifier, row, true);
+        assert_row(&rt, row, &verifier);
+        drop(verifier);
+    }
 }

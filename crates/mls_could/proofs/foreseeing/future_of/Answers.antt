@@ -1,4 +1,4 @@
-use Rattle.std.proofs.Common.{◌≡◌, true, false, sym, ◌∙◌}
+use Rattle.std.proofs.Common.{◌≡◌, true, sym, ◌∙◌}
 use Rattle.mls_futures.specs.Closure.{acts_in, CouldGet}
 use Rattle.mls_could.proofs.Pairs.{never}
 use Rattle.mls_could.proofs.foreseeing.future_of.Goals as goal

@@ -3,7 +3,7 @@ use Rattle.mls_futures.specs.Closure.{acts_in}
 use Rattle.mls_replay.specs.Naming.{object_word}
 use Rattle.mls_replay.specs.declared.question_fault.QuestionFault.TheVariants.{Object}
 use Rattle.mls_could.specs.Actors.{words_told}
-use Rattle.mls_could.proofs.Telling.{named_is, tells, refuses_memory, refuses_actors, refuses_object}
+use Rattle.mls_could.proofs.Telling.{named_is, tells, refuses_memory}
 use Rattle.mls_could.proofs.told.tell_word.Goals as goal
 
 pub returns-clause-ok : goal.returns-clause-ok

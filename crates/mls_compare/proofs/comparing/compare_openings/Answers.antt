@@ -1,4 +1,0 @@
-use Rattle.mls_compare.proofs.comparing.compare_openings.Goals as goal
-
-pub returns-clause-ok : goal.returns-clause-ok
-returns-clause-ok c = (c.in_ok-second.second, c.in_ok-second.ensures.ok, c.in_ok-answer.ensures)

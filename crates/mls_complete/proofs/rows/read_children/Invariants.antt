@@ -1,0 +1,10 @@
+use Rattle.std.proofs.Common.{◌≡◌, map, take, Some}
+use Rattle.serde_json.specs.View.{view}
+use Rattle.mls_start_text.specs.Each.{each_of}
+use Rattle.mls_complete.specs.Short.{short_child}
+use Rattle.mls_start_text.specs.Views.{child_view}
+use Rattle.mls_complete.proofs.rows.read_children.Given as goal
+
+-- the rows are those of the values so far
+abbrev pub invariant-loop-value : goal.invariant-loop-value
+invariant-loop-value l = each_of (short_child l.least l.root) (map view (take l.value-index l.list)) ≡ Some (map child_view l.rows.items)

@@ -1,0 +1,3 @@
+pub mod Completed
+pub mod Placed
+pub mod Short

@@ -1,0 +1,4 @@
+use Rattle.mls_differences.proofs.count.write_count.Goals as goal
+
+pub returns : goal.returns
+returns c = c.write_number.ensures

@@ -1,0 +1,8 @@
+use Rattle.mls_differences.proofs.Growing.{grown}
+use Rattle.mls_differences.proofs.counting.push_firsts.Goals as goal
+
+pub returns : goal.returns
+returns c =
+    let t2 = grown _ _ _ _ _ c.in_ok-push_seconds.ensures c.in_ok-push_seconds-2.ensures in
+    let t3 = grown _ _ _ _ _ t2 c.in_ok-push_seconds-3.ensures in
+    grown _ _ _ _ _ t3 c.in_ok-push_seconds-4.ensures

@@ -1,0 +1,10 @@
+mod Arrives
+mod Before
+mod Getting
+mod Handed
+mod Handing
+mod Made
+mod NeverArrives
+mod Once
+mod Passing
+mod Spreading

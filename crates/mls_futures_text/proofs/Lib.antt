@@ -1,0 +1,4 @@
+mod Never
+mod Rows
+mod Seen
+mod Telling

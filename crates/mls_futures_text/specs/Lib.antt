@@ -1,0 +1,4 @@
+pub mod Barriers
+pub mod Reasons
+pub mod Rows
+pub mod Whether

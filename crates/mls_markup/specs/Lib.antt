@@ -1,0 +1,6 @@
+pub mod Documents
+pub mod Escaping
+pub mod Pages
+pub mod Reading
+pub mod Trees
+pub mod Words

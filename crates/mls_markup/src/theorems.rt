@@ -1,0 +1,28 @@
+//! What holds of all that is written. The functions do nothing: each is a law, which its contract states.
+ghost use Rattle.std.specs.Prelude.{◌≡◌, ℕ, List, not, IsTrue};
+ghost use Rattle.std.specs.List.{list_all};
+ghost use Rattle.mls_markup.specs.Escaping.{escaped, is_delimiter};
+ghost use Rattle.std.specs.Prelude.{◌++◌};
+ghost use Rattle.mls_markup.specs.Reading.{Text, Value, after_all};
+ghost use Rattle.mls_markup.specs.Trees.{Forest, joined, written_of};
+
+/// What is escaped is no markup: it has no `<`, `>`, `"` or `'`; and a reader of HTML that comes to it in a text or in
+/// a value is there behind it, so that each `&` of it begins a reference that ends in it.
+#[tactic(auto, using(crate::proofs::Wholes::escaped_plain, crate::proofs::Wholes::escaped_in_text, crate::proofs::Wholes::escaped_in_value))]
+pub fn what_is_escaped_is_no_markup()
+    ensures plain { (text : List ℕ) → IsTrue (list_all (λ b. not (is_delimiter b)) (escaped text)) }
+    ensures text { (text : List ℕ) → after_all Text (escaped text) ≡ Text }
+    ensures value { (text : List ℕ) → after_all Value (escaped text) ≡ Value }
+{}
+
+/// In what is written of a tree each tag, value and reference that begins ends.
+#[tactic(auto, using(crate::proofs::Wholes::written_whole))]
+pub fn what_is_written_is_whole()
+    ensures { (f : Forest) → after_all Text (written_of f) ≡ Text }
+{}
+
+/// Trees that stand one after the other are written so.
+#[tactic(auto, using(crate::proofs::Joined::written_joined))]
+pub fn trees_are_written_in_turn()
+    ensures { (f g : Forest) → written_of (joined f g) ≡ written_of f ++ written_of g }
+{}

@@ -1,0 +1,96 @@
+//! What could come about.
+use crate::grid::{add_grid, add_sign};
+use crate::section::{FUTURES, begin_section, end_section};
+use mls_grid::{Grid, Prospect};
+use mls_lines::Names;
+use mls_markup::{Page, Tag};
+use std::alloc::AllocError;
+
+const COMMAND: &str = "mls who --could --journal J START OBJECT";
+
+const ACTING: &str =
+    " lists it all of an object. After the last entry: all act that are not trusted, and nobody else does.";
+
+/// What the signs say, each in a line.
+const LEGEND: [(Prospect, &str); 4] = [
+    (Prospect::Held, "held now"),
+    (Prospect::Permitted, "not held; permitted, and could be got"),
+    (
+        Prospect::Brought,
+        "not permitted now; could be got, once somebody who acts gives the permission",
+    ),
+    (Prospect::Never, "not held; never, whatever they do"),
+];
+
+/// What the section is about.
+fn source(page: &mut Page) -> Result<(), AllocError> {
+    page.open_as(Tag::Paragraph, "source")?;
+    page.leaf(Tag::Code, COMMAND)?;
+    page.text(ACTING)?;
+    page.close()?;
+    page.line()
+}
+
+/// The line of a sign, which is there of each mode.
+fn sign_line(page: &mut Page, prospect: Prospect, told: &str) -> Result<(), AllocError> {
+    page.open(Tag::Item)?;
+    page.open(Tag::Code)?;
+    for place in 0..4usize {
+        add_sign(page, place, prospect)?;
+    }
+    page.close()?;
+    page.text(": ")?;
+    page.text(told)?;
+    page.close()?;
+    page.line()
+}
+
+/// What the signs say.
+fn legend(page: &mut Page) -> Result<(), AllocError> {
+    page.leaf(
+        Tag::Paragraph,
+        "The four places of a cell are for execute, read, append and write:",
+    )?;
+    page.line()?;
+    page.open_as(Tag::Items, "legend")?;
+    page.line()?;
+    for (prospect, told) in &LEGEND {
+        sign_line(page, *prospect, told)?;
+    }
+    page.close()?;
+    page.line()
+}
+
+/// How many objects and subjects the grid doesn't have, where there are such.
+fn more(page: &mut Page, grid: &Grid) -> Result<(), AllocError> {
+    if grid.more_objects == 0 && grid.more_subjects == 0 {
+        return Ok(());
+    }
+    page.open_as(Tag::Paragraph, "more")?;
+    page.number(grid.more_objects)?;
+    page.text(" more objects and ")?;
+    page.number(grid.more_subjects)?;
+    page.text(" more subjects, each with less: ")?;
+    page.leaf(Tag::Code, COMMAND)?;
+    page.text(" lists all subjects of an object.")?;
+    page.close()?;
+    page.line()
+}
+
+/// Appends what could come about: a grid of objects and subjects, the heaviest first.
+///
+/// # Errors
+/// `AllocError` where an allocation failed.
+pub fn add_futures(page: &mut Page, names: &Names, grid: &Grid) -> Result<(), AllocError> {
+    begin_section(page, &FUTURES)?;
+    source(page)?;
+    legend(page)?;
+    add_grid(
+        page,
+        names,
+        "Objects by subjects, those with most + first",
+        grid,
+    )?;
+    more(page, grid)?;
+    end_section(page)
+}

@@ -1,0 +1,7 @@
+mod Breadth
+mod Exact
+mod Hands
+pub mod Laws
+mod Leading
+mod Lists
+mod Tables

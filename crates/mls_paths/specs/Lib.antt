@@ -1,0 +1,5 @@
+pub mod Found
+pub mod Hands
+pub mod Numbering
+pub mod Searching
+pub mod Ways

@@ -1,0 +1,5 @@
+mod Changed
+mod Freeing
+mod Givings
+mod Granting
+mod Steps

@@ -1,0 +1,7 @@
+pub mod Able
+pub mod Authority
+pub mod Changes
+pub mod Gets
+pub mod Others
+pub mod Remedies
+pub mod Steps

@@ -1,0 +1,11 @@
+use Rattle.std.proofs.Common.{[], ◌∷◌, ap}
+use Rattle.serde_json.specs.View.{view}
+use Rattle.mls_start_faults.proofs.Repeated.{pushed_as}
+use Rattle.mls_start_faults.specs.Places.{key}
+use Rattle.mls_start_faults.specs.Rows.{part_places, scheme_places}
+use Rattle.mls_start_faults.proofs.rows.push_scheme.Goals as goal
+
+pub returns-in-None : goal.returns-in-None
+returns-in-None c =
+    pushed_as c.push_place.result _ _ _ _ _ c.list.ensures
+    (ap (part_places (key c.args.scheme.now ∷ []) (scheme_places (key c.args.scheme.now ∷ []) (view c.args.value.now))) c.in-None.ensures) c.push_place.ensures

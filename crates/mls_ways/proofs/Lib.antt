@@ -1,0 +1,4 @@
+mod Leading
+mod Lean
+mod Making
+mod Freeing

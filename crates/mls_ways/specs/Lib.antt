@@ -1,0 +1,4 @@
+pub mod Brings
+pub mod Lean
+pub mod Releases
+pub mod Ways

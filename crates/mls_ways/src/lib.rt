@@ -1,0 +1,16 @@
+//! The requests that bring an access about: first releases of all that is held, then no more than are needed.
+#![tactic(auto)]
+
+mod asking;
+mod bringing;
+mod giver;
+mod giving;
+mod leaning;
+mod lowering;
+mod obtaining;
+mod releasing;
+mod script;
+mod within;
+mod working;
+
+pub use script::{Script, script_of};
