@@ -85,7 +85,8 @@ def test_a_session_that_ends(world):
 
 def test_the_check_of_a_folder(world):
     """Files without a label, with one that no container has, of another kind; what was being made."""
-    assert checked(world) == (0, [])
+    clean = checked(world)
+    assert clean == (0, []), clean
     files, staging = f"{world.back}/files", f"{world.back}/staging"
     for name in ("bare", "odd"):
         with open(f"{files}/{name}", "w", encoding="ascii"):

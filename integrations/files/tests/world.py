@@ -86,13 +86,14 @@ class World:
         self.start()
 
     def renew(self):
-        """Ends all sessions, and empties the folder."""
+        """Ends all sessions, and empties the folder, also of what one that was killed was making."""
         self.end_sessions()
         self.empty()
 
     def empty(self):
-        for it in os.scandir(f"{self.back}/files"):
-            shutil.rmtree(it.path) if it.is_dir(follow_symlinks=False) else os.remove(it.path)
+        for part in ("files", "staging"):
+            for it in os.scandir(f"{self.back}/{part}"):
+                shutil.rmtree(it.path) if it.is_dir(follow_symlinks=False) else os.remove(it.path)
 
     def write_start(self):
         """A start with two levels, the pools' subjects, and a container for each label."""
