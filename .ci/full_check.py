@@ -23,14 +23,16 @@ PROGRAM = f"{TOP}/crates/mls/out/mls"
 OVER_LIBRARY = ("library", "fuzzers", "installation")
 
 
-def proofs():
-    """Runs rt ci, shows what it says meanwhile, and returns what it came to: its last line gets a name before it."""
+def proofs(told):
+    """Runs rt ci, shows what it says meanwhile, and tells of each line. Returns what it came to: its last line gets a name
+    before it."""
     last = ""
     streams = {"stdin": subprocess.DEVNULL, "stdout": subprocess.PIPE, "stderr": subprocess.STDOUT}
     with subprocess.Popen(["rt", "ci"], text=True, errors="replace", **streams) as tool:
         for line in tool.stdout:
             print(last, end="", flush=True)
             last = line
+            told(line)
     counts = counts_of(last, tool.returncode)
     print(f"the proofs: {last}", end="", flush=True)
     return counts
@@ -57,14 +59,11 @@ def compile_library(sources):
     print(fault, end="", flush=True)
 
 
-def checked(sources, is_compiled):
-    """Runs all checks. Meanwhile the library for C is compiled, if that is wanted, and those that link it come last."""
-    counts = Counts()
-    with concurrent.futures.ThreadPoolExecutor(1) as pool:
-        library = pool.submit(compile_library, sources) if is_compiled else None
-        counts.add(run_all([it for it in CHECKS if it.name not in OVER_LIBRARY], is_whole=True))
-        if library:
-            library.result()
+def checked(library):
+    """Runs all checks. Those that link the library for C come last, once its compilation has ended."""
+    counts = run_all([it for it in CHECKS if it.name not in OVER_LIBRARY], is_whole=True)
+    if library:
+        library[0].result()
     counts.add(run_all([it for it in CHECKS if it.name in OVER_LIBRARY], is_whole=True))
     return counts
 
@@ -83,8 +82,15 @@ def main():
     os.environ.setdefault("RT_JOBS", str(lanes()))
     # (so that nothing is asked that isn't proved)
     os.environ["MLS_PROVED"] = "1"
-    sources, is_compiled = built("sum")[1], not has_libraries()
-    counts.add(proofs())
+    sources, is_compiled, library = built("sum")[1], not has_libraries(), []
+    pool = concurrent.futures.ThreadPoolExecutor(1)
+
+    def told(line):
+        """Has the library for C compiled from when rt ci has proved it, beside what is still to be proved."""
+        if is_compiled and line == "rt: mls_c proved\n":
+            library.append(pool.submit(compile_library, sources))
+
+    counts.add(proofs(told))
     if not counts.failed:
         counts.add(kept(sources))
     is_built = not counts.failed
@@ -92,7 +98,7 @@ def main():
         print("a C compiler: NOT INSTALLED")
         counts.add(Counts(failed=1))
     if is_built:
-        counts.add(checked(sources, is_compiled))
+        counts.add(checked(library))
     else:
         print("the program and the library for C: NOT BUILT, and not checked")
         counts.add(run_all([it for it in CHECKS if it.needs in (FILES, MINUTES)], is_whole=True))
