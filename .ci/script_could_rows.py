@@ -31,6 +31,9 @@ LISTED = [
      "integrity: lo of memo does not dominate hi of sec\n", 4),
     (STANDARD, "ann get-append root", "never\npermission: ann is not permitted append of root, and no trusted subject acts\n", 4),
     (STANDARD, "#9 get-read #7", "never\nsubject: #9 is unknown\nobject: #7 is not active\n", 4),
+    # it speaks of the object that is there now, and of those who act: sec could make #4 for bob, and ann holds what she is asked about
+    (STANDARD, "--all bob get-read #4", "never\nobject: #4 is not active\n", 4),
+    (HELD, "--by bob ann get-read plans", "never\nactor: ann does not act\n", 4),
 ]
 
 
