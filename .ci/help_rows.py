@@ -84,7 +84,7 @@ class Typed:
 
 
 def prompt_at_a_terminal():
-    """It has names, help, ? and quit; what is asked is answered as in a script, with its variables."""
+    """It has names, help, ?, quit and exit; what is asked is answered as in a script, with its variables. Any other single word has a hint."""
     shell = Typed()
     head = shell.until("mls> ")
     same(head.splitlines()[:2], ["subjects ann bob sec aud", "objects root plans memo tool"])
@@ -94,14 +94,18 @@ def prompt_at_a_terminal():
         same(shell.asks(word), head.removesuffix("mls> "))
     same(shell.asks("bob get-read memo"), "no star\n")
     same(shell.asks("; a note"), "")
-    same(shell.asks("helpless"), "bad form\n")
+    for word in ("helpless", "hlp", "bye", "ann", "HELP", "quits"):
+        same((word, shell.asks(word)), (word, "bad form (help?)\n"))
+    for line, answer in (("", ""), (";note", ""), (" hlp", "bad form\n"), ("help me", "bad form\n"), ("ann frob", "bad form\n")):
+        same((line, shell.asks(line)), (line, answer))
     same(shell.asks("ann check read plans"), "held\n")
     same(shell.ended("quit"), 0)
-    same(Typed().ended(), 0)
+    for line in ("exit", None):
+        same(Typed().ended(line), 0)
 
 
 def prompt_that_a_pipe_does_not_see():
-    for script in (b"help\n", b"quit\nann get-read plans\n", b"?\n"):
+    for script in (b"help\n", b"quit\nann get-read plans\n", b"?\n", b"exit\n"):
         status, output, error = ran_program([], script)
         same((script, status, error, b"mls>" in output), (script, 0, b"", False))
     same(ran_program([], b"quit\nann get-read plans\n")[1], b"bad form\nyes\n")
@@ -225,27 +229,94 @@ def examples_of_faults():
     assert count >= 18, f"only {count}"
 
 
+# Scripts, and the number and the answer of the first line that isn't understood.
+STRICT = [(b"ann get-read plans\nbob get-read memo\n", ""), (b"", ""), (b"ann frob plans\n", "1: bad form"), (b"ann get-read plan\nann get-read plans\n", "1: bad name"),
+          (b"ann level Q\n", "1: bad label"), (b"ann check read plans\n", ""), (b"; a note\n\nann get-read plans\n  \n  ; \xff\nann level Q\nann frob\n", "6: bad label"),
+          (b"ann check read plans\nbob get-read memo\nbob frob", "3: bad form"), (b"$x = sec create root U hi\nann get-read $x\n", "2: bad name"),
+          (b";" + 19_999 * b"x" + b"\nann frob\n", "2: bad form"), (b";" + 20_000 * b"x" + b"\nann frob\n", "1: bad form"),
+          (20_000 * b" " + b"\nann frob\n", "2: bad form"), (20_001 * b" " + b"\nann frob\n", "1: bad form")]
+
+
 def runs_that_are_strict():
-    """All is as without it but the status, which is 4 where a line wasn't understood."""
-    scripts = [(b"ann get-read plans\nbob get-read memo\n", 0), (b"", 0), (b"ann frob plans\n", 4), (b"ann get-read plan\nann get-read plans\n", 4),
-               (b"ann level Q\n", 4), (b"ann check read plans\n", 0)]
-    for number, (script, status) in enumerate(scripts):
+    """All is as without it but the status, which is 4 where a line wasn't understood, and standard error, which has the first one."""
+    put("good.script", b"ann get-read plans\n")
+    for number, (script, told) in enumerate(STRICT):
         put("a.script", script)
-        plain = ran_program(["run", "--serial", "--journal", "plain", STANDARD, "a.script", "a.script"])
-        same(plain[0], 0)
-        strict = ran_program(["run", "--serial", "--strict", "--journal", "strict", STANDARD, "a.script", "a.script"])
-        same((number, strict), (number, (status, *plain[1:])))
-        with open("plain", "rb") as one, open("strict", "rb") as other:
-            same(one.read(), other.read())
+        for before, place in (("good.script", "a.script"), ("a.script", "a.script")):
+            plain = ran_program(["run", "--serial", "--journal", "plain", STANDARD, before, "a.script"])
+            same((plain[0], plain[2]), (0, b""))
+            status, error = (4, f"mls: {place}: line {told}\n".encode()) if told else (0, b"")
+            strict = ran_program(["run", "--serial", "--strict", "--journal", "strict", STANDARD, before, "a.script"])
+            same((number, strict), (number, (status, plain[1], error)))
+            with open("plain", "rb") as one, open("strict", "rb") as other:
+                same(one.read(), other.read())
+    same(ran_program(["run", "--strict", STANDARD, "a.script"])[::2], (4, b"mls: a.script: line 1: bad form\n"))
+    put("b.script", b"\nann frob\n")
+    same(ran_program(["run", "--strict", STANDARD, "good.script", "b.script", "a.script"])[::2], (4, b"mls: b.script: line 2: bad form\n"))
     refused(["run", "--strict", "none.json", "a.script"], "none.json: file")
 
 
-def numbers_below_zero():
-    """A number below 0 is told as the value of its option."""
-    for words in (["state", "--at", "-1", STANDARD, "j"], ["journal", "--from", "-1", STANDARD, "j"]):
+def scripts_that_are_starts():
+    """A start file that is given as a script is told before anything is asked or written; a refused start file is told before."""
+    put_files()
+    for name, text in (("empty.object", b"{}"), ("short.json", b'{\n "subjects": []\n}\n')):
+        put(name, text)
+        refused(["run", STANDARD, name], f"{name}: looks like a start file")
+    for words in (["run", STANDARD, STANDARD], ["run", "--strict", "--serial", STANDARD, "a.script", STANDARD, "empty.object"],
+                  ["run", "--journal", "new", STANDARD, STANDARD, "a.script"], ["run", "--journal", "standard.journal", STANDARD, "a.script", STANDARD]):
+        refused(words, f"{STANDARD}: looks like a start file")
+    assert not os.path.exists("new")
+    with open("standard.journal", "rb") as file:
+        same(file.read(), JOURNAL)
+    refused(["run", "a.script", STANDARD], "a.script: start 1 Json")
+    refused(["run", "empty.object", STANDARD], "empty.object: start 2 Members")
+    for text, answers in ((b"[]\n7\n", 2), (b" {}\n", 1), (b"{\nann get-read plans\n", None), (b'"subjects"\n', 1)):
+        put("odd", text)
+        status, output, error = ran_program(["run", STANDARD, "odd"])
+        same((text, status, error), (text, 0, b""))
+        same(output, b"session 0\n" + (answers * b"bad form\n" + b"entries 0\n" if answers else b"bad form\nyes\nentries 1\n") + b"secure yes\n")
+
+
+def files_that_are_standard_input():
+    """Where a start file, a script or a journal is read, - is standard input; ./- is a file."""
+    put_files()
+    start, script = example("standard.json"), b"ann get-read plans\nbob get-read memo\nann release read plans\n"
+    put("the.script", script)
+    put("short.json", b'{"security": {"levels": ["a"]}, "subjects": [], "objects": [{"name": "o", "security": "a"}]}')
+    rows = [("check -", STANDARD), ("lint -", STANDARD), ("lattice -", STANDARD), ("run - a.script", STANDARD), ("run STANDARD -", "the.script"),
+            ("run --strict STANDARD a.script -", "the.script"), ("replay STANDARD -", "standard.journal"), ("journal STANDARD -", "standard.journal"),
+            ("state STANDARD -", "standard.journal"), ("who --journal - STANDARD memo", "standard.journal"), ("complete -", "short.json"),
+            ("compare - HELD", STANDARD), ("compare STANDARD -", HELD), ("check --json -", STANDARD), ("report STANDARD -", "standard.journal")]
+    for row, name in rows:
+        words = [{"STANDARD": STANDARD, "HELD": HELD}.get(it, it) for it in row.split()]
+        with open(name, "rb") as file:
+            given = file.read()
+        same((row, ran_program(words, given)), (row, ran_program([name if it == "-" else it for it in words])))
+    same(ran_program(["check", "-"], b"{"), (1, b"", b"mls: -: start 1 Json\n"))
+    same(ran_program(["run", STANDARD, "-"], start), (1, b"", b"mls: -: looks like a start file\n"))
+    same(ran_program(["run", "--strict", STANDARD, "-"], b"ann frob\n"), (4, b"session 0\nbad form\nentries 0\nsecure yes\n", b"mls: -: line 1: bad form\n"))
+    put("-", b"")
+    refused(["check", "./-"], "./-: start 1 Json")
+    same(ran_program(["check", "-"], start), ran_program(["check", STANDARD]))
+
+
+# Words of options that are to be numbers, and what is told of them.
+ENTRY, SESSION, SEGMENT = "the number of an entry; the first entry is 0", "the number of a session; write it as 0 or 7", "from 4096 to 268435456 bytes"
+NUMBERS = [("state --at -1 START J", "--at -1", ENTRY), ("state --at=-1 START J", "--at -1", ENTRY), ("journal --from -1 START J", "--from -1", ENTRY),
+           ("journal --from 0 --to -1 START J", "--to -1", ENTRY), ("ask --journal J --at x START LINE", "--at x", ENTRY),
+           ("usage --from 18446744073709551616 START J", "--from 18446744073709551616", ENTRY), ("held --at 1.5 START J", "--at 1.5", ENTRY),
+           ("journal --session -1 START J", "--session -1", SESSION), ("serve --session 4294967296 --journal J START", "--session 4294967296", SESSION),
+           ("serve --segment -1 --journal J START", "--segment -1", SEGMENT), ("serve --journal J --segment 4095 START", "--segment 4095", SEGMENT),
+           ("serve --segment=268435457 --journal J START", "--segment 268435457", SEGMENT), ("state --at START J", "--at START", ENTRY)]
+
+
+def numbers_that_are_none():
+    """What isn't a number where one is due is told in a line, with what a number is."""
+    for row, option, due in NUMBERS:
+        same((row, *ran_program(row.split())), (row, 2, b"", f"mls: {option}: not {due}\n".encode()))
+    for words in (["who", STANDARD, "memo", "see"], ["state", "--at", "0", "--frob", STANDARD, "j"], ["state", "--at"]):
         status, output, error = ran_program(words)
-        same((status, output), (2, b""))
-        assert b"invalid value '-1' for '--" in error, error
+        same((words, status, output, error.startswith(b"error: ")), (words, 2, b"", True))
 
 
 def lines_that_are_not_quoted():
@@ -258,5 +329,6 @@ def lines_that_are_not_quoted():
         same((words, status, output, b"quote" in error), (words, 2, b"", False))
 
 
-CHECKS = [short_help, long_help, prompt_at_a_terminal, prompt_that_a_pipe_does_not_see, numbers_below_zero, lines_that_are_not_quoted,
-          *map(in_its_folder, [lines_that_are_fixed, scripts_that_end_in_carriages, questions_that_say_why, readers_that_stop, examples_of_faults, runs_that_are_strict])]
+CHECKS = [short_help, long_help, prompt_at_a_terminal, prompt_that_a_pipe_does_not_see, numbers_that_are_none, lines_that_are_not_quoted,
+          *map(in_its_folder, [lines_that_are_fixed, scripts_that_end_in_carriages, questions_that_say_why, readers_that_stop, examples_of_faults, runs_that_are_strict,
+                                scripts_that_are_starts, files_that_are_standard_input])]

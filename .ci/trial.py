@@ -123,7 +123,7 @@ def lines_that_are_typed():
             os.close(other)
             head = told.replace(b"\n", b"\r\n") + b"subjects ann bob sec aud\r\n"
             shown_first = read_until(terminal, b"mls> ")
-            assert shown_first.startswith(head) and shown_first.endswith(b" quit ends.\r\nmls> "), shown(shown_first)
+            assert shown_first.startswith(head) and shown_first.endswith(b" quit or exit ends.\r\nmls> "), shown(shown_first)
             for line, answer in zip(FOUR.splitlines(), ANSWERS.splitlines()):
                 os.write(terminal, line + b"\n")
                 same((line, read_until(terminal, b"mls> ")), (line, answer + b"\r\nmls> "))

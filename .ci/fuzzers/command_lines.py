@@ -31,7 +31,7 @@ class CommandLines(Fuzzer):
 
     name, count, room = "command lines", 5_000, 1 << 32 if IS_PROVED else ROOM
     wanted = {"answered", "counted", "run", "replayed", "told", "words", "at most 64 scripts", "input: read",
-              "output: write", "input: too long", "memory", "thread", "file", "too long", "replay 1 Number",
+              "output: write", "input: too long", "memory", "thread", "file", "too long", "start as a script", "replay 1 Number",
               "replay 2 Differs", *(f"start {it[0]}" for it in starts.FAULTS), *(f"entry {it}" for it in OF_LINES)}
     wanted = wanted if IS_PROVED else wanted - {"memory", "thread", "input: too long"}
 
@@ -119,7 +119,7 @@ class CommandLines(Fuzzer):
     def judged(self, made):
         words, failing, files = made
         status, output, error = self.ran(words, failing, files)
-        outcome = outcome_of(words, failing, {**self.pool, **files}, status, output, error)
+        outcome = outcome_of(words, failing, {**self.pool, **files, "-": files["script"]}, status, output, error)
         self.see_files(words, status == 0 or outcome == "output: write", status < 0)
         return status == 0, [outcome]
 

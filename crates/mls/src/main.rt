@@ -7,8 +7,8 @@ mod commands;
 ghost use Rattle.std.specs.Prelude.{◌<◌, ◌≤◌, length, vec_len, All};
 
 use crate::commands::{
-    RunJournal, check, complete, discard, ended_run, init, lent, open_run_journal, read_scripts,
-    replay, serve_standard, verify,
+    RunJournal, check, complete, discard, ended_run, init, lent, mistaken, open_run_journal,
+    read_scripts, replay, serve_standard, verify,
 };
 use mls_command_line::{Asked, Job, RunWords, read_words};
 use mls_files::start_file;
@@ -55,7 +55,7 @@ fn run_texts<R: Threads + Wait + Sync>(
     } else {
         run_threads(threads, alloc, start, texts, words.journal.is_some())
     };
-    ended_run(progress, done, start, words, journal)
+    ended_run(progress, done, start, texts, words, journal)
 }
 
 /// Runs scripts over the bytes of a start file, once they were read and the journal's file was opened.
@@ -80,7 +80,8 @@ fn lend_and_run<R: Threads + Wait + Sync>(
     status
 }
 
-/// Runs scripts that were read over the bytes of a start file, once the journal's file is open.
+/// Runs scripts that were read over the bytes of a start file, once the journal's file is open: none is itself a start
+/// file.
 fn open_and_run<R: Threads + Wait + Sync>(
     threads: &R,
     progress: &mut Progress<'_>,
@@ -92,6 +93,10 @@ fn open_and_run<R: Threads + Wait + Sync>(
     requires count { (0 < length texts.now) × (length texts.now ≤ MAX_SCRIPTS) }
     requires limit { All (λ text. vec_len text ≤ SCRIPT_LIMIT) texts.now }
 {
+    if let Some(status) = mistaken(progress, start, texts, words) {
+        drop(held);
+        return status;
+    }
     match open_run_journal(progress, held, words) {
         Ok(mut journal) => {
             let status = lend_and_run(threads, progress, start, texts, words, &mut journal);

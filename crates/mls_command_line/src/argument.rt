@@ -81,10 +81,10 @@ pub(crate) struct Argument {
 }
 
 /// The least bytes of a segment: there is room for the line of any entry.
-const LEAST_SEGMENT: i64 = 4_096;
+pub(crate) const LEAST_SEGMENT: i64 = 4_096;
 
 /// The most bytes of a segment: those of any file of a journal.
-const GREATEST_SEGMENT: i64 = 268_435_456;
+pub(crate) const GREATEST_SEGMENT: i64 = 268_435_456;
 
 /// The words of modes.
 const MODES: [&str; 4] = ["execute", "read", "append", "write"];
@@ -94,11 +94,14 @@ fn with_value<'a>(arg: Arg<'a>, name: &'a str, value: &'a str) -> Arg<'a> {
     arg.long(name).value_name(value).action(ArgAction::Set)
 }
 
+/// An option with a number. One below 0 is taken as its value, so that the fault is told of it.
+fn with_number<'a>(arg: Arg<'a>, name: &'a str, value: &'a str) -> Arg<'a> {
+    with_value(arg, name, value).allow_negative_numbers(true)
+}
+
 /// An option with the number of an entry.
 fn with_entry<'a>(arg: Arg<'a>, name: &'a str) -> Arg<'a> {
-    with_value(arg, name, "N")
-        .allow_negative_numbers(true)
-        .value_parser(clap::value_parser!(u64))
+    with_number(arg, name, "N").value_parser(clap::value_parser!(u64))
 }
 
 /// An option without a value.
@@ -161,9 +164,9 @@ impl Argument {
             }
             Kind::Day | Kind::DayOfEver => with_value(arg, self.name, "DATE"),
             Kind::Session => {
-                with_value(arg, self.name, "K").value_parser(clap::value_parser!(u32))
+                with_number(arg, self.name, "K").value_parser(clap::value_parser!(u32))
             }
-            Kind::Segment => with_value(arg, self.name, "BYTES").value_parser(clap::value_parser!(
+            Kind::Segment => with_number(arg, self.name, "BYTES").value_parser(clap::value_parser!(
                 u32
             ).range(LEAST_SEGMENT..=GREATEST_SEGMENT)),
             Kind::Entry | Kind::EntryOrRange | Kind::EntryOfJournal | Kind::EntryOfEver => {

@@ -91,7 +91,7 @@ pub(crate) const COMMANDS: [CommandRow; 21] = [
         group: Group::Decide,
         brief: "Reads a start file and says whether it opens secure",
         about: "Reads a start file and prints how many subjects, objects, cells and accesses it has, and that it \
-            opens secure",
+            opens secure. Where a file is refused, mls lint tells the place of the fault",
         example: "Example: mls check examples/office.json",
         arguments: &CHECK_ARGUMENTS,
     },

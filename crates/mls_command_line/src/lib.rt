@@ -7,6 +7,7 @@ mod command_rows;
 mod compare_words;
 mod job;
 mod json_words;
+mod number_words;
 mod question;
 mod question_arguments;
 mod question_words;

@@ -29,7 +29,8 @@ pub(crate) const RUN_ARGUMENTS: [Argument; 5] = [
     Argument {
         name: "strict",
         kind: Kind::Flag,
-        help: "Ends with status 4 where a line wasn't understood; prints and writes all as without it",
+        help: "Ends with status 4 where a line wasn't understood, and tells the first; prints and writes all else as \
+            without it",
     },
     Argument {
         name: "journal",

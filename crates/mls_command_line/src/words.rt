@@ -4,6 +4,7 @@ use crate::command_rows::{COMMANDS, CommandName, CommandRow};
 use crate::compare_words::compare_words;
 use crate::job::{Asked, Job, RunWords, ServeWords};
 use crate::json_words::asks_json;
+use crate::number_words::number_fault;
 use crate::question_words::{
     about_words, ask_words, could_words, explain_words, held_words, journal_words, operand,
     powers_words, state_words, usage_words, who_words,
@@ -208,6 +209,10 @@ fn explained(rt: &HostRuntime, error: Error, words: &[String]) -> ExitCode {
         let text = laid_out(rt.alloc(), &error);
         drop(error);
         return printed(rt, text);
+    }
+    if let Some(fault) = number_fault(&error, words) {
+        drop(error);
+        return words_refused(rt, fault);
     }
     let is_printed = error.print(rt).is_ok();
     drop(error);

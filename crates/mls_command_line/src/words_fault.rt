@@ -33,23 +33,63 @@ impl FormedOption {
     }
 }
 
+/// What the number of an option counts.
+#[derive(Clone, Copy)]
+pub(crate) enum NumberSort {
+    Entry,
+    Session,
+    Segment,
+}
+
+impl NumberSort {
+    /// What such a number is.
+    fn text(self) -> &'static str {
+        match self {
+            NumberSort::Entry => "the number of an entry; the first entry is 0",
+            NumberSort::Session => "the number of a session; write it as 0 or 7",
+            NumberSort::Segment => "from 4096 to 268435456 bytes",
+        }
+    }
+}
+
 /// Why the words of a command ask for nothing.
 #[derive(Clone, Copy)]
 pub(crate) enum WordsFault<'a> {
+    /// The word of this option is no number of this sort.
+    Number {
+        option: &'a str,
+        sort: NumberSort,
+        word: &'a str,
+    },
     /// No reply begins with these words.
     Reply(&'a str),
     /// The number of the first entry that is asked for is above that of the last.
-    Above { first: u64, last: u64 },
+    Above {
+        first: u64,
+        last: u64,
+    },
     /// The word of this option is no time.
-    Time { option: FormedOption, word: &'a str },
+    Time {
+        option: FormedOption,
+        word: &'a str,
+    },
     /// The word of this option is a time of no zone.
-    Zone { option: FormedOption, word: &'a str },
+    Zone {
+        option: FormedOption,
+        word: &'a str,
+    },
     /// The word of the option `--on` is no date.
     Day(&'a str),
     /// The time from which on is asked is behind the last one.
-    Behind { since: &'a str, until: &'a str },
+    Behind {
+        since: &'a str,
+        until: &'a str,
+    },
     /// The word of this option is no digest.
-    Digest { option: FormedOption, word: &'a str },
+    Digest {
+        option: FormedOption,
+        word: &'a str,
+    },
     /// This word is no setting of a member.
     Setting(&'a str),
     /// This option asks for some entries of a journal, and there is none.
@@ -63,6 +103,10 @@ pub(crate) enum WordsFault<'a> {
 /// Tells why words ask for nothing.
 pub(crate) fn words_refused(rt: &HostRuntime, fault: WordsFault<'_>) -> ExitCode {
     let _ = match fault {
+        WordsFault::Number { option, sort, word } => {
+            let due = sort.text();
+            eprintln!(rt; "mls: --{option} {word}: not {due}")
+        }
         WordsFault::Reply(words) => eprintln!(rt;
             "mls: --reply {words}: begins no reply: {REPLIES}"
         ),

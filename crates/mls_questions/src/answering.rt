@@ -76,9 +76,25 @@ pub(crate) fn bare_refused(rt: &HostRuntime, word: &str) -> ExitCode {
     ExitCode::from(1)
 }
 
-/// Tells that a word is no label of its scheme.
-pub(crate) fn label_refused(rt: &HostRuntime, word: &str) -> ExitCode {
-    let _ = eprintln!(rt; "mls: {word}: bad label");
+/// What a line that tells of a word ends with behind the fault: the name that may have been meant, where one is near.
+fn meant_in<'a>(line: &'a str, word: &str) -> &'a str {
+    let Some(told) = line.strip_prefix("mls: ") else {
+        return "";
+    };
+    match told.strip_prefix(word) {
+        Some(behind) => behind.strip_prefix(": bad name").unwrap_or(""),
+        None => "",
+    }
+}
+
+/// Tells that a word is no label of the scheme that is due, of the bytes of a start file.
+pub(crate) fn label_refused(rt: &HostRuntime, start: &[u8], sort: Sort, word: &str) -> ExitCode {
+    let Ok(line) = word_line(rt.alloc(), start, sort, word) else {
+        return refused(rt, NO_MEMORY, 1);
+    };
+    let meant = meant_in(line.as_str(), word);
+    let _ = eprintln!(rt; "mls: {word}: bad label{meant}");
+    drop(line);
     ExitCode::from(1)
 }
 

@@ -39,6 +39,16 @@ fn named_refused(rt: &HostRuntime, start: &[u8], setting: &Setting<'_>) -> ExitC
     }
 }
 
+/// Tells that a setting's value is no label of its scheme, of the bytes of a start file.
+fn value_refused(rt: &HostRuntime, start: &[u8], setting: &Setting<'_>) -> ExitCode {
+    let sort = match setting.member {
+        Member::Maximum | Member::Current | Member::Security => Sort::Security,
+        Member::Integrity => Sort::Integrity,
+        Member::Trusted => Sort::Plain,
+    };
+    label_refused(rt, start, sort, setting.value)
+}
+
 /// Tells why settings aren't made.
 fn setting_refused(
     rt: &HostRuntime,
@@ -52,7 +62,7 @@ fn setting_refused(
             None => ExitCode::from(1),
         },
         SettingFault::Label(place) => match settings.get(place) {
-            Some(setting) => label_refused(rt, setting.value),
+            Some(setting) => value_refused(rt, start, setting),
             None => ExitCode::from(1),
         },
     }

@@ -26,9 +26,20 @@ pub enum FileFault {
 /// The most bytes that are asked of a file at once.
 const PIECE: usize = 65_536;
 
+/// The word that names standard input where a file is read.
+const INPUT: &str = "-";
+
+/// Standard input, as the system names it.
+const INPUT_PATH: &str = "/dev/stdin";
+
+/// The path of a file that is read, by the word that names it.
+fn path_of(word: &str) -> &str {
+    if word == INPUT { INPUT_PATH } else { word }
+}
+
 /// Opens a file to read it.
-fn opened(rt: &HostRuntime, path: &str) -> Result<File, FileFault> {
-    match File::open(rt, path) {
+fn opened(rt: &HostRuntime, word: &str) -> Result<File, FileFault> {
+    match File::open(rt, path_of(word)) {
         Ok(file) => Ok(file),
         Err(error) => Err(FileFault::System(error)),
     }

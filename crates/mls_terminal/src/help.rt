@@ -9,7 +9,7 @@ A line is a subject and what it asks:
   get-read, get-append, get-write or get-execute OBJECT
   release or check MODE OBJECT, with MODE read, append, write or execute
   level LABEL
-Others are in docs/FORMATS.md. help or ? shows this again, and quit ends.
+Others are in docs/FORMATS.md. help or ? shows this again, and quit or exit ends.
 ";
 
 /// Appends a space and a name.

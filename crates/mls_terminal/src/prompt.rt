@@ -6,8 +6,11 @@ use std::io::{IsTerminal, Read};
 /// What a line is asked for with.
 const PROMPT: &str = "mls> ";
 
-/// What a line that asks for help becomes: a note, which is answered nothing.
+/// What a line becomes that is answered here: a note, which is answered nothing.
 const NOTE: u8 = b';';
+
+/// What a line of one word is answered, which has the form of no request.
+const ONE_WORD: &str = "bad form (help?)\n";
 
 /// What a person has typed.
 #[derive(Clone, Copy, PartialEq, Eq)]
@@ -16,12 +19,15 @@ enum Typed {
     Help,
     /// A line that ends the input.
     Quit,
+    /// Any other line of one word.
+    Word,
     /// Any other bytes.
     Other,
 }
 
-/// Standard input that a person types. A line is asked for by a prompt; `help` and `?` are answered by a text, and
-/// `quit` ends the input. A terminal gives a line at a time.
+/// Standard input that a person types. A line is asked for by a prompt; `help` and `?` are answered by a text, `quit`
+/// and `exit` end the input, and any other line of one word is answered by what asks for help. A terminal gives a line
+/// at a time.
 #[derive(Drop)]
 pub struct Prompt<'a> {
     rt: &'a HostRuntime,
@@ -49,13 +55,25 @@ fn ends_line(bytes: &[u8]) -> bool {
     matches!(bytes, [.., b'\n'])
 }
 
+/// Whether a text is one word, and no note.
+fn is_word(text: &[u8]) -> bool {
+    for byte in text {
+        if *byte == b' ' {
+            return false;
+        }
+    }
+    !matches!(text, [] | [NOTE, ..])
+}
+
 /// What a line that was typed asks for.
 fn meaning_of(line: &[u8]) -> Typed {
     let word = without_newline(line);
     if word == b"help".as_slice() || word == b"?".as_slice() {
         Typed::Help
-    } else if word == b"quit".as_slice() {
+    } else if word == b"quit".as_slice() || word == b"exit".as_slice() {
         Typed::Quit
+    } else if ends_line(line) && is_word(word) {
+        Typed::Word
     } else {
         Typed::Other
     }
@@ -108,6 +126,11 @@ impl Read for Prompt<'_> {
             Typed::Quit => Ok(0),
             Typed::Help => {
                 self.show(self.help);
+                make_note(buf);
+                Ok(count)
+            }
+            Typed::Word => {
+                self.show(ONE_WORD);
                 make_note(buf);
                 Ok(count)
             }

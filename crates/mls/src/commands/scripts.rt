@@ -2,6 +2,7 @@
 ghost use Rattle.std.specs.Prelude.{◌≡◌, ◌≤◌, length, vec_len, All, IfOk};
 
 use crate::commands::run_journal::RunJournal;
+use crate::commands::strictness::run_status;
 use mls_command_line::RunWords;
 use mls_files::{start_hint, start_refused};
 use mls_replay::{CommandFault, RunText};
@@ -9,7 +10,6 @@ use mls_scripts::SCRIPT_LIMIT;
 use mls_terminal::{FileFault, Held, Input, Progress, file_refused, print};
 use std::alloc::{AllocError, Global};
 use std::process::ExitCode;
-use std::str;
 
 /// A script that wasn't read: its place among the scripts, and why.
 struct ScriptFault {
@@ -132,31 +132,6 @@ fn write_run(
     print(progress.rt(), &run.output)
 }
 
-/// The status of a run whose output was printed where a line wasn't understood, if that is a fault.
-const NOT_UNDERSTOOD: u8 = 4;
-
-/// Whether an answer says that a line wasn't understood: no other answer begins so.
-fn has_bad_line(output: &[u8]) -> bool {
-    let Ok(text) = str::from_utf8(output) else {
-        return false;
-    };
-    for line in text.lines() {
-        if line.starts_with("bad ") {
-            return true;
-        }
-    }
-    false
-}
-
-/// The status of a run whose output was printed with this status.
-fn run_status(printed: ExitCode, is_strict: bool, output: &[u8]) -> ExitCode {
-    if is_strict && printed == ExitCode::SUCCESS && has_bad_line(output) {
-        ExitCode::from(NOT_UNDERSTOOD)
-    } else {
-        printed
-    }
-}
-
 /// Gives up the file that the journal of a refused run was to be written to.
 pub fn discard(rt: &HostRuntime, journal: &Option<RunJournal<'_>>) {
     if let Some(journal) = journal {
@@ -164,18 +139,19 @@ pub fn discard(rt: &HostRuntime, journal: &Option<RunJournal<'_>>) {
     }
 }
 
-/// Ends a run over the bytes of a start file: prints what it came to, or tells why it was refused.
+/// Ends a run of scripts over the bytes of a start file: prints what it came to, or tells why it was refused.
 pub fn ended_run(
     progress: &mut Progress<'_>,
     done: Result<RunText, CommandFault>,
     start: &[u8],
+    scripts: &[&[u8]],
     words: &RunWords<'_>,
     journal: &mut Option<RunJournal<'_>>,
 ) -> ExitCode {
     match done {
         Ok(run) => {
             let printed = write_run(progress, &run, journal);
-            let status = run_status(printed, words.is_strict, &run.output);
+            let status = run_status(progress.rt(), printed, words, scripts, &run.output);
             drop(run);
             status
         }
