@@ -118,8 +118,10 @@ fn write_denial(
     ensures { Adds result writer.old writer.new
         (outcome_members names.now (reply.No reason) way releases.now) }
 {
+    let found = way;
+    let told = told_reason(reason, found);
     write_granted(writer, false)?;
-    write_reason(writer, told_reason(reason, way))?;
+    write_reason(writer, told)?;
     write_way(writer, alloc, names, way, releases)
 }
 
