@@ -7,8 +7,8 @@ mod commands;
 ghost use Rattle.std.specs.Prelude.{◌<◌, ◌≤◌, length, vec_len, All};
 
 use crate::commands::{
-    RunJournal, check, complete, discard, ended_run, init, lent, mistaken, open_run_journal,
-    read_scripts, replay, serve_standard, verify,
+    RunJournal, check, complete, discard, ended_run, init, lent, open_run_journal, read_scripts,
+    refuse_starts, replay, serve_standard, verify,
 };
 use mls_command_line::{Asked, Job, RunWords, read_words};
 use mls_files::start_file;
@@ -93,7 +93,7 @@ fn open_and_run<R: Threads + Wait + Sync>(
     requires count { (0 < length texts.now) × (length texts.now ≤ MAX_SCRIPTS) }
     requires limit { All (λ text. vec_len text ≤ SCRIPT_LIMIT) texts.now }
 {
-    if let Some(status) = mistaken(progress, start, texts, words) {
+    if let Some(status) = refuse_starts(progress, start, texts, words) {
         drop(held);
         return status;
     }

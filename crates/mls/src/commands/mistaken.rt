@@ -43,7 +43,7 @@ fn is_accepted(alloc: Global, start: &[u8]) -> bool {
 
 /// Tells which script of a run is a start file, where one is, and gives the status to end with. Of a start file that is
 /// itself refused the run tells that.
-pub fn mistaken(
+pub fn refuse_starts(
     progress: &mut Progress<'_>,
     start: &[u8],
     scripts: &[Vec<u8>],
