@@ -8,7 +8,7 @@ from compare_rows import DENIED, MADE, as_it_is, newer, profile_2, variant, with
 from outside import EXAMPLES, example, in_its_folder, put, ran_program, same
 from pages import rows_of, section, stretches_of
 from question_rows import MEMO
-from report_rows import powers_agree, reported
+from report_rows import powers_agree, removable, reported
 
 TIMES = [b"2026-11-27T10:00:00.000000Z", b"2026-11-27T11:00:00.000000Z"]
 # The accesses of the standard start's permissions, over the journal of the example of `held`.
@@ -54,14 +54,14 @@ def permissions_that_are_asked_for():
         (["--subject", "#1"], f"{BOB}3 permissions, 3 never granted\n", 4),
         (["--object", "tool"], "ann execute tool: never asked\nbob execute tool: never asked\n2 permissions, 2 never granted\n", 4),
         (["--object", "#1", "--subject", "ann"],
-         "ann read plans: 3 granted, 0 denied, last 3\nann write plans: never asked\n2 permissions, 1 never granted\n", 4),
+         "ann read plans: 2 granted, 0 denied, last 3, held at start\nann write plans: never asked\n2 permissions, 1 never granted\n", 4),
         (["--object", "plans", "--subject", "ann", "--never"], "ann write plans: never asked\n2 permissions, 1 never granted\n", 4),
         (["--subject", "sec", "--object", "root"], "sec write root: 1 granted, 0 denied, last 4\n1 permission, 0 never granted\n", 0),
         (["--never", "--subject", "sec", "--object", "root"], "1 permission, 0 never granted\n", 0),
         (["--subject", "#9"], "0 permissions, 0 never granted\n", 0),
         (["--never", "--to", "2", "--subject", "sec", "--object", "root"], "sec write root: never asked\n1 permission, 1 never granted\n", 4),
         (["--from", "1", "--to", "2", "--subject", "ann", "--object", "plans"],
-         "ann read plans: 1 granted, 0 denied, last start\nann write plans: never asked\n2 permissions, 1 never granted\n", 4),
+         "ann read plans: 0 granted, 0 denied, last start\nann write plans: never asked\n2 permissions, 1 never granted\n", 4),
     ):
         used([*words, *files], text, status)
     put_marks("held.marks", OPENED, [2, 4], TIMES)
@@ -316,13 +316,13 @@ def reports_of_a_part():
     put("held.journal", OPENED)
     page = reported("--from", "1", "--to", "2", HELD, "held.journal")
     lines = in_short(page)
-    same((lines[0], lines[3]), ("2 entries: 1 granted, 1 denied, 0 undefined.", "11 of 12 permissions were never granted and could be removed, unless they are young."))
+    same((lines[0], lines[3]), ("2 entries: 1 granted, 1 denied, 0 undefined.", removable(11, 12, 11)))
     same(rows_of(section(page, "Denied entries"))[0][0], ["bob", "memo", "star", "1", "1"])
     part = section(page, "Held")
     same((rows_of(part)[0], [stretches_of(it) for it in part.all("svg")]), ([["ann", "read", "plans", "1", "start to 2", ""]], [([(0, 3)], 6)]))
     part = section(page, "Use of permissions")
     same((part.all("p")[1].text(), rows_of(part)[0]), ("12 permissions, 11 never granted", [
-        ["sec", "4", "4", "0", "0", "-"], ["ann", "4", "3", "1", "0", "-"], ["bob", "3", "3", "0", "1", "1"], ["aud", "1", "1", "0", "0", "-"]]))
+        ["sec", "4", "4", "0", "-"], ["ann", "4", "3", "0", "-"], ["bob", "3", "3", "1", "1"], ["aud", "1", "1", "0", "-"]]))
     powers_agree(page, SimpleNamespace(told={"powers": said("powers", "--journal", "held.journal", "--at", "3", HELD)[0]}))
     told, = told_of_part(page)
     assert told.startswith("This report is of a part of J: from the state before entry 1 to the one before entry 3."), told
@@ -355,7 +355,7 @@ def reports_between_times():
     same(in_short(page)[0], "4 entries: 3 granted, 1 denied, 0 undefined.")
     page = reported("--marks", "back.marks", "--since", "2026-11-28", "--until", "2026-11-28", "--to", "1", HELD, "held.journal")
     same((in_short(page)[0], in_short(page)[3]),
-         ("0 entries: 0 granted, 0 denied, 0 undefined.", "0 of 0 permissions were never granted and could be removed, unless they are young."))
+         ("0 entries: 0 granted, 0 denied, 0 undefined.", removable(0, 0, 0)))
     assert "Nothing was held." in section(page, "Held").text()
 
 

@@ -239,6 +239,7 @@ class SeenPart:
     def __init__(self, world, first, last, found):
         states = [world.before(number) for number in range(len(world.entries) + 1)]
         self.opening, self.entries, self.many, self.found = states[first], world.entries[first:last], len(world.entries), found
+        self.left_out = len(states[0].matrix) - len(tight(states, world.entries, first=first, last=last).matrix)
         files = [world.start, world.journal]
         self.told = {"denials": said("journal", "--explain", "--reply", "no", *between(first, last), *files)[0],
                      "powers": said("powers", "--journal", world.journal, "--at", str(last), world.start)[0],

@@ -201,9 +201,11 @@ def usage_line(row):
     if "by_trust" in row:
         used = "never used" if row["last"] is None else f"{row['by_trust']} granted, last {at(row, 'last')}"
         return f"{named(row, 'subject')} trust: {used}\n"
-    if row["granted"] == row["denied"] == 0:
-        return f"{access(row)}: never asked\n"
-    return f"{access(row)}: {row['granted']} granted, {row['denied']} denied, last {'start' if row['last'] is None else at(row, 'last')}\n"
+    counts = f"{row['granted']} granted, {row['denied']} denied, last"
+    if row["last"] is None:
+        assert row["granted"] == row["denied"] == 0
+        return f"{access(row)}: {f'{counts} start' if row['held_at_start'] else 'never asked'}\n"
+    return f"{access(row)}: {counts} {at(row, 'last')}{', held at start' if row['held_at_start'] else ''}\n"
 
 
 def asked(row):

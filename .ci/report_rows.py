@@ -57,6 +57,7 @@ class Seen:
             self.entries = [texts.entry_of(line) for line in text.read().splitlines()]
         self.many = len(self.entries)
         self.told = by_commands(start, journal)
+        self.left_out = len(self.opening.matrix) - len(State(said("usage", "--tighten", start, journal)).matrix)
         self.found = found
 
     def denied(self):
@@ -160,9 +161,19 @@ def uses_of(seen):
         if line.split()[1] == "trust:":
             continue
         access, _, told = line.rpartition(": ")
-        found = re.fullmatch(r"(\d+) granted, (\d+) denied, last (.*)", told)
-        rows.append([access, *found.groups()] if found else [access, "0", "0", told])
+        found = re.fullmatch(r"(\d+) granted, (\d+) denied, last (.*?)(, held at start)?", told)
+        rows.append([access, *found.groups()[:3], bool(found[4]) or found[3] == "start"] if found else [access, "0", "0", told, False])
     return rows
+
+
+def removable(unused, count, left_out):
+    """The line of what was never granted, with how many cells of the start `usage --tighten` leaves out."""
+    return (f"{unused} of {count} permissions were never granted (mls usage --never). From START, {left_out} of them could be removed "
+            "(mls usage --tighten), unless they are young.")
+
+
+def is_unused(row):
+    return row[1] == "0" and not row[4]
 
 
 def usage_agrees(page, seen):
@@ -175,14 +186,14 @@ def usage_agrees(page, seen):
         totals[it[0].split()[0]].append(it)
     rows = []
     for name, found in totals.items():
-        unused = sum(it[1] == "0" for it in found)
+        unused = sum(map(is_unused, found))
         lasts = [int(it[3]) for it in found if it[3].isdigit()]
         last = dated(seen, max(lasts)) if lasts else "-"
         sums = [str(sum(int(it[k]) for it in found)) for k in kept]
         rows.append((unused, [name, str(len(found)), str(unused), *sums, last]))
     shown, listed = rows_of(part)
     same(shown, heaviest_first(rows)[:SHOWN])
-    same(listed, [[it[0], *(it[k] for k in kept), dated(seen, it[3]) if it[3].isdigit() else it[3]] for it in sorted(uses, key=lambda it: it[1] != "0")[:LISTED]])
+    same(listed, [[it[0], *(it[k] for k in kept), dated(seen, it[3]) if it[3].isdigit() else it[3]] for it in sorted(uses, key=lambda it: not is_unused(it))[:LISTED]])
 
 
 def span_of(line, entries):
@@ -388,8 +399,8 @@ def short_agrees(page, seen, sums, trusting):
         assert not lines[1].all("svg")
     names = ", ".join(f"{name} {count}" for name, count in trusting[:5]) + (", and others" if len(trusting) > 5 else "")
     same(lines[2].text(), f"{sum(it for _, it in trusting)} granted by trust alone" + (f": {names}." if names else "."))
-    unused, count = sum(it[1] == "0" for it in uses_of(seen)), len(uses_of(seen))
-    same(lines[3].text(), f"{unused} of {count} permissions were never granted and could be removed, unless they are young.")
+    unused, count = sum(map(is_unused, uses_of(seen))), len(uses_of(seen))
+    same(lines[3].text(), removable(unused, count, seen.left_out))
     wanted = "The journal was verified: each reply is the one that the rules give. No marks were looked at."
     if seen.found is not None:
         digest = seen.found[-1].digest.hex() if seen.found else "0" * 64
@@ -465,7 +476,7 @@ def a_page_by_hand():
     lines = section(page, "In short").texts("li")
     same((lines[0], lines[2:]), (
         "5 entries: 4 granted, 1 denied, 0 undefined.",
-        ["0 granted by trust alone.", "10 of 12 permissions were never granted and could be removed, unless they are young.",
+        ["0 granted by trust alone.", removable(10, 12, 10),
          "The journal was verified: each reply is the one that the rules give. No marks were looked at."]))
     same(columns_of(section(page, "In short").one("svg")), [0, 102, 0, 0, 0])
     same(section(page, "In short").one("span").text(), "In 5 equal parts of the entries, from the first to the last; at most 1.")
@@ -487,7 +498,7 @@ def a_page_by_hand():
          "U": ["bob current", "sec current", "aud current", "root", "tool"], "T:A,B": ["sec maximum"]},
         {("S:A", "T:A,B"), ("C", "S:A"), ("U", "C")}))
     same(rows_of(section(page, "Use of permissions"))[0],
-         [["ann", "4", "3", "3", "0", "3"], ["bob", "3", "3", "0", "1", "1"], ["sec", "4", "3", "1", "0", "4"], ["aud", "1", "1", "0", "0", "-"]])
+         [["ann", "4", "3", "2", "0", "3"], ["bob", "3", "3", "0", "1", "1"], ["sec", "4", "3", "1", "0", "4"], ["aud", "1", "1", "0", "0", "-"]])
     # ann holds read of plans, and may write it; bob's maximum and integrity let it read memo and execute tool; sec holds write of root, and
     # doesn't act. Nobody who acts could write root, so nobody gives anything
     same(grid_of(section(page, "What could come about")), (["ann", "bob", "sec", "aud"], {

@@ -54,16 +54,20 @@ def noted(found):
     return put("start.marks", marks.text_of(found))
 
 
+def first_since(found, at):
+    """The number of the first entry of the first mark of a time or later, and of the state before it; without such a mark, behind the last one."""
+    number, behind = marks.since(found, at), found[-1].number + 1 if found else 0
+    return behind if number is None else number
+
+
 def states_by_chance(rnd, found, asked, is_range):
     """Words that tell marks, and perhaps by time from which state on and up to which; and what then is asked for beside what was: states
     from `first` to `last`."""
     words, first = ["--marks", noted(found)], None
     if is_range and rnd.random() < 0.5:
         first = at = instant_by_chance(rnd, found)
-        number = marks.since(found, at)
-        behind = found[-1].number + 1 if found else 0
         words.append(f"--since={word_of(rnd, at)}")
-        asked = {**asked, "first": max(asked.get("first", 0), behind if number is None else number)}
+        asked = {**asked, "first": max(asked.get("first", 0), first_since(found, at))}
     if is_range and rnd.random() < 0.5:
         at = instant_by_chance(rnd, found)
         number = marks.until(found, at)
@@ -79,10 +83,10 @@ def states_by_chance(rnd, found, asked, is_range):
 
 
 def between(entries, found, since, until):
-    """The entries from the first mark of a time or later, and to the last mark of a time or earlier."""
-    first = 0 if since is None else marks.since(found, since)
+    """The entries from the first mark of a time or later, or else from behind all marks, and to the last mark of a time or earlier."""
+    first = 0 if since is None else first_since(found, since)
     last = len(entries) if until is None else marks.until(found, until)
-    return [it for it in entries if first is not None and last is not None and first <= it.number <= last]
+    return [it for it in entries if last is not None and first <= it.number <= last]
 
 
 def with_times(found, entries, line_of):
@@ -191,7 +195,7 @@ LINES = ["[2026-11-27T11:00:00.000001Z] 0 session 0 ann get-read plans: yes\n",
 # What is asked of it, and which lines are listed.
 LISTED = packed("""
     : 0 1 2 | --since 2026-11-27T10:30:00Z : 0 1 2 | --since 2026-11-27T11:00:00.000001Z : 0 1 2
-    --since 2026-11-27T11:00:00.000001001Z : | --since 2026-11-27T11:00:00.000000999Z : 0 1 2 | --since 2026-11-28 :
+    --since 2026-11-27T11:00:00.000001001Z : 2 | --since 2026-11-27T11:00:00.000000999Z : 0 1 2 | --since 2026-11-28 : 2
     --since 2026-11-27 : 0 1 2 | --since=0000-01-01T00:00:00Z : 0 1 2 | --until 2026-11-27T10:30:00Z : 0 1
     --until 2026-11-27T10:00:00Z : 0 1 | --until 2026-11-27T11:00:00+01:00 : 0 1 | --until 2026-11-27T09:59:59.999999999Z :
     --until 2026-11-27T15:30:00+05:30 : 0 1 | --until 9999-12-30T22:00:00.999999999Z : 0 1 | --until 2026-11-27 : 0 1 | --until 2026-11-26 :

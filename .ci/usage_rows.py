@@ -8,7 +8,7 @@ from outside import example, in_its_folder, put, ran_program, same
 from span_rows import ANSWERS, SCRIPT
 
 # Over the journal of the example in FORMATS.md.
-OF_OPENED = """ann read plans: 3 granted, 0 denied, last 3
+OF_OPENED = """ann read plans: 2 granted, 0 denied, last 3, held at start
 ann write plans: never asked
 ann read memo: never asked
 ann execute tool: never asked
@@ -32,7 +32,7 @@ WHOLE = {
     "sec write #4": "1 granted, 0 denied, last 6", "aud read plans": "",
 }
 PART = {**WHOLE,
-        **dict.fromkeys(("ann read plans", "ann read #4", "sec write root"), "1 granted, 0 denied, last start"),
+        **dict.fromkeys(("ann read plans", "ann read #4", "sec write root"), "0 granted, 0 denied, last start"),
         "ann read #5": "1 granted, 0 denied, last 9"}
 ENDED = {it: "" for it in WHOLE if "#" not in it and it != "ann read plans"}
 BEGUN = {**ENDED, "sec write root": WHOLE["sec write root"]}
@@ -70,7 +70,7 @@ def permissions_and_their_uses():
     answered(["--from", "0", "--to", "18446744073709551615", STANDARD, "held.journal"], text_of(WHOLE, trust))
     answered(["--from", "5", "--to", "9", STANDARD, "held.journal"], text_of(PART, trust))
     answered(["--from", "15", STANDARD, "held.journal"], text_of(ENDED))
-    answered(["--from", "14", "--to", "14", STANDARD, "held.journal"], text_of({**ENDED, "sec write root": "1 granted, 0 denied, last start"}))
+    answered(["--from", "14", "--to", "14", STANDARD, "held.journal"], text_of({**ENDED, "sec write root": "0 granted, 0 denied, last start"}))
     answered(["--to", "0", STANDARD, "held.journal"], text_of({"ann read plans": "", **BEGUN}))
 
 
@@ -80,9 +80,23 @@ def uses_of_what_a_start_opens_with():
     answered([HELD, "opened.journal"], OF_OPENED)
     text = "".join(f"{it}: never asked\n" for it in ("ann read plans", *ENDED)) + UNUSED + "12 permissions, 12 never granted\n"
     answered([STANDARD, "empty.journal"], text)
-    held = text.replace("plans: never asked", "plans: 1 granted, 0 denied, last start", 1).replace("12 never", "11 never")
+    held = text.replace("plans: never asked", "plans: 0 granted, 0 denied, last start", 1).replace("12 never", "11 never")
     answered([HELD, "empty.journal"], held)
     answered(["--from", "1", "--to", "2", HELD, "opened.journal"], held.replace("memo: never asked\nbob ex", "memo: 0 granted, 1 denied, last 1\nbob ex"))
+
+
+def uses_before_the_states():
+    """What is held as a part begins is no grant of the part; but it isn't one that was never granted, and a tightened start keeps it."""
+    script = b"ann get-read plans\nann release read plans\nann level U\nann get-read plans\n"
+    journal_of(STANDARD, script, b"yes\nyes\nyes\nno star\n", "held.journal")
+    files = ["--subject", "ann", "--object", "plans", STANDARD, "held.journal"]
+    ending = "ann write plans: never asked\n2 permissions, "
+    for words, uses, unused in (([], "1 granted, 1 denied, last 3", 1), (["--from", "1"], "0 granted, 1 denied, last 3, held at start", 1),
+                                (["--from", "1", "--to", "2"], "0 granted, 0 denied, last start", 1), (["--from", "2"], "0 granted, 1 denied, last 3", 2),
+                                (["--from", "2", "--to", "2"], "never asked", 2)):
+        answered([*words, *files], f"ann read plans: {uses}\n{ending}{unused} never granted\n")
+        kept = json.loads(ran_program(["usage", "--tighten", *words, *files])[1])["matrix"]
+        same((words, [it["modes"] for it in kept if (it["subject"], it["object"]) == ("ann", "plans")]), (words, [["read"]] if unused == 1 else []))
 
 
 def gets_without_the_permission():
@@ -95,7 +109,7 @@ def gets_without_the_permission():
     last = never + UNUSED
     twice, once, given = (never + UNUSED.replace("never used", it, 1) for it in ("2 granted, last 3", "1 granted, last 3", "1 granted, last 1"))
     answered([start, "held.journal"], f"ann read root: 1 granted, 0 denied, last 2\n{twice}2 permissions, 1 never granted\n")
-    answered(["--from", "3", start, "held.journal"], f"ann read root: 1 granted, 0 denied, last start\n{once}2 permissions, 1 never granted\n")
+    answered(["--from", "3", start, "held.journal"], f"ann read root: 0 granted, 0 denied, last start\n{once}2 permissions, 1 never granted\n")
     answered(["--to", "1", start, "held.journal"], f"ann read root: never asked\n{given}2 permissions, 2 never granted\n")
     answered(["--from", "4", start, "held.journal"], f"{last}1 permission, 1 never granted\n")
     answered(["--to", "0", start, "held.journal"], f"{last}1 permission, 1 never granted\n")
@@ -118,17 +132,17 @@ def uses_with_times():
     times = [b"2026-11-27T10:00:00.000000Z", b"2026-11-27T11:00:00.000000Z"]
     put_marks("opened.marks", OPENED, [2, 4], times)
     files = ["--marks", "opened.marks", HELD, "opened.journal"]
-    told = OF_OPENED.replace("last 3\n", "last 3 [2026-11-27T11:00:00.000000Z]\n").replace("last 4\n", "last 4 [-]\n")
+    told = OF_OPENED.replace("last 3,", "last 3 [2026-11-27T11:00:00.000000Z],").replace("last 4\n", "last 4 [-]\n")
     told = told.replace("last 1\n", "last 1 [2026-11-27T10:00:00.000000Z]\n")
     answered(files, told)
     answered(["--since", "2026-11-26", *files], told)
     # (START opens with the access that the first entry asks for)
-    early = OF_OPENED.replace("3 granted, 0 denied, last 3\n", "2 granted, 0 denied, last 0 [2026-11-27T10:00:00.000000Z]\n")
+    early = OF_OPENED.replace("2 granted, 0 denied, last 3,", "1 granted, 0 denied, last 0 [2026-11-27T10:00:00.000000Z],")
     early = early.replace("last 1\n", "last 1 [2026-11-27T10:00:00.000000Z]\n").replace("1 granted, 0 denied, last 4\n", "never asked\n")
     early = early.replace("10 never", "11 never")
     answered(["--until", "2026-11-27T10:30:00Z", *files], early)
     late = "".join(f"{line.split(':')[0]}: never asked\n" for line in OF_OPENED.splitlines()[:-3]) + UNUSED + "12 permissions, 10 never granted\n"
-    late = late.replace("ann read plans: never asked", "ann read plans: 1 granted, 0 denied, last start")
+    late = late.replace("ann read plans: never asked", "ann read plans: 0 granted, 0 denied, last start")
     late = late.replace("sec write root: never asked", "sec write root: 1 granted, 0 denied, last 4 [-]")
     answered(["--since", "2026-11-28", *files], late)
     refused(["--since", "2026-11-28", "--until", "2026-11-27", *files], "--since 2026-11-28: behind --until 2026-11-27", 2)
@@ -173,7 +187,7 @@ def uses_by_chance(world):
 
 
 CHECKS = [*map(in_its_folder, [permissions_and_their_uses, uses_with_times, uses_of_what_a_start_opens_with,
-           gets_without_the_permission, permissions_of_a_number_that_is_used_again, faults_of_uses_in_their_order,
+           uses_before_the_states, gets_without_the_permission, permissions_of_a_number_that_is_used_again, faults_of_uses_in_their_order,
            words_that_ask_for_no_uses, ])]
 # (it is asked of random starts and journals)
 OF_WORLDS = [uses_by_chance]

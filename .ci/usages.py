@@ -13,13 +13,13 @@ def uses(states, entries, access):
 
 def use_of(opening, first, access, asked, found):
     """The line of a permission with these uses, where a state is the first, with the times of marks, where these are told; and whether it
-    was granted."""
+    was granted, in one of them or before."""
     s, o, x = access
     is_held = access in first.accesses
-    granted = sum(it.reply == "yes" for it in asked) + is_held
-    last = entry_text(asked[-1].number, found) if asked else "start"
-    text = f"{granted} granted, {len(asked) + is_held - granted} denied, last {last}" if asked or is_held else "never asked"
-    return f"{opening.subject(s)} {MODES[x]} {opening.object(o)}: {text}\n", granted > 0
+    granted = sum(it.reply == "yes" for it in asked)
+    last = entry_text(asked[-1].number, found) + (", held at start" if is_held else "") if asked else "start"
+    text = f"{granted} granted, {len(asked) - granted} denied, last {last}" if asked or is_held else "never asked"
+    return f"{opening.subject(s)} {MODES[x]} {opening.object(o)}: {text}\n", granted > 0 or is_held
 
 
 def trust_of(states, entries, s, found):

@@ -285,10 +285,10 @@ pub(crate) const COMMANDS: [CommandRow; 21] = [
         brief: "How was each permission used, and which were never?",
         about: "Prints each permission and how it was used over a journal: how often its get was granted and denied \
             while it was there, and which entry was the last. All entries count, or with --from those from N on; what \
-            the first state holds counts as granted once. Then of each subject that is trusted, how many entries were \
-            granted that would not have been otherwise, and the last: not with --subject, --object or --never. A \
-            review wants the whole life of a start, or --from: a permission that is never asked may be young. The \
-            status is 0 where each was granted, else 4; with --tighten it is 0",
+            was held before them is held at start, which is no grant of theirs. Then of each subject that is trusted, \
+            how many entries were granted that would not have been otherwise, and the last: not with --subject, \
+            --object or --never. A review wants the whole life of a start, or --from: a permission that is never asked \
+            may be young. The status is 0 where each was granted, else 4; with --tighten it is 0",
         example: "Examples: mls usage examples/office.json office.journal; mls usage --never --subject petra \
             examples/office.json office.journal; mls usage --tighten examples/office.json office.journal > tight.json",
         arguments: &USAGE_ARGUMENTS,

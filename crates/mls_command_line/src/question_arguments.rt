@@ -65,7 +65,7 @@ pub(crate) const WHO_ARGUMENTS: [Argument; 17] = [
         kind: Kind::FlagOfStates,
         help: "Prints, for each permission that a state of the journal has, from which entry to which its get would \
             have been granted, at the level that its subject had then: start is before entry 0, on is to the end, and \
-            never is in no state",
+            never is in no state, though a level request of its own may have done in each",
     },
     Argument {
         name: "from",
@@ -222,8 +222,8 @@ pub(crate) const JOURNAL_ARGUMENTS: [Argument; 18] = [
     Argument {
         name: "since",
         kind: Kind::Time,
-        help: "Entries from the first batch in MARKS on whose time is TIME or later; TIME as \
-            2026-11-27T12:12:26+01:00, or a date as 2026-11-27, in UTC",
+        help: "Entries from the first batch in MARKS on whose time is TIME or later, or else those behind all batches; \
+            TIME as 2026-11-27T12:12:26+01:00, or a date as 2026-11-27, in UTC",
     },
     Argument {
         name: "until",

@@ -52,7 +52,7 @@ fn add_where(
 ) -> Result<usize, AllocError> {
     let mut left = left;
     for usage in usages {
-        let is_asked = (usage.uses.granted > 0) == is_granted;
+        let is_asked = usage.is_unused() != is_granted;
         if left > 0 && is_asked {
             permission_row(page, names, marks, all, usage)?;
             left = left.saturating_sub(1);

@@ -22,6 +22,8 @@ pub struct Short {
     pub permissions: u64,
     /// How many of them were never granted.
     pub unused: u64,
+    /// How many of these `usage --tighten` leaves out of the start.
+    pub removable: u64,
 }
 
 /// The line of how many entries there are.
@@ -89,7 +91,13 @@ fn unused_line(page: &mut Page, short: &Short) -> Result<(), AllocError> {
     page.number(short.permissions)?;
     page.text(" permissions were never granted")?;
     page.close()?;
-    page.text(" and could be removed, unless they are young.")?;
+    page.text(" (")?;
+    page.leaf(Tag::Code, "mls usage --never")?;
+    page.text("). From START, ")?;
+    page.number(short.removable)?;
+    page.text(" of them could be removed (")?;
+    page.leaf(Tag::Code, "mls usage --tighten")?;
+    page.text("), unless they are young.")?;
     page.close()?;
     page.line()
 }

@@ -40,9 +40,7 @@ impl Total {
     /// Counts a permission more.
     fn count(&mut self, usage: &Usage) {
         self.permissions = self.permissions.saturating_add(1);
-        self.unused = self
-            .unused
-            .saturating_add(u64::from(usage.uses.granted == 0));
+        self.unused = self.unused.saturating_add(u64::from(usage.is_unused()));
         self.granted = self.granted.saturating_add(usage.uses.granted);
         self.denied = self.denied.saturating_add(usage.uses.denied);
         self.last = later(self.last, usage.uses.last);

@@ -3,6 +3,7 @@ use crate::answering::{label_refused, other_refused, thing_refused};
 use crate::listing::{earlier, later};
 use crate::row_answers::{form_of, listed};
 use crate::sources::{read_beside, read_marked, read_source};
+use crate::spans::state_since;
 use mls_command_line::{CompareWords, Source};
 use mls_compare::{
     Asked, CompareFault, Scope, SettingFault, compare as compared, compare_could, compare_set,
@@ -102,13 +103,12 @@ fn ended(
     }
 }
 
-/// What is asked for, of the entries between two times. Where no mark has such a time the first is the greatest number,
-/// which no entry has.
+/// What is asked for, of the entries between two times. Where no mark has the last time or an earlier one the first is
+/// the greatest number, which no entry has.
 fn asked_of(words: &CompareWords<'_>, marks: Option<&Marks>) -> Asked {
     let (mut from, mut to) = (words.from, words.to);
     if let (Some(time), Some(marks)) = (&words.times.since, marks) {
-        let first = marks.since(time).unwrap_or(u64::MAX);
-        from = later(from, Some(first));
+        from = later(from, Some(state_since(marks, time)));
     }
     if let (Some(time), Some(marks)) = (&words.times.until, marks) {
         match marks.until(time) {

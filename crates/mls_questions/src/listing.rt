@@ -5,6 +5,7 @@ use crate::past::{Past, past_refused, replayed};
 use crate::renaming::journal_after;
 use crate::row_answers::listed;
 use crate::sources::{Bytes, read_source};
+use crate::spans::state_since;
 use mls_answers::{journal as list_journal, journal_explained as write_explained, journal_trusted};
 use mls_command_line::{JournalWords, Source};
 use mls_explain_text::{Sort, WriteFault};
@@ -55,8 +56,8 @@ pub(crate) fn earlier(to: Option<u64>, until: Option<u64>) -> Option<u64> {
     }
 }
 
-/// The numbers of the first and of the last entry that are asked for, by number and by time. Where no mark has such a
-/// time the first is the greatest number, which no entry has.
+/// The numbers of the first and of the last entry that are asked for, by number and by time. Where no mark has the last
+/// time or an earlier one the first is the greatest number, which no entry has.
 fn range(words: &JournalWords<'_>, marks: Option<&Marks>) -> (Option<u64>, Option<u64>) {
     let mut from = words.filter.from;
     let mut to = words.filter.to;
@@ -64,8 +65,7 @@ fn range(words: &JournalWords<'_>, marks: Option<&Marks>) -> (Option<u64>, Optio
         return (from, to);
     };
     if let Some(time) = &words.since {
-        let first = marks.since(time).unwrap_or(u64::MAX);
-        from = later(from, Some(first));
+        from = later(from, Some(state_since(marks, time)));
     }
     if let Some(time) = &words.until {
         match marks.until(time) {

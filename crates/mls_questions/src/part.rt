@@ -66,6 +66,11 @@ impl<'a> Part<'a> {
         &self.start
     }
 
+    /// The start of the whole journal.
+    pub(crate) fn journal_start(&self) -> &'a Start {
+        self.replay.start()
+    }
+
     /// The entries between the states.
     pub(crate) fn entries(&self) -> &'a [Entry] {
         entries_between(self.replay.entries(), self.states)

@@ -6,7 +6,9 @@ use mls_marks::Marks;
 use mls_overview::{Denial, Trend, trend_by_part, trend_by_week};
 use mls_page::{SHOWN, Short, Walked, walk};
 use mls_requests::ReplyWord;
+use mls_rules::State;
 use mls_spans::{Usage, count_unused, usages_over};
+use mls_state::Table;
 use std::alloc::{AllocError, Global};
 
 /// How permissions were used, from the first of the states on; none where there is no such state.
@@ -69,8 +71,32 @@ pub(crate) fn walked_over(
     walked
 }
 
+/// Whether `usage --tighten` leaves a permission out of a start that opens with this state.
+fn is_removable(opening: &State, usage: &Usage) -> bool {
+    let (s, o, x) = usage.access;
+    let is_cell = Table::Matrix.modes(opening, s, o).has(x);
+    usage.is_unused() && is_cell && !opening.has_access(s, o, x)
+}
+
+/// How many permissions `usage --tighten` leaves out of the start of the journal.
+pub(crate) fn count_removable(
+    alloc: Global,
+    seen: &Part<'_>,
+    usages: &[Usage],
+) -> Result<u64, AllocError> {
+    let opening = seen.journal_start().opening(alloc)?;
+    let mut count: u64 = 0;
+    for usage in usages {
+        if is_removable(&opening, usage) {
+            count = count.saturating_add(1);
+        }
+    }
+    drop(opening);
+    Ok(count)
+}
+
 /// The numbers of the first lines.
-pub(crate) fn short_of(summary: &Summary, usages: &[Usage]) -> Short {
+pub(crate) fn short_of(summary: &Summary, usages: &[Usage], removable: u64) -> Short {
     let mut short = Short {
         entries: summary.entries,
         granted: 0,
@@ -78,6 +104,7 @@ pub(crate) fn short_of(summary: &Summary, usages: &[Usage]) -> Short {
         undefined: 0,
         permissions: usages.len() as u64,
         unused: count_unused(usages),
+        removable,
     };
     for row in &summary.replies {
         match row.word {

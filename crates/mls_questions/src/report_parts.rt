@@ -1,6 +1,6 @@
 //! The sections of a page about a part of a journal, each of what another question tells.
 use crate::part::Part;
-use crate::report_counts::{in_order, short_of, trend_of, usages_of, walked_over};
+use crate::report_counts::{count_removable, in_order, short_of, trend_of, usages_of, walked_over};
 use crate::report_futures::add_what_could;
 use mls_listings::{Choice, Filter, Summary, summarize};
 use mls_marks::{Marks, Verified};
@@ -99,7 +99,8 @@ fn add_summed(
     summary: &Summary,
 ) -> Result<(), AllocError> {
     let seen = told.seen;
-    let short = short_of(summary, usages);
+    let removable = count_removable(page.alloc(), seen, usages)?;
+    let short = short_of(summary, usages, removable);
     add_first(page, told, looked, &short, usages)?;
     add_held(page, seen, told.marks)?;
     add_changes(page, seen)?;

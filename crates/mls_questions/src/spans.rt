@@ -14,8 +14,8 @@ use mls_terminal::Progress;
 use std::process::ExitCode;
 
 /// The number of the first state at a time or behind it: the one before the first entry of the first batch whose time
-/// is that or later, or, where there is none, the one behind the last batch.
-fn state_since(marks: &Marks, time: &Time) -> u64 {
+/// is that or later, or, where there is none, the one behind the last batch. It is that of the first entry, too.
+pub(crate) fn state_since(marks: &Marks, time: &Time) -> u64 {
     match (marks.since(time), marks.rows().last()) {
         (Some(first), _) => first,
         (None, Some(row)) => row.last.saturating_add(1),

@@ -1,7 +1,7 @@
 -- The members of the JSON objects of spans, of uses, and of the states in which gets would be granted.
-use Rattle.std.specs.Prelude.{ℕ, List, ◌++◌, codes, Option, Some, None}
+use Rattle.std.specs.Prelude.{ℕ, Bool, List, [], ◌∷◌, ◌++◌, codes, Option, Some, None}
 use Rattle.std.specs.List.{flat_map}
-use Rattle.json.specs.Token.{Token}
+use Rattle.json.specs.Token.{Token, boolean, key}
 use Rattle.mls_lines.specs.Names.{Names}
 use Rattle.mls_marks.specs.declared.row.Row.{Row}
 use Rattle.mls_requests.specs.ActionWords.{action_word}
@@ -33,12 +33,17 @@ abbrev pub span_members : Names → Option (List Row) → Span → List Token
 span_members names rows span =
     access_members names span.access ++ begin_members rows span.made ++ ended_members rows span.ended
 
--- A permission, how many of its gets were granted and denied, and the last of them. (own)
+-- Whether the first state has an access. (own)
+abbrev pub held_member : Bool → List Token
+held_member held = key (codes "held_at_start") ∷ boolean held ∷ []
+
+-- A permission, how many of its gets were granted and denied, the last of them, and whether the first state has it as a
+-- current access. (own)
 abbrev pub usage_members : Names → Option (List Row) → Usage → List Token
 usage_members names rows usage =
     access_members names usage.access
     ++ two_members (codes "granted") (codes "denied") usage.uses.granted usage.uses.denied
-    ++ entry_members (codes "last") (codes "last_time") rows usage.uses.last
+    ++ entry_members (codes "last") (codes "last_time") rows usage.uses.last ++ held_member usage.is_held
 
 -- How many permissions there are, and how many of them were never granted. (own)
 abbrev pub ending_members : ℕ → ℕ → List Token

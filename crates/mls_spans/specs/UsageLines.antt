@@ -16,9 +16,14 @@ use Rattle.mls_spans.specs.declared.uses.Uses.{Uses}
 abbrev pub counts_text : Uses → List ℕ
 counts_text u = decimal u.granted ++ codes " granted, " ++ decimal u.denied ++ codes " denied, last "
 
--- How a permission was used, by the number of its last use, where there is one. (own)
+-- That the first state has an access, where it has. (own)
+abbrev pub held_text : Bool → List ℕ
+held_text held = if held then codes ", held at start" else []
+
+-- How a permission was used, by the number of its last use, where there is one, and whether the first state has it as a
+-- current access. (own)
 abbrev pub uses_text : Option (List Row) → Bool → Uses → Option ℕ → List ℕ
-uses_text rows held u (Some number) = counts_text u ++ entry_text rows number
+uses_text rows held u (Some number) = counts_text u ++ entry_text rows number ++ held_text held
 uses_text rows true u None = counts_text u ++ codes "start"
 uses_text rows false u None = codes "never asked"
 

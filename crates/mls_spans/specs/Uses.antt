@@ -75,21 +75,18 @@ uses_of v entries t = record {
   last = last_number None (uses_over v entries t);
 }
 
--- Uses with one granted more, where the access is a current one from the beginning. (own)
-abbrev pub with_first : Bool → Uses → Uses
-with_first held u = record u { granted = if held then u.granted + 1 else u.granted }
-
 -- The usage of a permission that has these uses, where a state is the first. (own)
 abbrev pub usage_by : State → Triple → Uses → Usage
-usage_by v t u = record { access = t; is_held = is_held v t; uses = with_first (is_held v t) u }
+usage_by v t u = record { access = t; is_held = is_held v t; uses = u }
 
 -- The usage of a permission over entries from a state. (own)
 abbrev pub usage_of : State → List Entry → Triple → Usage
 usage_of v entries t = usage_by v t (uses_of v entries t)
 
--- A permission was never granted. (own)
+-- A permission was never granted: the first state doesn't have it as a current access, and none of its gets was
+-- granted. (own)
 abbrev pub is_unused : Usage → Bool
-is_unused usage = usage.uses.granted == 0
+is_unused usage = not usage.is_held && usage.uses.granted == 0
 
 -- The accesses of a subject to an object that there can be, by mode. (own)
 abbrev pub accesses_on : ℕ → ℕ → List Triple

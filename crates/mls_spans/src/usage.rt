@@ -16,35 +16,29 @@ use std::alloc::{AllocError, Global};
 #[derive(Clone, Copy, Debug)]
 pub struct Usage {
     pub access: (SubjectId, ObjectId, Mode),
-    /// Whether the first state has it as a current access, which counts as one granted.
+    /// Whether the first state has it as a current access: it was granted before.
     pub is_held: bool,
     pub uses: Uses,
 }
 
 impl Usage {
-    /// Whether it was never granted.
-    pub(crate) fn is_unused(&self) -> bool
+    /// Whether it was never granted: no get of it, nor before.
+    pub fn is_unused(&self) -> bool
         ensures { result ≡ is_unused_in self.now }
     {
-        self.uses.granted == 0
+        !self.is_held && self.uses.granted == 0
     }
 }
 
 /// The usage of an access, with what is told of its uses.
-fn usage_by(
-    first: &State,
-    access: (SubjectId, ObjectId, Mode),
-    uses: Uses,
-) -> Result<Usage, AllocError>
-    ensures { IfOk result (λ usage. usage ≡ usage_in first.now access uses) }
+fn usage_by(first: &State, access: (SubjectId, ObjectId, Mode), uses: Uses) -> Usage
+    ensures { result ≡ usage_in first.now access uses }
 {
-    let is_held = is_held(first, &access);
-    let uses = uses.with_first(is_held)?;
-    Ok(Usage {
+    Usage {
         access,
-        is_held,
+        is_held: is_held(first, &access),
         uses,
-    })
+    }
 }
 
 /// Whether an access is a permission: the first state permits it, or something is kept of it.
@@ -67,7 +61,7 @@ fn push_access(
     if !is_there(first, &access, &found) {
         return Ok(());
     }
-    let usage = usage_by(first, access, Uses::told(found))?;
+    let usage = usage_by(first, access, Uses::told(found));
     usages.push(usage)?;
     Ok(())
 }

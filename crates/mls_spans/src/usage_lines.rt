@@ -1,7 +1,8 @@
 //! The lines of permissions and of how they were used.
 ghost use Rattle.std.specs.Prelude.{◌≡◌, ◌++◌, string_bytes, OnOk};
 ghost use Rattle.mls_rows.specs.Times.{rows_lent};
-ghost use Rattle.mls_spans.specs.UsageLines.{counts_text, uses_text, usage_line, permissions_words, ending_text};
+ghost use Rattle.mls_spans.specs.UsageLines.{counts_text, ending_text, held_text, permissions_words};
+ghost use Rattle.mls_spans.specs.UsageLines.{usage_line, uses_text};
 
 use crate::entry_text::push_entry;
 use crate::held_lines::push_access;
@@ -23,15 +24,23 @@ fn push_counts(text: &mut String, uses: &Uses) -> Result<(), AllocError>
     Ok(())
 }
 
+/// What is said of an access that the first state has.
+fn held_text(is_held: bool) -> &'static str
+    ensures { result.now ≡ held_text is_held }
+{
+    if is_held { ", held at start" } else { "" }
+}
+
 /// Appends how a permission was used.
 fn push_uses(text: &mut String, marks: Option<&Marks>, usage: &Usage) -> Result<(), AllocError>
     ensures { OnOk result (string_bytes text.new ≡ string_bytes text.old
         ++ uses_text (rows_lent marks.entry) usage.now.is_held usage.now.uses usage.now.uses.last) }
 {
     match (usage.uses.last, usage.is_held) {
-        (Some(number), _) => {
+        (Some(number), is_held) => {
             push_counts(text, &usage.uses)?;
             push_entry(text, marks, number)?;
+            text.push_str(held_text(is_held))?;
         }
         (None, true) => {
             push_counts(text, &usage.uses)?;

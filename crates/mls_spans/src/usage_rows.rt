@@ -2,7 +2,7 @@
 ghost use Rattle.std.specs.Prelude.{◌≡◌, ◌++◌, codes, length, filter, IfOk};
 ghost use Rattle.mls_rows.specs.Members.{Adds, two_members};
 ghost use Rattle.mls_rows.specs.Times.{entry_members, rows_lent};
-ghost use Rattle.mls_spans.specs.Members.{ending_members, usage_members};
+ghost use Rattle.mls_spans.specs.Members.{ending_members, held_member, usage_members};
 ghost use Rattle.mls_rows.specs.Rows.{bytes_of, form_of};
 ghost use Rattle.mls_spans.specs.Trust.{trust_bytes};
 ghost use Rattle.mls_spans.specs.UsageLines.{ending_row, ending_text, usage_line, usages_bytes};
@@ -45,6 +45,14 @@ fn write_last(
     write_entry(writer, ("last", "last_time"), marks, last)
 }
 
+/// Writes whether the first state has an access.
+fn write_held(writer: &mut Writer, is_held: bool) -> Result<(), AllocError>
+    ensures { Adds result writer.old writer.new (held_member is_held) }
+{
+    writer.key("held_at_start")?;
+    writer.boolean(is_held)
+}
+
 /// Writes how many permissions there are, and how many of them were never granted.
 fn write_ending(writer: &mut Writer, count: u64, unused: u64) -> Result<(), AllocError>
     ensures { Adds result writer.old writer.new (ending_members count unused) }
@@ -74,7 +82,8 @@ impl Told for Usage {
     ) -> Result<(), AllocError> {
         write_access(writer, names, self.access)?;
         write_counts(writer, &self.uses)?;
-        write_last(writer, marks, self.uses.last)
+        write_last(writer, marks, self.uses.last)?;
+        write_held(writer, self.is_held)
     }
 }
 

@@ -1,7 +1,6 @@
 //! What is told of the uses of a permission.
 ghost use Rattle.std.specs.Prelude.{◌≡◌, ◌+◌, IfOk};
 ghost use Rattle.mls_spans.specs.Kept.{no_uses, told_of, with_use};
-ghost use Rattle.mls_spans.specs.Uses.{with_first};
 
 use std::alloc::AllocError;
 
@@ -66,20 +65,6 @@ impl Uses {
             granted: self.granted,
             denied: one_more(self.denied)?,
             last: Some(number),
-        })
-    }
-
-    /// One granted more, where the access is current from the beginning.
-    pub(crate) fn with_first(self, is_held: bool) -> Result<Uses, AllocError>
-        ensures { IfOk result (λ uses. uses ≡ with_first is_held self) }
-    {
-        if !is_held {
-            return Ok(self);
-        }
-        Ok(Uses {
-            granted: one_more(self.granted)?,
-            denied: self.denied,
-            last: self.last,
         })
     }
 }

@@ -145,11 +145,11 @@ pub fn list_usages(
 }
 
 /// How the permissions of some states of a replay were used, by these names, a row each in this form: of each
-/// permission of one of the states, how many of its gets were granted and how many were denied while it was there, and
-/// which was the last; what the first of the states has as a current access counts as one granted. Then of each subject
-/// that is trusted, how many entries its trust granted, and which was the last. Where there are marks the time of the
-/// last is told. The replay looks at the first of the states. The answer is a positive one where each permission was
-/// granted, also where there is none.
+/// permission of one of the states, how many of its gets were granted and how many were denied while it was there,
+/// which was the last, and whether the first of the states has it as a current access: it was granted before. Then of
+/// each subject that is trusted, how many entries its trust granted, and which was the last. Where there are marks the
+/// time of the last is told. The replay looks at the first of the states. The answer is a positive one where each
+/// permission was granted, in the states or before, also where there is none.
 ///
 /// # Errors
 /// `AllocError` where an allocation failed.
