@@ -53,7 +53,7 @@ def remedies_done(world):
 
 
 def commands_that_agree(world):
-    """Of a state, just what is `never` in `who` is dead in `lint`, and what an untrusted subject may get by itself, it could."""
+    """Of a state, just what is `never` in `who` is dead in `lint`, for the same reason, and what an untrusted subject may get by itself, it could."""
     state, files = world.last, ["--journal", world.journal, world.start]
     trusted = {state.subject(it) for it in state.trusted}
     never = set()
@@ -62,13 +62,13 @@ def commands_that_agree(world):
         for line in said("who", *files, o)[0].splitlines():
             subject, mode, told = line.split(" ", 2)
             if told.endswith(", never"):
-                never.add(f"{subject} {mode} {o}")
+                never.add(f"{subject} {mode} {o}: {told.removeprefix('no ').removesuffix(', never')}")
             elif subject not in trusted:
                 same((line, could[f"{subject} {mode}"] in ("could", "held")), (line, True))
             if subject in trusted:
                 same((line, could[f"{subject} {mode}"] in ("never", "held")), (line, True))
     linted = said("lint", *files)[0].splitlines()
-    same(never, {it.split(": ")[1] for it in linted if it.startswith("dead: ")})
+    same(never, {it.removeprefix("dead: ") for it in linted if it.startswith("dead: ")})
 
 
 CHECKS = [in_its_folder(answers_that_differ_in_the_documents)]

@@ -542,6 +542,11 @@ def unknowns(state, s, action):
     return lines
 
 
+def lasting(state, s, action):
+    """The reply to a get that is never granted, with the condition that fails at each level, whatever is released: the first, but for star."""
+    return next(f"no {reason}" for reason, holds, *_ in state.conditions(s, action) if not holds and reason != "star")
+
+
 def who(state, o, modes=range(4)):
     """What `mls who` prints of an object, and its status."""
     lines = []
@@ -549,7 +554,10 @@ def who(state, o, modes=range(4)):
         for x in modes:
             if (s, o, x) not in state.matrix:
                 continue
-            reply = state.decide(s, (f"get-{MODES[x]}", x, o))
-            tail = "" if reply == "yes" else way_text(state, state.way(s, x, o))
-            lines.append(f"{state.subject(s)} {MODES[x]} {reply}{tail}\n")
+            action = (f"get-{MODES[x]}", x, o)
+            reply = state.decide(s, action)
+            way = None if reply == "yes" else state.way(s, x, o)
+            tail = "" if reply == "yes" else way_text(state, way)
+            told = lasting(state, s, action) if tail and way is None else reply
+            lines.append(f"{state.subject(s)} {MODES[x]} {told}{tail}\n")
     return "".join(lines), 0 if any(it.endswith(" yes\n") for it in lines) else 4

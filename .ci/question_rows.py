@@ -368,6 +368,10 @@ def subjects_who_may():
         answered(["who", STANDARD, *words], text, status)
     for words in (["#9"], ["#65535", "read"]):
         refused(["who", STANDARD, *words], f"{words[0]}: there is no such object", 4)
+    # ann works at U: star fails before integrity, and integrity fails at each level
+    put("low.journal", b"0 0 0 level 0 yes\n")
+    answered(["ask", "--journal", "low.journal", STANDARD, "ann get-read memo"], "no star\n", 4)
+    answered(["who", "--journal", "low.journal", STANDARD, "memo"], WHO[0][1], 0)
     refused(["who", STANDARD, "nobody"], "nobody: bad name")
     refused(["who", STANDARD, "$x"], "$x: bad name")
 

@@ -5,6 +5,7 @@ pub mod Explained
 pub mod FaultLines
 pub mod Files
 pub mod Holdings
+pub mod Lasting
 pub mod Nearest
 pub mod Obstacles
 pub mod Parts

@@ -16,6 +16,7 @@ use Rattle.mls_explain.specs.declared.prospect.Prospect.{Prospect}
 use Rattle.mls_explain.specs.declared.way.Way.{Way}
 use Rattle.mls_explain.specs.declared.way.Way.TheVariants.{Level, Released, Never}
 use Rattle.mls_wording.specs.Wording.{subject_text, object_text, security_text}
+use Rattle.mls_explain_text.specs.Lasting.{told_reply}
 use Rattle.mls_explain_text.specs.Responses.{is_granted}
 
 -- The mode and the object of an access that is to be released. (own)
@@ -46,9 +47,11 @@ abbrev pub denial_text : Names → Reply → Way → List Triple → List ℕ
 denial_text names (No reason) way releases = way_text names way releases
 denial_text names reply way releases = []
 
--- The reply to a get and what follows it, with what is to be released, to the end of the line. (own)
+-- The reply to a get, with the condition that is told of it, and what follows it, with what is to be released, to the
+-- end of the line. (own)
 abbrev pub outcome_line : Names → Prospect → List Triple → List ℕ
-outcome_line names p releases = reply_text p.reply ++ denial_text names p.reply p.way releases ++ codes "\n"
+outcome_line names p releases =
+    reply_text (told_reply p.reply p.way) ++ denial_text names p.reply p.way releases ++ codes "\n"
 
 -- The line of what a subject may get in a mode, with what is to be released. (own)
 abbrev pub prospect_line : Names → Prospect → List Triple → List ℕ

@@ -13,6 +13,7 @@ use Rattle.mls_explain.specs.declared.way.Way.{Way}
 use Rattle.mls_explain.specs.declared.way.Way.TheVariants.{Level, Released, Never}
 use Rattle.mls_wording.specs.Wording.{security_text}
 use Rattle.mls_explain_text.specs.Holdings.{some_list, holding_object}
+use Rattle.mls_explain_text.specs.Lasting.{told_reason}
 
 -- Whether a get is granted. (own)
 abbrev pub granted_member : Bool → List Token
@@ -30,12 +31,14 @@ way_member names (Level l) releases = level_members names l releases
 way_member names (Released l) releases = level_members names l releases
 way_member names Never releases = null_member (codes "remedy")
 
--- What becomes of a get: whether it is granted, and after a denial the reason and what it would take. (own)
+-- What becomes of a get: whether it is granted, and after a denial the condition that is told, and what it would take.
+-- (own)
 abbrev pub outcome_members : Names → Reply → Way → List Triple → List Token
 outcome_members names Yes way releases = granted_member true
 outcome_members names (Created o) way releases = granted_member true
 outcome_members names (No reason) way releases =
-    granted_member false ++ text_member (codes "reason") (reason_word reason) ++ way_member names way releases
+    granted_member false ++ text_member (codes "reason") (reason_word (told_reason reason way))
+    ++ way_member names way releases
 outcome_members names Undefined way releases = granted_member false
 
 -- What a subject may get in a mode, with what is to be released. (own)

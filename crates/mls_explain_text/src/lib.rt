@@ -15,6 +15,7 @@ mod explain_members;
 mod explaining;
 mod fault_lines;
 mod grounds;
+mod lasting;
 mod level_changes;
 mod listed;
 mod nearest;

@@ -8,6 +8,7 @@ ghost use Rattle.mls_explain_text.specs.WhoMembers.{granted_member, level_member
 ghost use Rattle.mls_explain_text.specs.WhoMembers.{prospect_members, way_member};
 
 use crate::answer_row::write_reason;
+use crate::lasting::told_reason;
 use crate::obstacle_members::list_releases;
 use crate::prospect_line::push_prospect;
 use json::Writer;
@@ -105,7 +106,7 @@ pub(crate) fn write_way(
     }
 }
 
-/// Writes a denial: its reason, and what the get would take.
+/// Writes a denial: the condition that is told of it, and what the get would take.
 fn write_denial(
     writer: &mut Writer,
     alloc: Global,
@@ -118,11 +119,12 @@ fn write_denial(
         (outcome_members names.now (reply.No reason) way releases.now) }
 {
     write_granted(writer, false)?;
-    write_reason(writer, reason)?;
+    write_reason(writer, told_reason(reason, way))?;
     write_way(writer, alloc, names, way, releases)
 }
 
-/// Writes what becomes of a get: whether it is granted, and after a denial the reason and what it would take.
+/// Writes what becomes of a get: whether it is granted, and after a denial the condition that is told of it and what it
+/// would take.
 ///
 /// # Errors
 /// `AllocError` where an allocation failed.

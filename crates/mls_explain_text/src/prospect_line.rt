@@ -9,6 +9,7 @@ ghost use Rattle.mls_explain_text.specs.Who.{release_text, one_more_release, rel
 ghost use Rattle.mls_explain_text.specs.Who.{denial_text, outcome_line, prospect_line, prospect_text};
 ghost use Rattle.mls_explain_text.specs.Who.{prospect_lines, is_open};
 
+use crate::lasting::told_reply;
 use crate::response::is_granted;
 use mls_explain::{Prospect, Way, releases};
 use mls_labels::SecLabel;
@@ -126,7 +127,8 @@ fn push_denial(
     }
 }
 
-/// Appends the reply to a get and what follows it, with what is to be released, to the end of the line.
+/// Appends the reply to a get, with the condition that is told of it, and what follows it, with what is to be released,
+/// to the end of the line.
 ///
 /// # Errors
 /// `AllocError` where an allocation failed. The text may then have a part of it.
@@ -139,7 +141,7 @@ pub fn push_outcome(
     ensures { OnOk result
         (string_bytes text.new ≡ string_bytes text.old ++ outcome_line names.now prospect.now releases.now) }
 {
-    push_reply(text, prospect.reply)?;
+    push_reply(text, told_reply(prospect.reply, prospect.way))?;
     push_denial(text, names, prospect.reply, prospect.way, releases)?;
     text.push_str("\n")
 }
