@@ -33,9 +33,13 @@ abbrev pub span_members : Names → Option (List Row) → Span → List Token
 span_members names rows span =
     access_members names span.access ++ begin_members rows span.made ++ ended_members rows span.ended
 
+-- A member that is true or false. (own)
+abbrev pub truth_member : List ℕ → Bool → List Token
+truth_member at so = key at ∷ boolean so ∷ []
+
 -- Whether the first state has an access. (own)
 abbrev pub held_member : Bool → List Token
-held_member held = key (codes "held_at_start") ∷ boolean held ∷ []
+held_member held = truth_member (codes "held_at_start") held
 
 -- A permission, how many of its gets were granted and denied, the last of them, and whether the first state has it as a
 -- current access. (own)

@@ -2,7 +2,7 @@
 ghost use Rattle.std.specs.Prelude.{◌≡◌, ◌++◌, codes, length, filter, IfOk};
 ghost use Rattle.mls_rows.specs.Members.{Adds, two_members};
 ghost use Rattle.mls_rows.specs.Times.{entry_members, rows_lent};
-ghost use Rattle.mls_spans.specs.Members.{ending_members, held_member, usage_members};
+ghost use Rattle.mls_spans.specs.Members.{ending_members, held_member, truth_member, usage_members};
 ghost use Rattle.mls_rows.specs.Rows.{bytes_of, form_of};
 ghost use Rattle.mls_spans.specs.Trust.{trust_bytes};
 ghost use Rattle.mls_spans.specs.UsageLines.{ending_row, ending_text, usage_line, usages_bytes};
@@ -45,12 +45,19 @@ fn write_last(
     write_entry(writer, ("last", "last_time"), marks, last)
 }
 
+/// Writes a member that is true or false.
+fn write_truth(writer: &mut Writer, at: &str, so: bool) -> Result<(), AllocError>
+    ensures { Adds result writer.old writer.new (truth_member at.now so) }
+{
+    writer.key(at)?;
+    writer.boolean(so)
+}
+
 /// Writes whether the first state has an access.
 fn write_held(writer: &mut Writer, is_held: bool) -> Result<(), AllocError>
     ensures { Adds result writer.old writer.new (held_member is_held) }
 {
-    writer.key("held_at_start")?;
-    writer.boolean(is_held)
+    write_truth(writer, "held_at_start", is_held)
 }
 
 /// Writes how many permissions there are, and how many of them were never granted.
