@@ -257,24 +257,16 @@ def runs_that_are_strict():
 
 
 def scripts_that_are_starts():
-    """A start file that is given as a script is told before anything is asked or written; a refused start file is told before."""
+    """At a terminal run names the first script that is a start file; answers and status are the same."""
     put_files()
     for name, text in (("empty.object", b"{}"), ("short.json", b'{\n "subjects": []\n}\n')):
         put(name, text)
-        refused(["run", STANDARD, name], f"{name}: looks like a start file")
-    for words in (["run", STANDARD, STANDARD], ["run", "--strict", "--serial", STANDARD, "a.script", STANDARD, "empty.object"],
-                  ["run", "--journal", "new", STANDARD, STANDARD, "a.script"], ["run", "--journal", "standard.journal", STANDARD, "a.script", STANDARD]):
-        refused(words, f"{STANDARD}: looks like a start file")
-    assert not os.path.exists("new")
-    with open("standard.journal", "rb") as file:
-        same(file.read(), JOURNAL)
-    refused(["run", "a.script", STANDARD], "a.script: start 1 Json")
-    refused(["run", "empty.object", STANDARD], "empty.object: start 2 Members")
-    for text, answers in ((b"[]\n7\n", 2), (b" {}\n", 1), (b"{\nann get-read plans\n", None), (b'"subjects"\n', 1)):
+        same(ran_program(["run", STANDARD, name]), (0, b"session 0\n" + text.count(b"\n", 0, -1) * b"bad form\n" + b"bad form\nentries 0\nsecure yes\n", b""))
+        same(told_at_a_terminal(["run", STANDARD, name]), (0, f"mls: {name}: looks like a start file\n"))
+    same(told_at_a_terminal(["run", "--serial", STANDARD, "a.script", "empty.object", STANDARD]), (0, "mls: empty.object: looks like a start file\n"))
+    for text in (b"[]\n7\n", b" {}\n", b"{\nann get-read plans\n", b'"subjects"\n'):
         put("odd", text)
-        status, output, error = ran_program(["run", STANDARD, "odd"])
-        same((text, status, error), (text, 0, b""))
-        same(output, b"session 0\n" + (answers * b"bad form\n" + b"entries 0\n" if answers else b"bad form\nyes\nentries 1\n") + b"secure yes\n")
+        same((text, told_at_a_terminal(["run", STANDARD, "odd"])), (text, (0, "")))
 
 
 def files_that_are_standard_input():
@@ -293,7 +285,6 @@ def files_that_are_standard_input():
             given = file.read()
         same((row, ran_program(words, given)), (row, ran_program([name if it == "-" else it for it in words])))
     same(ran_program(["check", "-"], b"{"), (1, b"", b"mls: -: start 1 Json\n"))
-    same(ran_program(["run", STANDARD, "-"], start), (1, b"", b"mls: -: looks like a start file\n"))
     same(ran_program(["run", "--strict", STANDARD, "-"], b"ann frob\n"), (4, b"session 0\nbad form\nentries 0\nsecure yes\n", b"mls: -: line 1: bad form\n"))
     put("-", b"")
     refused(["check", "./-"], "./-: start 1 Json")

@@ -31,7 +31,7 @@ class CommandLines(Fuzzer):
 
     name, count, room = "command lines", 5_000, 1 << 32 if IS_PROVED else ROOM
     wanted = {"answered", "counted", "run", "replayed", "told", "words", "at most 64 scripts", "input: read",
-              "output: write", "input: too long", "memory", "thread", "file", "too long", "start as a script", "replay 1 Number",
+              "output: write", "input: too long", "memory", "thread", "file", "too long", "replay 1 Number",
               "replay 2 Differs", *(f"start {it[0]}" for it in starts.FAULTS), *(f"entry {it}" for it in OF_LINES)}
     wanted = wanted if IS_PROVED else wanted - {"memory", "thread", "input: too long"}
 

@@ -9,7 +9,7 @@ from outside import same, shown
 from start_format import start_of
 
 # What standard error says of a file, of no file, and of too many scripts.
-OF_FILE = re.compile(rb"mls: (.*): (file|too long|looks like a start file|start .*|line \d+: entry .*|replay .*)\n", re.S)
+OF_FILE = re.compile(rb"mls: (.*): (file|too long|start .*|line \d+: entry .*|replay .*)\n", re.S)
 OF_ASKED = re.compile(OF_FILE.pattern.replace(b"(file|", b"(%b|" % SYSTEM.pattern), re.S)
 OF_NONE = re.compile(rb"mls: (input: read|output: write|input: too long|memory|thread)\n")
 TOO_MANY = b"mls: run: at most 64 scripts\n"
@@ -88,9 +88,6 @@ def refused(name, told, text):
         assert text is None, f"{name} can be read"
         return "file"
     assert text is not None, f"{name} is told {told}, and is no file"
-    if told == b"looks like a start file":
-        assert text[:1] == b"{" and not fault_of(text).startswith("1 "), f"{name} is no JSON"
-        return "start as a script"
     if told == b"too long":
         assert len(text) > SCRIPT_LIMIT, f"{name} has {len(text)} bytes"
         return "too long"

@@ -15,7 +15,7 @@ mod verifying_segments;
 
 pub use beginning::complete;
 pub use first_policy::init;
-pub use mistaken::refuse_starts;
+pub use mistaken::tell_starts;
 pub use over_files::{check, replay};
 pub use run_journal::{RunJournal, open_run_journal};
 pub use scripts::{discard, ended_run, lent, read_scripts};

@@ -8,7 +8,7 @@ ghost use Rattle.std.specs.Prelude.{◌<◌, ◌≤◌, length, vec_len, All};
 
 use crate::commands::{
     RunJournal, check, complete, discard, ended_run, init, lent, open_run_journal, read_scripts,
-    refuse_starts, replay, serve_standard, verify,
+    replay, serve_standard, tell_starts, verify,
 };
 use mls_command_line::{Asked, Job, RunWords, read_words};
 use mls_files::start_file;
@@ -80,8 +80,8 @@ fn lend_and_run<R: Threads + Wait + Sync>(
     status
 }
 
-/// Runs scripts that were read over the bytes of a start file, once the journal's file is open: none is itself a start
-/// file.
+/// Runs scripts that were read over the bytes of a start file, once the journal's file is open. A person at a terminal is
+/// told first which of them is itself a start file.
 fn open_and_run<R: Threads + Wait + Sync>(
     threads: &R,
     progress: &mut Progress<'_>,
@@ -93,10 +93,7 @@ fn open_and_run<R: Threads + Wait + Sync>(
     requires count { (0 < length texts.now) × (length texts.now ≤ MAX_SCRIPTS) }
     requires limit { All (λ text. vec_len text ≤ SCRIPT_LIMIT) texts.now }
 {
-    if let Some(status) = refuse_starts(progress, start, texts, words) {
-        drop(held);
-        return status;
-    }
+    tell_starts(progress, texts, words);
     match open_run_journal(progress, held, words) {
         Ok(mut journal) => {
             let status = lend_and_run(threads, progress, start, texts, words, &mut journal);
