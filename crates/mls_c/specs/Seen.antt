@@ -1,5 +1,5 @@
 -- What the handle of a session tells of the journal that the session sees, and of the state which that leads to.
-use Rattle.std.specs.Prelude.{◌≡◌, ◌≢◌, ◌⊎◌, ℕ, ◌+◌, ◌<◌, ◌≤◌, ℤ, Bool, true, false, ◌&&◌, nat_le, List, [], length, take, drop}
+use Rattle.std.specs.Prelude.{◌≡◌, ◌≢◌, ◌⊎◌, ℕ, ◌+◌, ◌<◌, ◌≤◌, ℤ, true, false, List, [], length, take, drop}
 use Rattle.std.specs.Prelude.{Option, Some, None, IsSomeAnd}
 use Rattle.mls_labels.specs.Label.{Label}
 use Rattle.mls_state.specs.State.{State}
@@ -64,16 +64,13 @@ MeetsIn one other one' other' = IsSomeAnd one (λ p. IsSomeAnd other (λ q. IsSo
     IsSameSession p p' × IsSameSession q q'
     × Meets p.session.view q.session.view p'.session.view q'.session.view))))
 
--- Whether memory has all entries of a journal from a number on, which may be that of the next. (own)
-abbrev pub has_from : Journal → ℕ → Bool
-has_from j from = nat_le j.forgotten from && nat_le from (length j.entries)
-
--- What copying out the lines from a number on returns: that they aren't there; or that so many bytes have no room for
--- the first; or it is done, or there is no memory. (own)
+-- What copying out the lines from a number on returns: that memory hasn't all entries from there, or that this isn't yet
+-- the number of the next; or that so many bytes have no room for the first line; or it is done, or there is no memory.
+-- (own)
 abbrev pub TailStatus : ℕ → ℕ → Journal → ℤ → Type 0
-TailStatus from room j status = (has_from j from ≡ false → status ≡ ENOTFOUND)
-    × (has_from j from ≡ true → (status ≡ OK) ⊎ (status ≡ ENOMEM)
-    ⊎ ((status ≡ ERANGE) × (room < length (journal_text (take 1 (drop from j.entries))))))
+TailStatus from room j status = ((status ≡ ENOTFOUND) × ((from < j.forgotten) ⊎ (length j.entries < from)))
+    ⊎ ((j.forgotten ≤ from) × (from ≤ length j.entries) × ((status ≡ OK) ⊎ (status ≡ ENOMEM)
+    ⊎ ((status ≡ ERANGE) × (room < length (journal_text (take 1 (drop from j.entries)))))))
 
 -- This is the text of a journal's entries from a number up to the next: whole lines, the most that fit into so many
 -- bytes, and at least one where there is one. (own)

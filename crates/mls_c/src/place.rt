@@ -120,7 +120,7 @@ impl Place {
         ensures found { OnOk result (Q.finds question.old (seen_by self.new) question.new) }
         ensures busy { OnErr result (self.new ≡ self.old) }
         ensures unasked { OnErr result (question.new ≡ question.old) }
-        ensures alone { self.old.office.charter.count ≡ 1 → IsOk result }
+        ensures alone { OnErr result (self.old.office.charter.count ≢ 1) }
     {
         let (asked, nobody) = self.session.ask_quietly(&self.office, question);
         let _ = nobody;
@@ -135,7 +135,7 @@ impl Place {
         ensures seen { IfOk result (λ _. Looks self.old self.new) }
         ensures long { IfOk result (λ is_long. Decides is_long (HasSeen n self.new.session.view)) }
         ensures busy { OnErr result (self.new ≡ self.old) }
-        ensures alone { self.old.office.charter.count ≡ 1 → IsOk result }
+        ensures alone { OnErr result (self.old.office.charter.count ≢ 1) }
     {
         let (told, nobody) = self.session.see_quietly(&self.office, n);
         let _ = nobody;

@@ -56,11 +56,13 @@ fn read_pair(place: &mut Place, subject: u16, object: u16, info: &mut PairInfo) 
         info: *info,
         status: OK,
     };
-    if place.ask(&mut asked).is_err() {
-        return EBUSY;
+    match place.ask(&mut asked) {
+        Ok(()) => {
+            *info = asked.info;
+            asked.status
+        }
+        Err(_) => EBUSY,
     }
-    *info = asked.info;
-    asked.status
 }
 
 /// As [`mls_read_pair`](crate::mls_read_pair), in the state that the session sees. It tries the lock once.
@@ -108,11 +110,13 @@ fn count(place: &mut Place, counts: &mut Counts) -> i32
     ensures silent { result ≢ OK → counts.new ≡ counts.old }
 {
     let mut asked = CountsAsked { counts: *counts };
-    if place.ask(&mut asked).is_err() {
-        return EBUSY;
+    match place.ask(&mut asked) {
+        Ok(()) => {
+            *counts = asked.counts;
+            OK
+        }
+        Err(_) => EBUSY,
     }
-    *counts = asked.counts;
-    OK
 }
 
 /// As [`mls_count`](crate::mls_count), in the state that the session sees. It tries the lock once.
@@ -168,11 +172,13 @@ fn next_child(place: &mut Place, object: u16, above: u16, child: &mut u16) -> i3
         child: *child,
         status: OK,
     };
-    if place.ask(&mut asked).is_err() {
-        return EBUSY;
+    match place.ask(&mut asked) {
+        Ok(()) => {
+            *child = asked.child;
+            asked.status
+        }
+        Err(_) => EBUSY,
     }
-    *child = asked.child;
-    asked.status
 }
 
 /// As [`mls_next_child`](crate::mls_next_child), in the state that the session sees. It tries the lock once.

@@ -1,5 +1,5 @@
 //! Why the monitor of a session's office would answer a request as it would.
-ghost use Rattle.std.specs.Prelude.{◌≡◌, ◌≢◌, ◌⊎◌, ◌++◌, length, map, drop, nat_lt, Some, if◌then◌else◌};
+ghost use Rattle.std.specs.Prelude.{◌≡◌, ◌≢◌, ◌⊎◌, ◌++◌, length, map, drop, nat_lt, vec_len, Some, if◌then◌else◌};
 ghost use Rattle.mls_c.specs.Conditions.{numbers_of_condition, numbers_of_remedy};
 ghost use Rattle.mls_c.specs.Seen.{ExplainLook, InSeen, ExplainsAt, CountsAt};
 ghost use Rattle.mls_c.specs.Requests.{request_of};
@@ -47,27 +47,33 @@ impl Question for RequestAsked {
     }
 }
 
-/// Tells conditions and a remedy.
-fn tell_conditions(
-    all: &[Condition],
-    found: Option<SecLabel>,
+/// Tells the conditions and the remedy that were found, if any.
+fn tell_found(
+    asked: &RequestAsked,
     rows: &mut [ConditionNumbers],
     count: &mut usize,
     level: &mut RemedyNumbers,
 ) -> i32
-    ensures status { result ≡ (if nat_lt (length rows.old) (length all.now) then ERANGE else OK) }
-    ensures rows { result ≡ OK → rows.new ≡ map numbers_of_condition all.now ++ drop (length all.now) rows.old }
+    ensures ok { asked.now.status ≡ OK
+        → result ≡ (if nat_lt (length rows.old) (vec_len asked.now.all) then ERANGE else OK) }
+    ensures other { asked.now.status ≢ OK → result ≡ asked.now.status }
+    ensures rows { result ≡ OK → rows.new ≡ map numbers_of_condition asked.now.all.items
+        ++ drop (vec_len asked.now.all) rows.old }
     ensures short { result ≢ OK → rows.new ≡ rows.old }
-    ensures told { count.new ≡ length all.now }
-    ensures remedy { result ≡ OK → level.new ≡ numbers_of_remedy found }
+    ensures told { asked.now.status ≡ OK → count.new ≡ vec_len asked.now.all }
+    ensures untold { asked.now.status ≢ OK → count.new ≡ count.old }
+    ensures remedy { result ≡ OK → level.new ≡ numbers_of_remedy asked.now.level }
     ensures silent { result ≢ OK → level.new ≡ level.old }
 {
-    *count = all.len();
-    if rows.len() < all.len() {
+    if asked.status != OK {
+        return asked.status;
+    }
+    *count = asked.all.len();
+    if rows.len() < asked.all.len() {
         return ERANGE;
     }
-    put_rows(all, rows);
-    *level = RemedyNumbers::of(found);
+    put_rows(&asked.all, rows);
+    *level = RemedyNumbers::of(asked.level);
     OK
 }
 
@@ -99,13 +105,10 @@ fn explain_place(
         level: None,
         status: OK,
     };
-    if place.ask(&mut asked).is_err() {
-        return EBUSY;
+    match place.ask(&mut asked) {
+        Ok(()) => tell_found(&asked, rows, count, level),
+        Err(_) => EBUSY,
     }
-    if asked.status != OK {
-        return asked.status;
-    }
-    tell_conditions(&asked.all, asked.level, rows, count, level)
 }
 
 /// As [`mls_explain_rows`](crate::mls_explain_rows), in the state that the session sees. It tries the lock once.

@@ -49,11 +49,13 @@ fn read_subject(place: &mut Place, subject: u16, info: &mut SubjectInfo) -> i32
         info: *info,
         status: OK,
     };
-    if place.ask(&mut asked).is_err() {
-        return EBUSY;
+    match place.ask(&mut asked) {
+        Ok(()) => {
+            *info = asked.info;
+            asked.status
+        }
+        Err(_) => EBUSY,
     }
-    *info = asked.info;
-    asked.status
 }
 
 /// As [`mls_read_subject`](crate::mls_read_subject), in the state that the session sees. It tries the lock once.
@@ -110,11 +112,13 @@ fn read_object(place: &mut Place, object: u16, info: &mut ObjectInfo) -> i32
         info: *info,
         status: OK,
     };
-    if place.ask(&mut asked).is_err() {
-        return EBUSY;
+    match place.ask(&mut asked) {
+        Ok(()) => {
+            *info = asked.info;
+            asked.status
+        }
+        Err(_) => EBUSY,
     }
-    *info = asked.info;
-    asked.status
 }
 
 /// As [`mls_read_object`](crate::mls_read_object), in the state that the session sees. It tries the lock once.

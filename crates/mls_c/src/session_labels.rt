@@ -71,11 +71,13 @@ fn decide_place(
         reply: *reply,
         status: OK,
     };
-    if place.ask(&mut asked).is_err() {
-        return EBUSY;
+    match place.ask(&mut asked) {
+        Ok(()) => {
+            *reply = asked.reply;
+            asked.status
+        }
+        Err(_) => EBUSY,
     }
-    *reply = asked.reply;
-    asked.status
 }
 
 /// As [`mls_decide_label`](crate::mls_decide_label), in the state that the session sees. It tries the lock once.
