@@ -35,6 +35,9 @@ int mls_office_open_monitor(mls_office *office, mls_monitor *m, uint16_t count);
 int mls_office_close_monitor(mls_office *office, mls_monitor *m);
 int mls_office_hand_out(mls_office *office, mls_session *session);
 int mls_office_take_back(mls_office *office, mls_session *session);
+int mls_session_meet_other(mls_session *s, mls_session *other);
+int mls_session_explain_rows(mls_session *s, const mls_request *request, mls_condition *rows, size_t cap, size_t *count, mls_remedy *remedy);
+int mls_session_entry_bytes(mls_session *s, uint64_t from, char *buf, size_t cap, size_t *len, uint64_t *next);
 
 int mls_open(mls_monitor *m, const uint8_t *start, size_t len, mls_fault *fault) {
     return mls_open_bytes(m, bytes(start, len), len, fault);
@@ -144,6 +147,21 @@ int mls_office_close(mls_office *office, mls_session *sessions, mls_monitor *m) 
     return shut(office, sessions, 0, m);
 }
 
+/* (sessions of one office have its serial, and no other session has) */
+int mls_session_meet(mls_session *s, mls_session *other) {
+    if (!s->held || !other->held) return MLS_ECLOSED;
+    if (s == other || s->office != other->office) return MLS_EINVAL;
+    return mls_session_meet_other(s, other);
+}
+
+int mls_session_explain(mls_session *s, const mls_request *request, mls_condition *conditions, size_t cap, size_t *count, mls_remedy *remedy) {
+    return mls_session_explain_rows(s, request, conditions || cap ? conditions : &no_condition, cap, count, remedy);
+}
+
+int mls_session_entry_text(mls_session *s, uint64_t from, char *buf, size_t cap, size_t *len, uint64_t *next) {
+    return mls_session_entry_bytes(s, from, room(buf, cap), cap, len, next);
+}
+
 static const char *word(const char *const *words, size_t count, int number) {
     return number >= 0 && (size_t)number < count ? words[number] : "?";
 }
@@ -153,7 +171,7 @@ const char *mls_version(void) { return VERSION(MLS_VERSION_MAJOR, MLS_VERSION_MI
 const char *mls_status_word(int status) {
     static const char *const words[] = {"ok", "closed", "open", "no memory", "invalid", "start refused", "journal refused",
                                         "replay differs", "too short", "not found", "state refused",
-                                        "busy"};
+                                        "busy", "not yet"};
     return status > -(int)COUNT(words) ? word(words, COUNT(words), -status) : "?";
 }
 

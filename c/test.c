@@ -1746,8 +1746,8 @@ static void refused_offices(void) {
 }
 
 static void words(void) {
-    CHECK(strcmp(mls_status_word(MLS_ENOTFOUND), "not found") == 0 && strcmp(mls_status_word(1), "?") == 0 && strcmp(mls_status_word(-12), "?") == 0);
-    CHECK(strcmp(mls_status_word(MLS_ESTATE), "state refused") == 0 && strcmp(mls_status_word(MLS_EBUSY), "busy") == 0);
+    CHECK(strcmp(mls_status_word(MLS_ENOTFOUND), "not found") == 0 && strcmp(mls_status_word(1), "?") == 0 && strcmp(mls_status_word(-13), "?") == 0);
+    CHECK(strcmp(mls_status_word(MLS_ESTATE), "state refused") == 0 && strcmp(mls_status_word(MLS_EBUSY), "busy") == 0 && strcmp(mls_status_word(MLS_EAGAIN), "not yet") == 0);
     CHECK(strcmp(mls_action_word(MLS_OBJECT_LEVEL), "relabel") == 0 && strcmp(mls_action_word(8), "?") == 0);
     CHECK(strcmp(mls_mode_word(MLS_WRITE), "write") == 0 && strcmp(mls_mode_word(-1), "?") == 0);
     CHECK(strcmp(mls_reply_word(MLS_UNDEFINED), "undefined") == 0 && strcmp(mls_reply_word(MLS_DENIED + MLS_FULL), "no") == 0);

@@ -15,8 +15,7 @@
  * - One call at a time works on a handle. If threads pass a handle on, their calls are ordered: by
  *   a thread's start or join, say, or a mutex, as mls_shared.h has. Calls on different handles may
  *   run in different threads at the same time. Threads share one monitor as an office: each has the
- *   handle of a session of its own, and mls_session_check, mls_session_decide and
- *   mls_session_submit on different sessions run side by side.
+ *   handle of a session of its own, and calls on different sessions run side by side.
  * - mls_dominates and the names of numbers take no handle; any threads may call them at once.
  * - No call is made from a signal handler, nor in the forked child of a process with threads.
  * Memory comes from malloc, realloc and free. mls_close frees what the library holds, and
@@ -53,7 +52,8 @@ enum {
     MLS_ERANGE = -8,    /* the buffer or the rows are too short */
     MLS_ENOTFOUND = -9, /* no such entry, name, subject or object, or a request that names none */
     MLS_ESTATE = -10,   /* the text isn't that of a secure state of the start: the fault says why */
-    MLS_EBUSY = -11     /* another session is at the monitor, or sessions of the office are out */
+    MLS_EBUSY = -11,    /* another session is at the monitor, or sessions of the office are out */
+    MLS_EAGAIN = -12    /* the journal isn't so long yet */
 };
 
 /* Actions. */
@@ -389,8 +389,8 @@ void mls_close(mls_monitor *m);
 /* Opens an office: the monitor of an open handle moves into it, and that handle is then closed. The
  * count handles of sessions, 1 to MLS_SESSIONS and all closed, are opened with a session each.
  * Session n has the number n, which is written into its entries. The handles of sessions may then
- * go to other threads. The other calls on a monitor, for names and labels say, are made before or
- * after. MLS_EOPEN if the office or a session is open; MLS_ECLOSED if the monitor's handle is
+ * go to other threads. The calls for names and for texts of labels are made before or after.
+ * MLS_EOPEN if the office or a session is open; MLS_ECLOSED if the monitor's handle is
  * closed; MLS_EINVAL; MLS_ENOMEM: then all is unchanged. */
 int mls_office_open(mls_office *office, mls_monitor *m, mls_session *sessions, uint16_t count);
 
@@ -426,6 +426,40 @@ int mls_session_check(mls_session *s, uint16_t subject, uint16_t object, uint8_t
  * session made one before. It tries the lock once. Nothing changes, and it doesn't allocate.
  * MLS_ECLOSED, MLS_EINVAL, MLS_EBUSY. */
 int mls_session_decide(mls_session *s, const mls_request *request, mls_answer *answer);
+
+/* Sees the journal as it is. With MLS_OK it has at least n entries, and each later call on this
+ * session answers from a journal of at least n entries: if another thread told the number of its
+ * entry, n is that number plus one. It tries the lock once. It adds no entry and doesn't allocate.
+ * MLS_ECLOSED; MLS_EBUSY; MLS_EAGAIN if the journal has fewer entries yet. */
+int mls_session_see(mls_session *s, uint64_t n);
+
+/* Gives two sessions of one office what either of them has seen: later calls on both answer from a
+ * journal with all entries that either knew. No other call works on them. It takes no lock and
+ * doesn't allocate. MLS_ECLOSED; MLS_EINVAL if they are of two offices, or the same. */
+int mls_session_meet(mls_session *s, mls_session *other);
+
+/* Copies out the lines of the journal's entries from number from on, while the office is open:
+ * whole lines, as many as fit, none if there is no such entry yet. len is the length of the text,
+ * and next the number of the entry after the last line: the texts of calls that begin with 0 and go
+ * on at each call's next are the journal's text, whatever other sessions do meanwhile. It tries the
+ * lock once. MLS_ECLOSED; MLS_EBUSY; MLS_ENOTFOUND if entry from is forgotten, or from is above the
+ * number of entries; MLS_ERANGE if there isn't room for one line, which has less than 4096 bytes;
+ * MLS_ENOMEM: then nothing is written. docs/EMBEDDING.md has a store that syncs it. */
+int mls_session_entry_text(mls_session *s, uint64_t from, char *buf, size_t cap, size_t *len,
+                           uint64_t *next);
+
+/* As the calls of a monitor that have their names, of the state to which the journal leads that the
+ * session sees. They try the lock once: MLS_EBUSY besides, and nothing is then written. */
+int mls_session_decide_label(mls_session *s, uint16_t subject, uint8_t mode,
+                             const mls_label *security, const mls_label *integrity,
+                             uint16_t *reply);
+int mls_session_explain(mls_session *s, const mls_request *request, mls_condition *conditions,
+                        size_t cap, size_t *count, mls_remedy *remedy);
+int mls_session_read_subject(mls_session *s, uint16_t subject, mls_subject_info *info);
+int mls_session_read_object(mls_session *s, uint16_t object, mls_object_info *info);
+int mls_session_read_pair(mls_session *s, uint16_t subject, uint16_t object, mls_pair_info *info);
+int mls_session_count(mls_session *s, mls_counts *counts);
+int mls_session_next_child(mls_session *s, uint16_t object, uint16_t above, uint16_t *child);
 
 /* Copies out the line that the program mls prints of a fault, given the status beside it, as
  * mls_entry_text does a line, but without a newline: "start 2 Members", say, or

@@ -15,7 +15,7 @@ HELP = f"install the package libmls0, or name the file of libmls by {VARIABLE} o
 CLOSED, NO_MEMORY, INVALID = -1, -3, -4
 START_REFUSED, JOURNAL_REFUSED, REPLAY_DIFFERS = -5, -6, -7
 TOO_SHORT, NOT_FOUND = -8, -9
-STATE_REFUSED, BUSY = -10, -11
+STATE_REFUSED, BUSY, TOO_EARLY = -10, -11, -12
 # Object numbers are below the first, and no request has more conditions than the second.
 OBJECTS, CONDITIONS = 4096, 4
 # An office has no more sessions than the first, and the line of a fault is not longer than the second.
@@ -129,6 +129,16 @@ CALLS = {
     "mls_session_submit": (c_int, [SESSION, POINTER(Request), POINTER(Answer)]),
     "mls_session_check": (c_int, [SESSION, c_uint16, c_uint16, c_uint8, POINTER(c_int)]),
     "mls_session_decide": (c_int, [SESSION, POINTER(Request), POINTER(Answer)]),
+    "mls_session_see": (c_int, [SESSION, c_uint64]),
+    "mls_session_meet": (c_int, [SESSION, SESSION]),
+    "mls_session_entry_text": (c_int, [SESSION, c_uint64, c_char_p, c_size_t, LENGTH, POINTER(c_uint64)]),
+    "mls_session_decide_label": (c_int, [SESSION, c_uint16, c_uint8, POINTER(Label), POINTER(Label), POINTER(c_uint16)]),
+    "mls_session_explain": (c_int, [SESSION, POINTER(Request), POINTER(Condition), c_size_t, LENGTH, POINTER(Remedy)]),
+    "mls_session_read_subject": (c_int, [SESSION, c_uint16, POINTER(SubjectInfo)]),
+    "mls_session_read_object": (c_int, [SESSION, c_uint16, POINTER(ObjectInfo)]),
+    "mls_session_read_pair": (c_int, [SESSION, c_uint16, c_uint16, POINTER(PairInfo)]),
+    "mls_session_count": (c_int, [SESSION, POINTER(Counts)]),
+    "mls_session_next_child": (c_int, [SESSION, c_uint16, c_uint16, POINTER(c_uint16)]),
     "mls_close": (None, [MONITOR]),
     "mls_fault_text": (c_int, [c_int, POINTER(Fault), c_char_p, c_size_t, LENGTH]),
     "mls_version": (c_char_p, []),

@@ -1,26 +1,20 @@
 """A monitor: a handle of the library, with the calls as methods."""
 from __future__ import annotations
 
-import ctypes
-from ctypes import byref, c_size_t, c_uint16
-from typing import Callable, Iterator, Optional, TypeVar, Union
+from ctypes import byref, c_uint16
+from typing import Any, Callable, Iterator, Optional, Union
 
 from . import library as lib
 from .actions import Session
-from .asking import Asking
-from .explanations import Explanation
-from .faults import NoSuchEntry, Undefined, UnknownName
+from .faults import NoSuchEntry, UnknownName
 from .handle import Handle, is_ok
-from .infos import Counts, ObjectInfo, PairInfo, StateStart, SubjectInfo
-from .numbering import (answer_of, counts_of, entry_of, explanation_of, label_of, label_struct, number, object_of,
-                        pair_of, subject_of, text_bytes)  # fmt: skip
+from .infos import StateStart
+from .numbering import answer_of, entry_of, label_of, label_struct, number, text_bytes
+from .reading import Reading
 from .requests import Name, Request
 from .values import Answer, Entry, Kind, Label, Mode
 
-S = TypeVar("S", bound=ctypes.Structure)
-
-
-class Monitor(Handle, Asking):
+class Monitor(Handle, Reading):
     """An open monitor. Its calls may come from all threads: they take turns. It is neither copied nor pickled, nor used
     after a fork in the child of a process with threads."""
 
@@ -88,67 +82,13 @@ class Monitor(Handle, Asking):
         is_ok(self._call(self._library.mls_decide, byref(struct), byref(answer)))
         return answer_of(answer.number, answer.reply, answer.object)
 
-    def decide_label(self, subject: Name, mode: Union[Mode, str], security: Union[Label, str],
-                     integrity: Union[Label, str]) -> Answer:  # fmt: skip
-        """What simple security, star and integrity say now of an access to what has these labels and isn't an object,
-        say a row. The matrix isn't asked, nothing is held afterwards, and no entry is made: docs/EMBEDDING.md says how
-        star is kept over rows."""
-        labels = self.label(security), self.label(integrity, Kind.INTEGRITY)
-        structs, reply = [byref(label_struct(it)) for it in labels], c_uint16()
-        numbers = self.subject(subject), Mode.of(mode)
-        is_ok(self._call(self._library.mls_decide_label, *numbers, *structs, byref(reply)))
-        return answer_of(None, reply.value, 0)
-
-    def explain(self, request: Request) -> Explanation:
-        """The conditions of a request, each with whether it holds now and what it rests on, and the remedy of a get. No
-        entry is made."""
-        struct, count, remedy, room = self._struct(request), c_size_t(), lib.Remedy(), lib.CONDITIONS
-        while True:
-            rows = (lib.Condition * room)()
-            status = self._call(self._library.mls_explain, byref(struct), rows, room, byref(count), byref(remedy))
-            if status != lib.TOO_SHORT:
-                break
-            room = count.value
-        if status == lib.NOT_FOUND:
-            raise Undefined(f"undefined: {request}")
-        is_ok(status)
-        return explanation_of(rows[: count.value], remedy)
-
     def check(self, subject: Name, mode: Union[Mode, str], object: Name) -> bool:
         """Whether a subject holds an access now. No entry is made."""
         numbers = self.subject(subject), self.object(object), Mode.of(mode)
         return self._call(self._library.mls_check, *numbers) == 1
 
-    def _told(self, call: Callable[..., int], struct: S, *numbers: int) -> S:
-        """The struct that a call writes of what has these numbers."""
-        if self._call(call, *numbers, byref(struct)) == lib.NOT_FOUND:
-            raise UnknownName(*numbers)
-        return struct
-
-    def subject_info(self, subject: Name) -> SubjectInfo:
-        """A subject's labels, and whether it is trusted."""
-        return subject_of(self._told(self._library.mls_read_subject, lib.SubjectInfo(), self.subject(subject)))
-
-    def object_info(self, object: Name) -> ObjectInfo:
-        """An object's labels and parent. UnknownName says that it isn't active."""
-        where = self.object(object)
-        return object_of(self._told(self._library.mls_read_object, lib.ObjectInfo(), where), where)
-
-    def pair(self, subject: Name, object: Name) -> PairInfo:
-        """In which modes the matrix permits a subject an object, and in which it is held."""
-        numbers = self.subject(subject), self.object(object)
-        return pair_of(self._told(self._library.mls_read_pair, lib.PairInfo(), *numbers))
-
-    def counts(self) -> Counts:
-        """How much there is."""
-        return counts_of(self._told(self._library.mls_count, lib.Counts()))
-
-    def children(self, object: Name) -> Iterator[int]:
-        """The children of an object, by their numbers, as they are when each is asked for. One that isn't active has
-        none."""
-        where, child = self.object(object), c_uint16()
-        while self._call(self._library.mls_next_child, where, child.value, byref(child)) != lib.NOT_FOUND:
-            yield child.value
+    def _asked(self, name: str, *arguments: Any) -> int:
+        return self._call(getattr(self._library, f"mls_{name}"), *arguments)
 
     def _name(self, call: Callable[..., int], of: int) -> Optional[str]:
         status, text = self._text(call, number(of))

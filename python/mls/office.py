@@ -4,16 +4,16 @@ from __future__ import annotations
 import itertools
 import threading
 import time
-from ctypes import byref, c_int
+from ctypes import byref, c_int, c_size_t, c_uint64, create_string_buffer
 from typing import Any, Callable, Optional, Union
 
 from . import actions
 from . import library as lib
-from .asking import Asking
-from .faults import BadRequest, Busy, UnknownName
+from .faults import BadRequest, Busy, NoSuchEntry, UnknownName
 from .handle import is_ok
 from .monitor import Monitor
 from .numbering import answer_of, number
+from .reading import Reading
 from .requests import Name, Request
 from .values import Answer, Kind, Label, Mode
 
@@ -59,7 +59,7 @@ class Office:
         raise TypeError("an office is neither copied nor pickled")
 
 
-class Session(Asking):
+class Session(Reading):
     """A session of an office, by its number, which its entries have. Its calls take turns; those of different sessions
     run side by side. Names are those that the monitor had when the office was opened, and a label is no text."""
 
@@ -67,14 +67,18 @@ class Session(Asking):
         self.office, self.number = office, number
         self._lock = threading.Lock()
 
-    def _call(self, call: Callable[..., int], *arguments: Any) -> None:
-        """Makes a call until no other session is at the monitor."""
+    def _asked(self, name: str, *arguments: Any) -> int:
+        """The status of a call, which is made until no other session is at the monitor."""
+        call = getattr(self.office._library, f"mls_session_{name}")
         with self._lock:
             for wait in range(1 << 62):
-                status = call(byref(self.office._sessions[self.number]), *arguments)
+                status: int = call(byref(self.office._sessions[self.number]), *arguments)
                 if status != lib.BUSY:
-                    return is_ok(status)
+                    if status == lib.CLOSED:
+                        is_ok(status)
+                    return status
                 time.sleep(0 if wait < 8 else 0.0001)
+        raise Busy("a session is at work")
 
     def subject(self, name: Name) -> int:
         """The number of a subject by its name; a number is its own."""
@@ -96,20 +100,49 @@ class Session(Asking):
         if session not in (None, self.number):
             raise BadRequest(f"session {self.number} asks for itself alone")
         struct, answer = self._struct(request), lib.Answer()
-        self._call(self.office._library.mls_session_submit, byref(struct), byref(answer))
+        is_ok(self._asked("submit", byref(struct), byref(answer)))
         return answer_of(answer.number, answer.reply, answer.object)
 
     def decide(self, request: Request) -> Answer:
         """What submit would answer now, if no other session made an entry before. Nothing changes."""
         struct, answer = self._struct(request), lib.Answer()
-        self._call(self.office._library.mls_session_decide, byref(struct), byref(answer))
+        is_ok(self._asked("decide", byref(struct), byref(answer)))
         return answer_of(answer.number, answer.reply, answer.object)
 
     def check(self, subject: Name, mode: Union[Mode, str], object: Name) -> bool:
         """Whether a subject holds an access, at some moment between this session's last entry and its next."""
         numbers, held = (self.subject(subject), self.object(object), Mode.of(mode)), c_int()
-        self._call(self.office._library.mls_session_check, *numbers, byref(held))
+        is_ok(self._asked("check", *numbers, byref(held)))
         return held.value == 1
+
+    def see(self, n: int) -> bool:
+        """Sees the journal, and returns whether it has at least n entries: if so, all that this session is answered from
+        then on is of a journal of at least n entries. Where another thread tells the number of its entry, n is that
+        number plus one."""
+        status = self._asked("see", number(n, 64))
+        if status == lib.TOO_EARLY:
+            return False
+        is_ok(status)
+        return True
+
+    def meet(self, other: Session) -> None:
+        """Gives both sessions, which are of one office, what either has seen."""
+        first, second = sorted((self, other), key=lambda it: it.number)
+        if self is other or self.office is not other.office:
+            raise BadRequest("not two sessions of one office")
+        with first._lock, second._lock:
+            sessions = self.office._sessions
+            is_ok(self.office._library.mls_session_meet(byref(sessions[self.number]), byref(sessions[other.number])))
+
+    def lines(self, first: int = 0, room: int = 1 << 16) -> tuple[bytes, int]:
+        """The lines of the journal's entries from one on, while the office is open: whole lines, as many as fit into so
+        many bytes; and the number of the entry after them."""
+        buffer, length, after = create_string_buffer(room), c_size_t(), c_uint64()
+        status = self._asked("entry_text", number(first, 64), buffer, room, byref(length), byref(after))
+        if status == lib.NOT_FOUND:
+            raise NoSuchEntry(f"no entry {first}")
+        is_ok(status, "no room for a line" if status == lib.TOO_SHORT else "an allocation failed")
+        return buffer.raw[: length.value], after.value
 
 
 def _numbers(name_of: Callable[[int], Optional[str]]) -> dict[str, int]:

@@ -303,6 +303,48 @@ class Monitors(unittest.TestCase):
             with mls.Monitor.resume(STANDARD, m.journal()) as resumed:
                 self.assertEqual(resumed.entry_count, m.entry_count)
 
+    def test_a_session_sees_what_another_did(self):
+        office = mls.Office(self.monitor, 2)
+        first, second = office.sessions
+        number = first.get("ann", "read", "plans").number
+        self.assertTrue(second.see(number + 1))
+        self.assertTrue(second.check("ann", "read", "plans"))
+        self.assertFalse(second.see(number + 2))
+        first.release("ann", "read", "plans")
+        first.meet(second)
+        self.assertFalse(second.check("ann", "read", "plans"))
+        for wrong in (lambda: first.meet(first), lambda: first.see(-1), lambda: first.see(2**64)):
+            self.assertRaises(mls.BadRequest, wrong)
+        office.close().close()
+        self.assertRaises(mls.Closed, lambda: first.see(0))
+        self.assertRaises(mls.Closed, lambda: first.meet(second))
+
+    def test_a_session_reads_while_the_office_is_open(self):
+        m = self.monitor
+        told = lambda it: (it.subject_info("ann"), it.object_info("memo"), it.pair("ann", "plans"), it.counts(),
+                           list(it.children("root")), it.explain(mls.Get("bob", "read", "memo")),
+                           it.decide_label("ann", "read", label, trust))  # fmt: skip
+        label, trust = m.subject_info("bob").current, m.subject_info("bob").integrity
+        m.get("ann", "read", "plans")
+        wanted, journal = told(m), m.journal()
+        office = mls.Office(m, 2)
+        first, second = office.sessions
+        self.assertEqual(told(first), wanted)
+        self.assertEqual(first.lines(), (journal, 1))
+        self.assertEqual(first.lines(1), (b"", 1))
+        answer = second.get("bob", "read", "memo")
+        self.assertEqual(answer.number, 1)
+        line, after = first.lines(1)
+        self.assertEqual(after, 2)
+        self.assertEqual(first.lines(0, len(journal)), (journal, 1))
+        self.assertRaises(mls.NoSuchEntry, lambda: first.lines(3))
+        self.assertRaises(mls.Error, lambda: first.lines(0, 3))
+        self.assertRaises(mls.UnknownName, lambda: first.subject_info(99))
+        self.assertRaises(mls.Undefined, lambda: first.explain(mls.Get("bob", "read", 99)))
+        with office.close() as m:
+            self.assertEqual(m.journal(), journal + line)
+        self.assertRaises(mls.Closed, lambda: first.counts())
+
     def test_an_office_and_its_sessions(self):
         for count in (0, 65):
             with self.assertRaises(mls.BadRequest):

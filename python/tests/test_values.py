@@ -71,10 +71,10 @@ class Header(unittest.TestCase):
                             ("ESTART", library.START_REFUSED), ("EJOURNAL", library.JOURNAL_REFUSED),
                             ("EREPLAY", library.REPLAY_DIFFERS), ("ERANGE", library.TOO_SHORT),
                             ("ENOTFOUND", library.NOT_FOUND), ("ESTATE", library.STATE_REFUSED),
-                            ("EBUSY", library.BUSY)):  # fmt: skip
+                            ("EBUSY", library.BUSY), ("EAGAIN", library.TOO_EARLY)):  # fmt: skip
             self.assertEqual(numbers[name], value, name)
         # and beside these: OK, EOPEN, the actions, and NO_TERM
-        self.assertEqual(len(numbers), known + 4 + 10 + 2 + len(mls.requests.ACTIONS) + 1)
+        self.assertEqual(len(numbers), known + 4 + 11 + 2 + len(mls.requests.ACTIONS) + 1)
 
 
 class Values(unittest.TestCase):

@@ -60,13 +60,20 @@ has_bounds v a = is_subject v a.subject && (has_label v.security a.security && h
 abbrev pub label_reply : State → LabelAccess → Reply
 label_reply v a = if has_bounds v a then reply_unless (first_failing (label_conditions v a)) Yes else Undefined
 
+-- What deciding by labels returns where the handle is open: whether the numbers are no mode's or no labels'. (own)
+abbrev pub access_status : Option LabelAccess → ℤ
+access_status None = EINVAL
+access_status (Some a) = OK
+
 -- What deciding by labels returns: whether the handle is closed, or the numbers are no mode's or no labels'. (own)
 abbrev pub label_status : Option Opened → Option LabelAccess → ℤ
 label_status None access = ECLOSED
-label_status (Some v) None = EINVAL
-label_status (Some v) (Some a) = OK
+label_status (Some v) access = access_status access
 
 -- The number of what is said of an access to what has these labels. (own)
+abbrev pub IsLabelReply : State → Option LabelAccess → ℕ → Type 0
+IsLabelReply v access reply = IsSomeAnd access (λ a. reply ≡ number_of_reply (label_reply v a))
+
+-- The same in the state of an open monitor. (own)
 abbrev pub HasLabelReply : Option Opened → Option LabelAccess → ℕ → Type 0
-HasLabelReply old access reply =
-    IsSomeAnd old (λ v. IsSomeAnd access (λ a. reply ≡ number_of_reply (label_reply (state_of v) a)))
+HasLabelReply old access reply = IsSomeAnd old (λ v. IsLabelReply (state_of v) access reply)

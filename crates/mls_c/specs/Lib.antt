@@ -12,6 +12,7 @@ pub mod Offices
 pub mod Opened
 pub mod Requests
 pub mod Resumed
+pub mod Seen
 pub mod StateStart
 pub mod StateText
 pub mod Texts

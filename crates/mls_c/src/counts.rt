@@ -37,7 +37,7 @@ fn count_objects(state: &State) -> u16
 
 impl Counts {
     /// The counts of a state, with how many entries there are.
-    fn of(state: &State, entries: u64) -> Counts
+    pub(crate) fn of(state: &State, entries: u64) -> Counts
         ensures { AreCounts state.now entries result }
     {
         Counts {

@@ -30,7 +30,7 @@ pub struct RemedyNumbers {
 
 impl RemedyNumbers {
     /// A remedy in numbers, or that there is none.
-    fn of(level: Option<SecLabel>) -> RemedyNumbers
+    pub(crate) fn of(level: Option<SecLabel>) -> RemedyNumbers
         ensures { result ≡ numbers_of_remedy level }
     {
         match level {
@@ -47,7 +47,7 @@ impl RemedyNumbers {
 }
 
 /// The remedy of a request, where it is a get.
-fn remedy_of(state: &State, request: &Request) -> Option<SecLabel>
+pub(crate) fn remedy_of(state: &State, request: &Request) -> Option<SecLabel>
     ensures { HasActionRemedy state.now request.now.subject request.now.action result }
 {
     match request.action {
@@ -71,7 +71,7 @@ fn is_defined(alloc: Global, state: &State, request: &Request) -> Result<bool, A
 }
 
 /// The conditions of a request, where all that it names is there.
-fn conditions_of(
+pub(crate) fn conditions_of(
     alloc: Global,
     state: &State,
     request: &Request,
@@ -87,7 +87,7 @@ fn conditions_of(
 }
 
 /// Puts conditions at the front of rows that have room for them.
-fn put_rows(all: &[Condition], rows: &mut [ConditionNumbers])
+pub(crate) fn put_rows(all: &[Condition], rows: &mut [ConditionNumbers])
     requires { length all.now ≤ length rows.old }
     ensures { rows.new ≡ map numbers_of_condition all.now ++ drop (length all.now) rows.old }
 {

@@ -12,7 +12,6 @@ ghost use Rattle.mls_c.specs.declared.status.TheConstants.{OK, ERANGE};
 use crate::handle::Mls;
 use crate::label::LabelNumbers;
 use crate::names::tell;
-use crate::opened::Opened;
 use crate::status::{ECLOSED, ENOTFOUND, OK};
 use crate::subject_info::copy_name;
 use mls_state::State;
@@ -54,12 +53,11 @@ impl ObjectInfo {
 }
 
 /// Copies out an object.
-fn copy_object(opened: &Opened, object: u16, info: &mut ObjectInfo) -> i32
-    ensures status { result ≡ there_status (is_active (state_of opened.now) object) }
-    ensures copied { result ≡ OK → HasObjectInfo (Some opened.now) object info.new }
+pub(crate) fn copy_object(state: &State, object: u16, info: &mut ObjectInfo) -> i32
+    ensures status { result ≡ there_status (is_active state.now object) }
+    ensures copied { result ≡ OK → IsObjectInfo state.now object info.new }
     ensures silent { result ≢ OK → info.new ≡ info.old }
 {
-    let state = opened.state();
     let object = ObjectId::new(object);
     if !state.is_active(object) {
         return ENOTFOUND;
@@ -80,7 +78,7 @@ pub extern "C" fn mls_read_object(m: &mut Mls, object: u16, info: &mut ObjectInf
         return ECLOSED;
     }
     let opened = m.monitor.lend();
-    copy_object(opened, object, info)
+    copy_object(opened.state(), object, info)
 }
 
 /// The first of some objects whose number is above another.
@@ -97,7 +95,7 @@ fn first_above(objects: &[ObjectId], above: u16) -> Option<u16>
 }
 
 /// The least child of an object that is above a number, where the object is active and has one.
-fn child_above(state: &State, object: u16, above: u16) -> Option<u16>
+pub(crate) fn child_above(state: &State, object: u16, above: u16) -> Option<u16>
     ensures { result ≡ child_above state.now object above }
 {
     let object = ObjectId::new(object);

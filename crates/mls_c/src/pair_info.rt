@@ -1,5 +1,5 @@
 //! What a handle holds of a subject and an object.
-ghost use Rattle.std.specs.Prelude.{◌≡◌, ◌≢◌, ◌&&◌, ℕ, IsTrue, Some, if◌then◌else◌};
+ghost use Rattle.std.specs.Prelude.{◌≡◌, ◌≢◌, ◌&&◌, ℕ, IsTrue, if◌then◌else◌};
 ghost use Rattle.std.specs.FinSet as set;
 ghost use Rattle.mls_tables.specs.Triples.{TripleSet};
 ghost use Rattle.mls_tables.specs.declared.mode.Mode.{Mode};
@@ -10,7 +10,6 @@ ghost use Rattle.mls_c.specs.Texts.{status_if_open};
 ghost use Rattle.mls_c.specs.declared.status.TheConstants.{OK};
 
 use crate::handle::Mls;
-use crate::opened::Opened;
 use crate::status::{ECLOSED, ENOTFOUND, OK};
 use mls_state::State;
 use mls_tables::{Mode, Modes, ObjectId, SubjectId};
@@ -55,13 +54,11 @@ impl PairInfo {
 }
 
 /// Copies out what is permitted and what is held.
-fn copy_pair(opened: &Opened, subject: u16, object: u16, info: &mut PairInfo) -> i32
-    ensures status { result
-        ≡ there_status (is_subject (state_of opened.now) subject && is_active (state_of opened.now) object) }
-    ensures copied { result ≡ OK → HasPairInfo (Some opened.now) subject object info.new }
+pub(crate) fn copy_pair(state: &State, subject: u16, object: u16, info: &mut PairInfo) -> i32
+    ensures status { result ≡ there_status (is_subject state.now subject && is_active state.now object) }
+    ensures copied { result ≡ OK → info.new ≡ pair_info state.now subject object }
     ensures silent { result ≢ OK → info.new ≡ info.old }
 {
-    let state = opened.state();
     let subject = SubjectId::new(subject);
     let object = ObjectId::new(object);
     if !state.is_subject(subject) || !state.is_active(object) {
@@ -84,5 +81,5 @@ pub extern "C" fn mls_read_pair(m: &mut Mls, subject: u16, object: u16, info: &m
         return ECLOSED;
     }
     let opened = m.monitor.lend();
-    copy_pair(opened, subject, object, info)
+    copy_pair(opened.state(), subject, object, info)
 }

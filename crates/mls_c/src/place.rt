@@ -1,13 +1,15 @@
 //! What a thread has of an office: a session, with the office that it shares with others.
-ghost use Rattle.std.specs.Prelude.{◌≡◌, ◌≢◌, length, IfOk, IsOk, OnErr, IfErr};
+ghost use Rattle.std.specs.Prelude.{◌≡◌, ◌≢◌, length, IfOk, IsOk, OnOk, OnErr, IfErr};
 ghost use Rattle.std.specs.Arc.{arc_value};
+ghost use Rattle.std.specs.Bool.{Decides};
 ghost use Rattle.std.specs.FinSet as set;
 ghost use Rattle.mls_rules.specs.Rules.{reply};
-ghost use Rattle.mls_sessions.specs.Sessions.{IsOf, Submits, history, number_of};
-ghost use Rattle.mls_c.specs.Offices.{Looks, state_seen};
+ghost use Rattle.mls_sessions.specs.Sessions.{IsOf, Submits, HasSeen, Meets, history, number_of};
+ghost use Rattle.mls_c.specs.Offices.{Looks, IsSameSession, state_seen};
+ghost use Rattle.mls_c.specs.Seen.{seen_by};
 
 use mls_requests::{Entry, Request};
-use mls_sessions::{Busy, Decision, Office, Session, TryFault};
+use mls_sessions::{Busy, Decision, Office, Question, Session, TryFault};
 use mls_tables::{Mode, ObjectId, SubjectId};
 use std::alloc::Global;
 use std::marker::Model;
@@ -107,5 +109,46 @@ impl Place {
         let (made, nobody) = self.session.submit_quietly(&self.office, request);
         let _ = nobody;
         made
+    }
+
+    /// Puts a question to the monitor.
+    ///
+    /// # Errors
+    /// `Busy` where another session is at the monitor; all is then as before.
+    pub(crate) fn ask<Q: Question>(&mut self, question: &mut Q) -> Result<(), Busy>
+        ensures seen { OnOk result (Looks self.old self.new) }
+        ensures found { OnOk result (Q.finds question.old (seen_by self.new) question.new) }
+        ensures busy { OnErr result (self.new ≡ self.old) }
+        ensures unasked { OnErr result (question.new ≡ question.old) }
+        ensures alone { OnErr result (self.old.office.charter.count ≢ 1) }
+    {
+        let (asked, nobody) = self.session.ask_quietly(&self.office, question);
+        let _ = nobody;
+        asked
+    }
+
+    /// Sees the present journal: whether it has at least `n` entries.
+    ///
+    /// # Errors
+    /// `Busy` where another session is at the monitor; all is then as before.
+    pub(crate) fn see(&mut self, n: u64) -> Result<bool, Busy>
+        ensures seen { IfOk result (λ _. Looks self.old self.new) }
+        ensures long { IfOk result (λ is_long. Decides is_long (HasSeen n self.new.session.view)) }
+        ensures busy { OnErr result (self.new ≡ self.old) }
+        ensures alone { OnErr result (self.old.office.charter.count ≢ 1) }
+    {
+        let (told, nobody) = self.session.see_quietly(&self.office, n);
+        let _ = nobody;
+        told
+    }
+
+    /// Gives both sessions the longer of their two histories.
+    pub(crate) fn meet(&mut self, other: &mut Place)
+        requires { other.old.office ≡ self.old.office }
+        ensures mine { IsSameSession self.old self.new }
+        ensures theirs { IsSameSession other.old other.new }
+        ensures meets { Meets self.old.session.view other.old.session.view self.new.session.view other.new.session.view }
+    {
+        self.session.meet(&mut other.session, &self.office);
     }
 }

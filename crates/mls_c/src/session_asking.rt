@@ -1,5 +1,6 @@
 //! Asking through a session of an office: checks, requests, and what would be replied.
-ghost use Rattle.std.specs.Prelude.{◌≡◌, ◌≢◌, Some, pos};
+ghost use Rattle.std.specs.Prelude.{◌≡◌, ◌≢◌, ℕ, Some, pos};
+ghost use Rattle.mls_c.specs.Seen.{Reaches};
 ghost use Rattle.mls_c.specs.Requests.{mode_at, request_of};
 ghost use Rattle.mls_c.specs.Offices.{CheckStatus, DecideStatus, SessionStatus, IsAlone, Checks, Decides, MakesEntry};
 ghost use Rattle.mls_c.specs.declared.status.TheConstants.{OK, EBUSY};
@@ -16,6 +17,7 @@ use mls_tables::{Mode, ObjectId, SubjectId};
 fn check_place(place: &mut Place, s: SubjectId, o: ObjectId, x: Mode, held: &mut i32) -> i32
     ensures status { CheckStatus (Some place.old) (Some x) result }
     ensures told { result ≡ OK → Checks (Some place.old) s o (Some x) (Some place.new) held.new }
+    ensures since { (n : ℕ) → Reaches n (Some place.old) → Reaches n (Some place.new) }
     ensures same { result ≢ OK → place.new ≡ place.old }
     ensures silent { result ≢ OK → held.new ≡ held.old }
     ensures alone { IsAlone (Some place.old) → result ≢ EBUSY }
@@ -41,6 +43,7 @@ pub extern "C" fn mls_session_check(
 ) -> i32
     ensures status { CheckStatus s.old.place.value (mode_at mode) result }
     ensures told { result ≡ OK → Checks s.old.place.value subject object (mode_at mode) s.new.place.value held.new }
+    ensures since { (n : ℕ) → Reaches n s.old.place.value → Reaches n s.new.place.value }
     ensures same { result ≢ OK → s.new.place.value ≡ s.old.place.value }
     ensures silent { result ≢ OK → held.new ≡ pos 0 }
     ensures alone { IsAlone s.old.place.value → result ≢ EBUSY }

@@ -36,3 +36,6 @@ pub const ESTATE: i32 = -10;
 
 /// Another session is at the monitor, or sessions of the office are out, or none is at home.
 pub const EBUSY: i32 = -11;
+
+/// The journal hasn't so many entries yet.
+pub const EAGAIN: i32 = -12;

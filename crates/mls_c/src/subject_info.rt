@@ -1,5 +1,5 @@
 //! What a handle holds of a subject.
-ghost use Rattle.std.specs.Prelude.{◌≡◌, ◌≢◌, ◌⊎◌, length, option_map, slice_get, IsTrue, Some};
+ghost use Rattle.std.specs.Prelude.{◌≡◌, ◌≢◌, ◌⊎◌, length, option_map, slice_get, IsTrue};
 ghost use Rattle.mls_state.specs.State.{is_subject};
 ghost use Rattle.mls_start_text.specs.Each.{having};
 ghost use Rattle.mls_c.specs.Infos.{IsSubjectInfo, HasSubjectInfo, there_status, name_status};
@@ -9,7 +9,6 @@ ghost use Rattle.mls_c.specs.declared.status.TheConstants.{OK, ERANGE};
 
 use crate::handle::Mls;
 use crate::label::LabelNumbers;
-use crate::opened::Opened;
 use crate::status::{ECLOSED, ENOTFOUND, OK};
 use crate::text::copy_text;
 use mls_state::State;
@@ -42,12 +41,11 @@ impl SubjectInfo {
 }
 
 /// Copies out a subject.
-fn copy_subject(opened: &Opened, subject: u16, info: &mut SubjectInfo) -> i32
-    ensures status { result ≡ there_status (is_subject (state_of opened.now) subject) }
-    ensures copied { result ≡ OK → HasSubjectInfo (Some opened.now) subject info.new }
+pub(crate) fn copy_subject(state: &State, subject: u16, info: &mut SubjectInfo) -> i32
+    ensures status { result ≡ there_status (is_subject state.now subject) }
+    ensures copied { result ≡ OK → IsSubjectInfo state.now subject info.new }
     ensures silent { result ≢ OK → info.new ≡ info.old }
 {
-    let state = opened.state();
     let subject = SubjectId::new(subject);
     if !state.is_subject(subject) {
         return ENOTFOUND;
@@ -69,7 +67,7 @@ pub extern "C" fn mls_read_subject(m: &mut Mls, subject: u16, info: &mut Subject
         return ECLOSED;
     }
     let opened = m.monitor.lend();
-    copy_subject(opened, subject, info)
+    copy_subject(opened.state(), subject, info)
 }
 
 /// Copies out a name of the start.

@@ -21,6 +21,7 @@ pub const MLS_ERANGE: c_int = -8;
 pub const MLS_ENOTFOUND: c_int = -9;
 pub const MLS_ESTATE: c_int = -10;
 pub const MLS_EBUSY: c_int = -11;
+pub const MLS_EAGAIN: c_int = -12;
 
 // Actions.
 pub const MLS_GET: u8 = 0;
@@ -359,6 +360,37 @@ extern "C" {
     pub fn mls_session_submit(s: *mut mls_session, request: *const mls_request, answer: *mut mls_answer) -> c_int;
     pub fn mls_session_check(s: *mut mls_session, subject: u16, object: u16, mode: u8, held: *mut c_int) -> c_int;
     pub fn mls_session_decide(s: *mut mls_session, request: *const mls_request, answer: *mut mls_answer) -> c_int;
+    pub fn mls_session_see(s: *mut mls_session, n: u64) -> c_int;
+    pub fn mls_session_meet(s: *mut mls_session, other: *mut mls_session) -> c_int;
+    pub fn mls_session_entry_text(
+        s: *mut mls_session,
+        from: u64,
+        buf: *mut c_char,
+        cap: usize,
+        len: *mut usize,
+        next: *mut u64,
+    ) -> c_int;
+    pub fn mls_session_decide_label(
+        s: *mut mls_session,
+        subject: u16,
+        mode: u8,
+        security: *const mls_label,
+        integrity: *const mls_label,
+        reply: *mut u16,
+    ) -> c_int;
+    pub fn mls_session_explain(
+        s: *mut mls_session,
+        request: *const mls_request,
+        conditions: *mut mls_condition,
+        cap: usize,
+        count: *mut usize,
+        remedy: *mut mls_remedy,
+    ) -> c_int;
+    pub fn mls_session_read_subject(s: *mut mls_session, subject: u16, info: *mut mls_subject_info) -> c_int;
+    pub fn mls_session_read_object(s: *mut mls_session, object: u16, info: *mut mls_object_info) -> c_int;
+    pub fn mls_session_read_pair(s: *mut mls_session, subject: u16, object: u16, info: *mut mls_pair_info) -> c_int;
+    pub fn mls_session_count(s: *mut mls_session, counts: *mut mls_counts) -> c_int;
+    pub fn mls_session_next_child(s: *mut mls_session, object: u16, above: u16, child: *mut u16) -> c_int;
     pub fn mls_fault_text(
         status: c_int,
         fault: *const mls_fault,

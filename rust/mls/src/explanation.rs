@@ -2,6 +2,7 @@
 use crate::monitor::unknown;
 use crate::{Basis, Label, Monitor, Reason, Request};
 use mls_sys::*;
+use std::os::raw::c_int;
 use std::{error, fmt};
 
 /// A condition of a request.
@@ -59,11 +60,21 @@ impl Monitor {
     /// The conditions of a request, each with whether it holds now and what it rests on, and the remedy of a get. No
     /// entry is made.
     pub fn explain(&self, request: &Request) -> Result<Explanation, ExplainError> {
-        let (rows, remedy) = match self.handle.explain(&request.as_told()) {
+        Explanation::told("mls_explain", self.handle.explain(&request.as_told()))
+    }
+}
+
+impl Explanation {
+    /// What a call has told, or its status.
+    pub(crate) fn told(
+        call: &str,
+        told: Result<(Vec<mls_condition>, mls_remedy), c_int>,
+    ) -> Result<Explanation, ExplainError> {
+        let (rows, remedy) = match told {
             Ok(told) => told,
             Err(MLS_ENOTFOUND) => return Err(ExplainError::Undefined),
             Err(MLS_ENOMEM) => return Err(ExplainError::OutOfMemory),
-            Err(status) => unknown("mls_explain", status),
+            Err(status) => unknown(call, status),
         };
         let conditions = rows.iter().map(Condition::told).collect::<Option<_>>().ok_or(ExplainError::Other)?;
         Ok(Explanation { conditions, remedy: (remedy.there == 1).then_some(Label::told(remedy.label)) })

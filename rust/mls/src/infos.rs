@@ -50,33 +50,53 @@ pub struct Counts {
     pub next: Option<Object>,
 }
 
+impl SubjectInfo {
+    pub(crate) fn told(it: mls_subject_info) -> SubjectInfo {
+        let [maximum, current, integrity] = [it.maximum, it.current, it.integrity].map(Label::told);
+        SubjectInfo { maximum, current, integrity, is_trusted: it.trusted == 1 }
+    }
+}
+
+impl ObjectInfo {
+    pub(crate) fn told(object: Object, it: mls_object_info) -> ObjectInfo {
+        let parent = (object.0 != 0).then_some(Object(it.parent));
+        ObjectInfo { security: Label::told(it.security), integrity: Label::told(it.integrity), parent }
+    }
+}
+
+impl PairInfo {
+    pub(crate) fn told(it: mls_pair_info) -> PairInfo {
+        PairInfo { permitted: Modes::told(it.permitted), held: Modes::told(it.held) }
+    }
+}
+
+impl Counts {
+    pub(crate) fn told(it: mls_counts) -> Counts {
+        let next = (it.next < MLS_OBJECTS).then_some(Object(it.next));
+        Counts { entries: it.entries, subjects: it.subjects, objects: it.objects, next }
+    }
+}
+
 impl Monitor {
     /// A subject; none where there is no such subject.
     pub fn subject_info(&self, subject: Subject) -> Option<SubjectInfo> {
-        let it = found("mls_read_subject", self.handle.read_subject(subject.0))?;
-        let [maximum, current, integrity] = [it.maximum, it.current, it.integrity].map(Label::told);
-        Some(SubjectInfo { maximum, current, integrity, is_trusted: it.trusted == 1 })
+        found("mls_read_subject", self.handle.read_subject(subject.0)).map(SubjectInfo::told)
     }
 
     /// An object; none where it isn't active.
     pub fn object_info(&self, object: Object) -> Option<ObjectInfo> {
-        let it = found("mls_read_object", self.handle.read_object(object.0))?;
-        let parent = (object.0 != 0).then_some(Object(it.parent));
-        Some(ObjectInfo { security: Label::told(it.security), integrity: Label::told(it.integrity), parent })
+        found("mls_read_object", self.handle.read_object(object.0)).map(|it| ObjectInfo::told(object, it))
     }
 
     /// A subject and an object; none where either isn't there.
     pub fn pair(&self, subject: Subject, object: Object) -> Option<PairInfo> {
-        let it = found("mls_read_pair", self.handle.read_pair(subject.0, object.0))?;
-        Some(PairInfo { permitted: Modes::told(it.permitted), held: Modes::told(it.held) })
+        found("mls_read_pair", self.handle.read_pair(subject.0, object.0)).map(PairInfo::told)
     }
 
     /// How much there is.
     pub fn counts(&self) -> Counts {
         match self.handle.count() {
-            Ok(mls_counts { entries, subjects, objects, next }) => {
-                Counts { entries, subjects, objects, next: (next < MLS_OBJECTS).then_some(Object(next)) }
-            }
+            Ok(counts) => Counts::told(counts),
             Err(status) => unknown("mls_count", status),
         }
     }

@@ -16,6 +16,7 @@ mod monitor;
 mod office;
 mod refusals;
 mod request;
+mod session_infos;
 mod state_start;
 mod state_text;
 
@@ -29,7 +30,7 @@ pub use label::{Kind, Label, LabelError};
 pub use library::OtherVersion;
 pub use modes::Modes;
 pub use monitor::{Monitor, SubmitError};
-pub use office::{CloseError, Office, OfficeError, Session};
+pub use office::{CloseError, LinesError, Office, OfficeError, Session};
 pub use refusals::{OpenError, ReplayFault};
 pub use request::{Mode, Object, Request, Subject};
 pub use state_start::{StateStart, StateStartError};

@@ -1,6 +1,6 @@
 //! An office: a monitor that threads share, each by a session of its own.
 use crate::handle::{OfficeHandle, SessionHandle};
-use crate::monitor::unknown;
+use crate::monitor::{ascii, unknown};
 use crate::{Answer, Mode, Monitor, Object, Request, Subject, SubmitError};
 use mls_sys::*;
 use std::hint::spin_loop;
@@ -40,7 +40,7 @@ pub struct Office {
 /// }
 /// ```
 pub struct Session {
-    handle: SessionHandle,
+    pub(crate) handle: SessionHandle,
 }
 
 impl Office {
@@ -109,11 +109,46 @@ impl Session {
             Err(status) => unknown("mls_session_check", status),
         }
     }
+
+    /// Sees the journal, and returns whether it has at least so many entries: if so, all that this session is answered
+    /// from then on is of a journal of at least `n` entries. Where another thread tells the number of its entry, `n` is
+    /// that number plus one.
+    pub fn see(&mut self, n: u64) -> bool {
+        match until_free(|| self.handle.see(n)) {
+            Ok(is_long) => is_long,
+            Err(status) => unknown("mls_session_see", status),
+        }
+    }
+
+    /// Gives both sessions what either has seen.
+    ///
+    /// # Panics
+    ///
+    /// If they are of two offices.
+    pub fn meet(&mut self, other: &mut Session) {
+        match self.handle.meet(&mut other.handle) {
+            Ok(()) => {}
+            Err(MLS_EINVAL) => panic!("sessions of two offices can't meet"),
+            Err(status) => unknown("mls_session_meet", status),
+        }
+    }
+
+    /// The lines of the journal's entries from one on, while the office is open: whole lines, as many as fit into so many
+    /// bytes; and the number of the entry after them.
+    pub fn lines(&mut self, first: u64, room: usize) -> Result<(String, u64), LinesError> {
+        match until_free(|| self.handle.entry_text(first, room)) {
+            Ok((text, next)) => Ok((ascii(text), next)),
+            Err(MLS_ENOTFOUND) => Err(LinesError::NoSuchEntry),
+            Err(MLS_ERANGE) => Err(LinesError::NoRoom),
+            Err(MLS_ENOMEM) => Err(LinesError::OutOfMemory),
+            Err(status) => unknown("mls_session_entry_text", status),
+        }
+    }
 }
 
 /// Makes a call until no other session is at the monitor. It pauses twice as long each time, and then gives its time
 /// slice to other threads.
-fn until_free<T>(mut call: impl FnMut() -> Result<T, i32>) -> Result<T, i32> {
+pub(crate) fn until_free<T>(mut call: impl FnMut() -> Result<T, i32>) -> Result<T, i32> {
     for round in 0u32.. {
         match call() {
             Err(MLS_EBUSY) if round < 7 => (0..1 << round).for_each(|_| spin_loop()),
@@ -173,3 +208,27 @@ impl fmt::Display for CloseError {
 }
 
 impl error::Error for CloseError {}
+
+/// Why there are no lines of entries.
+#[derive(Clone, Copy, Debug, PartialEq, Eq, Hash)]
+#[non_exhaustive]
+pub enum LinesError {
+    /// The entry is forgotten, or its number is above how many entries there are.
+    NoSuchEntry,
+    /// There is no room for one line.
+    NoRoom,
+    /// An allocation failed.
+    OutOfMemory,
+}
+
+impl fmt::Display for LinesError {
+    fn fmt(&self, f: &mut fmt::Formatter<'_>) -> fmt::Result {
+        f.write_str(match self {
+            LinesError::NoSuchEntry => "no such entry",
+            LinesError::NoRoom => "no room for a line",
+            LinesError::OutOfMemory => "an allocation failed",
+        })
+    }
+}
+
+impl error::Error for LinesError {}

@@ -1,5 +1,5 @@
 //! A monitor behind a mutex, asked by many threads; and one that goes from thread to thread.
-use mls::{CloseError, Mode, Monitor, Object, Office, OfficeError, Request, Session, Subject};
+use mls::{CloseError, LinesError, Mode, Monitor, Object, Office, OfficeError, Request, Session, Subject};
 use std::sync::{Arc, Mutex};
 use std::thread;
 
@@ -76,6 +76,40 @@ fn sessions_ask_side_by_side() {
     }
     let resumed = Monitor::resume(START, monitor.journal(0).unwrap().as_bytes()).unwrap();
     assert_eq!(resumed.entry_count(), monitor.entry_count());
+}
+
+#[test]
+fn a_session_sees_and_reads_what_another_did() {
+    let mut monitor = Monitor::open(START).unwrap();
+    let (ann, bob, plans) = (Subject(0), Subject(1), Object(1));
+    assert!(monitor.get(0, ann, plans, Mode::Read).unwrap().is_granted());
+    let (root, journal) = (monitor.object_info(Object(0)).unwrap(), monitor.journal(0).unwrap());
+    let wanted = (monitor.subject_info(bob), monitor.pair(ann, plans), monitor.counts());
+    let request = Request::Get { subject: bob, object: Object(2), mode: Mode::Read };
+    let (why, children) = (monitor.explain(&request), monitor.children(Object(0)).collect::<Vec<_>>());
+    let said = monitor.decide_label(bob, Mode::Read, &root.security, &root.integrity);
+    let (office, mut sessions) = Office::open(monitor, 2).unwrap();
+    let (mut one, mut other) = (sessions.remove(0), sessions.remove(0));
+    assert_eq!((other.subject_info(bob), other.pair(ann, plans), other.counts()), wanted);
+    assert_eq!((other.explain(&request), other.object_info(Object(0))), (why, Some(root)));
+    assert_eq!(other.decide_label(bob, Mode::Read, &root.security, &root.integrity), said);
+    let next = |last: &Object| other.child_after(Object(0), *last);
+    assert_eq!(std::iter::successors(Some(Object(0)), next).skip(1).collect::<Vec<_>>(), children);
+    assert_eq!(other.lines(0, 1 << 16).unwrap(), (journal.clone(), 1));
+    assert_eq!(other.lines(1, 0).unwrap(), (String::new(), 1));
+    let number = one.release(ann, plans, Mode::Read).unwrap().number;
+    assert!(other.see(number + 1) && !other.see(number + 2));
+    assert!(!other.check(ann, plans, Mode::Read));
+    let (line, after) = other.lines(1, 1 << 16).unwrap();
+    assert_eq!(
+        (after, other.lines(3, 9), other.lines(0, 9)),
+        (2, Err(LinesError::NoSuchEntry), Err(LinesError::NoRoom))
+    );
+    assert!(one.get(ann, plans, Mode::Read).unwrap().is_granted());
+    one.meet(&mut other);
+    assert!(other.check(ann, plans, Mode::Read));
+    let monitor = office.close(vec![one, other]).unwrap();
+    assert!(monitor.journal(0).unwrap().starts_with(&(journal + &line)));
 }
 
 #[test]

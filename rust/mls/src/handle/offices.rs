@@ -1,5 +1,5 @@
 //! An office and its sessions: the calls of the library on them.
-use super::{told, Handle};
+use super::{filled, told, Handle};
 use mls_sys::*;
 use std::os::raw::c_int;
 
@@ -84,6 +84,89 @@ impl SessionHandle {
         // SAFETY: `self` is borrowed by nobody else, and the number is new.
         let status = unsafe { mls_session_check(&mut self.0, subject, object, mode, &mut held) };
         told(status, held == 1)
+    }
+
+    /// Whether `mls_session_see` sees so many entries, or its status.
+    pub fn see(&mut self, n: u64) -> Result<bool, c_int> {
+        // SAFETY: `self` is borrowed by nobody else.
+        match unsafe { mls_session_see(&mut self.0, n) } {
+            MLS_EAGAIN => Ok(false),
+            status => told(status, true),
+        }
+    }
+
+    /// Has two sessions meet, or the status of `mls_session_meet`.
+    pub fn meet(&mut self, other: &mut SessionHandle) -> Result<(), c_int> {
+        // SAFETY: both are borrowed by nobody else, so they are two.
+        told(unsafe { mls_session_meet(&mut self.0, &mut other.0) }, ())
+    }
+
+    /// The text of `mls_session_entry_text` in so many bytes, with the number of the entry after it, or its status.
+    pub fn entry_text(&mut self, from: u64, room: usize) -> Result<(Vec<u8>, u64), c_int> {
+        let (mut text, mut len, mut next) = (vec![0u8; room], 0, 0);
+        let at = text.as_mut_ptr().cast();
+        // SAFETY: `self` is borrowed by nobody else; the room has that length, and the numbers are new.
+        let status = unsafe { mls_session_entry_text(&mut self.0, from, at, room, &mut len, &mut next) };
+        text.truncate(len);
+        told(status, (text, next))
+    }
+
+    /// The reply of `mls_session_decide_label`, or its status.
+    pub fn decide_label(
+        &mut self,
+        subject: u16,
+        mode: u8,
+        security: &mls_label,
+        integrity: &mls_label,
+    ) -> Result<u16, c_int> {
+        let mut reply = 0;
+        // SAFETY: as for `submit`; the labels are valid and are only read, so they may be one.
+        told(unsafe { mls_session_decide_label(&mut self.0, subject, mode, security, integrity, &mut reply) }, reply)
+    }
+
+    /// The subject of `mls_session_read_subject`, or its status.
+    pub fn read_subject(&mut self, subject: u16) -> Result<mls_subject_info, c_int> {
+        let mut info = mls_subject_info::default();
+        // SAFETY: `self` is borrowed by nobody else, and what the call writes is new.
+        told(unsafe { mls_session_read_subject(&mut self.0, subject, &mut info) }, info)
+    }
+
+    /// The object of `mls_session_read_object`, or its status.
+    pub fn read_object(&mut self, object: u16) -> Result<mls_object_info, c_int> {
+        let mut info = mls_object_info::default();
+        // SAFETY: as for `read_subject`.
+        told(unsafe { mls_session_read_object(&mut self.0, object, &mut info) }, info)
+    }
+
+    /// The modes of `mls_session_read_pair`, or its status.
+    pub fn read_pair(&mut self, subject: u16, object: u16) -> Result<mls_pair_info, c_int> {
+        let mut info = mls_pair_info::default();
+        // SAFETY: as for `read_subject`.
+        told(unsafe { mls_session_read_pair(&mut self.0, subject, object, &mut info) }, info)
+    }
+
+    /// The numbers of `mls_session_count`, or its status.
+    pub fn count(&mut self) -> Result<mls_counts, c_int> {
+        let mut counts = mls_counts::default();
+        // SAFETY: as for `read_subject`.
+        told(unsafe { mls_session_count(&mut self.0, &mut counts) }, counts)
+    }
+
+    /// The child of `mls_session_next_child`, or its status.
+    pub fn next_child(&mut self, object: u16, above: u16) -> Result<u16, c_int> {
+        let mut child = 0;
+        // SAFETY: as for `read_subject`.
+        told(unsafe { mls_session_next_child(&mut self.0, object, above, &mut child) }, child)
+    }
+
+    /// The conditions and the remedy of `mls_session_explain`, or its status.
+    pub fn explain(&mut self, request: &mls_request) -> Result<(Vec<mls_condition>, mls_remedy), c_int> {
+        let (rows, mut remedy) = (vec![mls_condition::default(); MLS_CONDITIONS], mls_remedy::default());
+        // SAFETY: as for `submit`; `filled` lends rows and a count that are its own, and the remedy is new.
+        let rows = filled(rows, |rows, cap, count| unsafe {
+            mls_session_explain(&mut self.0, request, rows, cap, count, &mut remedy)
+        })?;
+        Ok((rows, remedy))
     }
 }
 

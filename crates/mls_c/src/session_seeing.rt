@@ -1,0 +1,51 @@
+//! That a session sees what others did: the entries up to a number, or what another session has seen.
+ghost use Rattle.std.specs.Prelude.{◌≡◌, ◌≢◌, Some};
+ghost use Rattle.mls_c.specs.Seen.{LookStatus, SeeStatus, Reaches, AreOfOneOffice, MeetsIn, meet_status};
+ghost use Rattle.mls_c.specs.declared.status.TheConstants.{OK};
+
+use crate::place::Place;
+use crate::session_handle::MlsSession;
+use crate::status::{EAGAIN, EBUSY, ECLOSED, OK};
+
+/// Sees the present journal.
+fn see_place(place: &mut Place, n: u64) -> i32
+    ensures status { LookStatus (Some place.old) (SeeStatus n) (Some place.new) result }
+    ensures seen { result ≡ OK → Reaches n (Some place.new) }
+{
+    match place.see(n) {
+        Ok(true) => OK,
+        Ok(false) => EAGAIN,
+        Err(_) => EBUSY,
+    }
+}
+
+/// Sees the present journal, and says whether it has at least `n` entries: if so, what the session is told from then on
+/// is all of journals of at least `n` entries. It tries the lock once. It adds no entry and doesn't allocate.
+#[unsafe(no_mangle)]
+pub extern "C" fn mls_session_see(s: &mut MlsSession, n: u64) -> i32
+    ensures status { LookStatus s.old.place.value (SeeStatus n) s.new.place.value result }
+    ensures seen { result ≡ OK → Reaches n s.new.place.value }
+{
+    if s.held == 0 {
+        return ECLOSED;
+    }
+    see_place(s.place.lend(), n)
+}
+
+/// Gives the sessions of two handles the longer of their two histories. It takes no lock and doesn't allocate. The
+/// caller has to know that they are of one office: c/mls.c compares what it noted when it handed them out.
+#[unsafe(no_mangle)]
+pub extern "C" fn mls_session_meet_other(s: &mut MlsSession, other: &mut MlsSession) -> i32
+    requires { AreOfOneOffice s.old.place.value other.old.place.value }
+    ensures status { result ≡ meet_status s.old.place.value other.old.place.value }
+    ensures meets { result ≡ OK
+        → MeetsIn s.old.place.value other.old.place.value s.new.place.value other.new.place.value }
+    ensures same { result ≢ OK → s.new.place.value ≡ s.old.place.value }
+    ensures other { result ≢ OK → other.new.place.value ≡ other.old.place.value }
+{
+    if s.held == 0 || other.held == 0 {
+        return ECLOSED;
+    }
+    s.place.lend().meet(other.place.lend());
+    OK
+}
