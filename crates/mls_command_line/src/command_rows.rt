@@ -2,8 +2,8 @@
 use crate::argument::Argument;
 use crate::question_arguments::{
     ABOUT_ARGUMENTS, ASK_ARGUMENTS, COMPARE_ARGUMENTS, COULD_ARGUMENTS, EXPLAIN_ARGUMENTS,
-    HELD_ARGUMENTS, JOURNAL_ARGUMENTS, LATTICE_ARGUMENTS, LINT_ARGUMENTS, POWERS_ARGUMENTS,
-    REPORT_ARGUMENTS, STATE_ARGUMENTS, USAGE_ARGUMENTS, WHO_ARGUMENTS,
+    FLOW_ARGUMENTS, HELD_ARGUMENTS, JOURNAL_ARGUMENTS, LATTICE_ARGUMENTS, LINT_ARGUMENTS,
+    POWERS_ARGUMENTS, REPORT_ARGUMENTS, STATE_ARGUMENTS, USAGE_ARGUMENTS, WHO_ARGUMENTS,
 };
 use crate::run_arguments::{
     CHECK_ARGUMENTS, COMPLETE_ARGUMENTS, INIT_ARGUMENTS, REPLAY_ARGUMENTS, RUN_ARGUMENTS,
@@ -25,6 +25,7 @@ pub(crate) enum CommandName {
     Explain,
     Who,
     Could,
+    Flow,
     Powers,
     About,
     Lint,
@@ -61,7 +62,7 @@ pub(crate) struct CommandRow {
 
 /// The commands, in the order of help. One function names them, and lends them to others: each that names them is
 /// proved over all of these rows.
-pub(crate) const COMMANDS: [CommandRow; 21] = [
+pub(crate) const COMMANDS: [CommandRow; 22] = [
     CommandRow {
         command: CommandName::Init,
         name: "init",
@@ -193,6 +194,19 @@ pub(crate) const COMMANDS: [CommandRow; 21] = [
         example: "Example: mls could --all examples/standard.json 'bob get-read plans'. mls who --could prints it for \
             all subjects and modes, without scripts",
         arguments: &COULD_ARGUMENTS,
+    },
+    CommandRow {
+        command: CommandName::Flow,
+        name: "flow",
+        group: Group::Ask,
+        brief: "Where could content of an object ever flow?",
+        about: "Prints where content of FROM could flow, whatever some subjects do, though what they remember is all \
+            that carries it: a line for each subject and then for each object, with a way of the fewest hands there; \
+            or with TO the way to this place alone, or never. All untrusted subjects act. The status is 0 where there \
+            is a way, else 4",
+        example: "Examples: mls flow examples/standard.json plans; mls flow --all examples/standard.json plans bob. \
+            mls could prints a script that does one of the hands",
+        arguments: &FLOW_ARGUMENTS,
     },
     CommandRow {
         command: CommandName::Powers,

@@ -30,7 +30,7 @@ pub(crate) fn json_argument(command: CommandName) -> Option<Argument> {
         CommandName::Ask | CommandName::Explain => Some(ONE),
         CommandName::Check | CommandName::Verify => Some(ONE),
         CommandName::State => Some(STATE),
-        CommandName::Who | CommandName::Could => Some(EACH),
+        CommandName::Who | CommandName::Could | CommandName::Flow => Some(EACH),
         CommandName::Powers | CommandName::About => Some(EACH),
         CommandName::Held | CommandName::Usage => Some(EACH),
         CommandName::Lint | CommandName::Compare => Some(EACH),

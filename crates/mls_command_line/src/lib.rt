@@ -22,8 +22,8 @@ mod words_fault;
 
 pub use job::{Asked, Job, RunWords, ServeWords, VerifyWords};
 pub use question::{
-    Actors, CompareWords, EverWords, HeldWords, JournalWords, Question, ReportWords, Source, Times,
-    UsageWords,
+    Actors, CompareWords, EverWords, FlowWords, HeldWords, JournalWords, Question, ReportWords,
+    Source, Times, UsageWords,
 };
 pub use times::now;
 pub use words::read_words;

@@ -34,6 +34,18 @@ pub enum Actors<'a> {
     Without(&'a str),
 }
 
+/// What `flow` is asked for, whatever some subjects do.
+#[derive(Clone, Copy)]
+pub struct FlowWords<'a> {
+    pub actors: Actors<'a>,
+    /// The object whose content flows.
+    pub from: &'a str,
+    /// The one place that is asked about; without it, all.
+    pub to: Option<&'a str>,
+    /// Whether that is to be an object.
+    pub is_object: bool,
+}
+
 /// What `journal` is asked for.
 #[derive(Clone, Copy)]
 pub struct JournalWords<'a> {
@@ -190,6 +202,11 @@ pub enum Question<'a> {
         actors: Actors<'a>,
         object: &'a str,
         mode: Option<&'a str>,
+    },
+    /// Where content of an object could ever flow, whatever some subjects do.
+    Flow {
+        source: Source<'a>,
+        words: FlowWords<'a>,
     },
     /// Who could ever get an object over a journal.
     WhoEver(EverWords<'a>),

@@ -107,33 +107,69 @@ pub(crate) const WHO_ARGUMENTS: [Argument; 17] = [
     },
 ];
 
+/// The subjects that act.
+const BY: Argument = Argument {
+    name: "by",
+    kind: Kind::Subjects("without", "all"),
+    help: "These subjects act alone: names, or # and numbers, with commas between them; without it, all that are \
+        not trusted act",
+};
+
+/// The subjects that don't act.
+const WITHOUT: Argument = Argument {
+    name: "without",
+    kind: Kind::Subjects("by", "all"),
+    help: "All subjects act but these: trusted ones that are not named act, too",
+};
+
+/// That all act.
+const ALL: Argument = Argument {
+    name: "all",
+    kind: Kind::FlagWithoutEither("by", "without"),
+    help: "All subjects act, the trusted too",
+};
+
 /// The arguments of `could`.
 pub(crate) const COULD_ARGUMENTS: [Argument; 9] = [
     OF_JOURNAL,
     AT,
     MARKS_OF_JOURNAL,
     WHEN,
-    Argument {
-        name: "by",
-        kind: Kind::Subjects("without", "all"),
-        help: "These subjects act alone: names, or # and numbers, with commas between them; without it, all that are \
-            not trusted act",
-    },
-    Argument {
-        name: "without",
-        kind: Kind::Subjects("by", "all"),
-        help: "All subjects act but these: trusted ones that are not named act, too",
-    },
-    Argument {
-        name: "all",
-        kind: Kind::FlagWithoutEither("by", "without"),
-        help: "All subjects act, the trusted too",
-    },
+    BY,
+    WITHOUT,
+    ALL,
     START,
     Argument {
         name: "LINE",
         kind: Kind::Operand,
         help: "A get as a script has it, quoted, but without variables; #N is object N",
+    },
+];
+
+/// The arguments of `flow`.
+pub(crate) const FLOW_ARGUMENTS: [Argument; 11] = [
+    OF_JOURNAL,
+    AT,
+    MARKS_OF_JOURNAL,
+    WHEN,
+    BY,
+    WITHOUT,
+    ALL,
+    Argument {
+        name: "as-object",
+        kind: Kind::FlagBeside("TO"),
+        help: "TO is the object of this name, though a subject has it, too",
+    },
+    START,
+    Argument {
+        name: "FROM",
+        kind: Kind::Operand,
+        help: "The object whose content flows: its name, or # and its number (quoted)",
+    },
+    Argument {
+        name: "TO",
+        kind: Kind::Optional,
+        help: "To this place alone: a subject's name, or else an object's: its name, or # and its number (quoted)",
     },
 ];
 

@@ -1,7 +1,7 @@
 //! What the words of a question ask for.
 use crate::job::Job;
 use crate::question::{
-    Actors, EverWords, HeldWords, JournalWords, Question, Source, Times, UsageWords,
+    Actors, EverWords, FlowWords, HeldWords, JournalWords, Question, Source, Times, UsageWords,
 };
 use crate::times::{is_behind, time_by, time_from, time_until, times_of_day};
 use crate::words_fault::{FormedOption, WordsFault};
@@ -26,7 +26,7 @@ pub(crate) fn when<'a>(matches: &ArgMatches<'a>) -> Result<Option<Time>, WordsFa
 }
 
 /// The operands that stand behind `START`, but for a journal.
-const BESIDE: [&str; 4] = ["LINE", "OBJ", "SUBJ", "NAME"];
+const BESIDE: [&str; 5] = ["LINE", "OBJ", "SUBJ", "NAME", "FROM"];
 
 /// The operand that stands behind `START`, where there is one that names no journal.
 fn beside<'a>(matches: &ArgMatches<'a>) -> &'a str {
@@ -292,6 +292,23 @@ pub(crate) fn could_words<'a>(matches: &ArgMatches<'a>) -> Result<Job<'a>, Words
         source: source(matches, matches.get_str("journal"), when),
         actors: actors(matches),
         line: operand(matches, "LINE"),
+    }))
+}
+
+/// What `flow` was asked for.
+///
+/// # Errors
+/// `Time` where a word is to be a time and is none.
+pub(crate) fn flow_words<'a>(matches: &ArgMatches<'a>) -> Result<Job<'a>, WordsFault<'a>> {
+    let when = when(matches)?;
+    Ok(Job::Question(Question::Flow {
+        source: source(matches, matches.get_str("journal"), when),
+        words: FlowWords {
+            actors: actors(matches),
+            from: operand(matches, "FROM"),
+            to: matches.get_str("TO"),
+            is_object: matches.get_flag("as-object"),
+        },
     }))
 }
 

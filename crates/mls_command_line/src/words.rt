@@ -5,8 +5,8 @@ use crate::compare_words::compare_words;
 use crate::job::{Asked, Job, RunWords, ServeWords};
 use crate::json_words::asks_json;
 use crate::question_words::{
-    about_words, ask_words, could_words, explain_words, held_words, journal_words, operand,
-    powers_words, state_words, usage_words, who_words,
+    about_words, ask_words, could_words, explain_words, flow_words, held_words, journal_words,
+    operand, powers_words, state_words, usage_words, who_words,
 };
 use crate::short_help::short_help;
 use crate::state_words::{lattice_words, lint_words, report_words};
@@ -103,6 +103,7 @@ fn command_job<'a>(
         CommandName::Explain => explain_words(words),
         CommandName::Who => who_words(words),
         CommandName::Could => could_words(words),
+        CommandName::Flow => flow_words(words),
         CommandName::Powers => powers_words(words),
         CommandName::About => about_words(words),
         CommandName::Lint => lint_words(words),
