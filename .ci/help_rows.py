@@ -12,7 +12,7 @@ from outside import EXAMPLES, PROGRAM, SECONDS, TOP, example, in_its_folder, put
 answered, refused, not_understood = asks()
 # The commands under their headings.
 GROUPS = {"Decide": ["init", "complete", "check", "run", "lint"], "Serve": ["serve"],
-          "Ask": ["ask", "explain", "who", "could", "powers", "about", "lattice"],
+          "Ask": ["ask", "explain", "who", "could", "flow", "powers", "about", "lattice"],
           "Audit": ["replay", "verify", "journal", "state", "held", "usage", "compare", "report"]}
 WIDTH = 78
 JOURNAL = b"0 0 0 get-read 1 yes\n1 0 1 get-read 2 no star\n2 0 0 release read 1 yes\n"

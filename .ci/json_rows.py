@@ -129,6 +129,23 @@ def could_line(row):
     return f"{row['reason']}: {row['basis']}\n" if "reason" in row else f"{asked(row)}\n"
 
 
+def hand_text(row):
+    """A hand, and the place to which content comes by it."""
+    place = named(row, "subject" if "subject" in row or "subject_name" in row else "object")
+    if "mode" in row:
+        return f" > {place} ({row['mode']})" + (", down" if row.get("down") else "")
+    assert named(row, "maker"), row
+    return f" > a new object below {named(row, 'parent')} (append) > {place} (read)"
+
+
+def flow_line(row):
+    """A way to a place; or that there is none, or that none could go through a new object."""
+    if "answer" in row:
+        return {"never": "never\n", "full": "full: no object could be made without a delete\n"}[row["answer"]]
+    kind = "subject" if "subject" in row or "subject_name" in row else "object"
+    return f"{kind} {named(row, kind)}: {named(row, 'from')}{''.join(map(hand_text, row['hands']))}\n"
+
+
 def powers_line(row):
     words = {
         "give": lambda: f"gives and rescinds {named(row, 'object')}",
@@ -251,7 +268,7 @@ def summary_lines(row):
 
 LINES = {
     "check": check_lines, "verify": verify_lines, "ask": ask_lines, "explain": explain_lines, "who": who_line, "ever": ever_line,
-    "future": future_line, "could": could_line, "powers": powers_line, "about": about_line, "lint": lint_line,
+    "future": future_line, "could": could_line, "flow": flow_line, "powers": powers_line, "about": about_line, "lint": lint_line,
     "state": state_line, "held": held_line, "usage": usage_line, "compare": compare_line, "counts": counts_line, "summary": summary_lines,
 }
 # The objects that were met, by their schema, each once; all of them are held to it at the end.
@@ -331,6 +348,8 @@ def told_of_state(words, state, lines):
         told("future", ["who", "--could", "--all", *words, f"#{o}"])
         for actors in ([], ["--all"]):
             told("could", ["could", *actors, *words, f"#0 get-read #{o}"])
+            told("flow", ["flow", *actors, *words, f"#{o}"])
+            told("flow", ["flow", *actors, "--as-object", *words, f"#{o}", "#1"])
     told("powers", ["powers", *words])
     for name in state.subjects[:3]:
         told("about", ["about", *words, name])

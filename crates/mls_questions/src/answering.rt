@@ -224,6 +224,7 @@ pub fn answer(progress: &mut Progress<'_>, question: &Question<'_>) -> ExitCode 
             let (actors, line) = (*actors, *line);
             answer_state(progress, &source, OfState::Could { actors, line })
         }
+        Question::Flow { words, .. } => answer_state(progress, &source, OfState::Flow(*words)),
         Question::Powers {
             subject,
             downgrades,

@@ -2,8 +2,9 @@
 use crate::acting::chosen;
 use crate::state_findings::state_findings;
 use mls_answers::{ask, explain, lattice, powers, state, who};
-use mls_command_line::Actors;
+use mls_command_line::{Actors, FlowWords};
 use mls_could::who_could;
+use mls_flow_text::flow;
 use mls_futures_text::could;
 use mls_replay::QuestionFault;
 use mls_requests::read_mode;
@@ -37,6 +38,8 @@ pub(crate) enum OfState<'a> {
         object: &'a str,
         mode: Option<&'a str>,
     },
+    /// Where content of an object could flow, whatever some subjects do.
+    Flow(FlowWords<'a>),
     /// What subjects may change.
     Powers {
         subject: Option<&'a str>,
@@ -78,7 +81,8 @@ impl<'a> OfState<'a> {
             OfState::Line(_) => "asking",
             OfState::Why(_) | OfState::Next => "explaining",
             OfState::Who { .. } | OfState::WhoCould { .. } => "looking",
-            OfState::Could { .. } | OfState::Powers { .. } | OfState::Lint => "looking",
+            OfState::Could { .. } | OfState::Flow(_) => "looking",
+            OfState::Powers { .. } | OfState::Lint => "looking",
             OfState::Lattice => "drawing",
             OfState::List => "listing",
             OfState::StartFile { .. } => "writing",
@@ -120,6 +124,16 @@ pub(crate) fn answer_seen(
         } => {
             let (choice, words) = chosen(actors);
             who_could(alloc, form, seen, choice, words, object, mode_of(mode))
+        }
+        OfState::Flow(asked) => {
+            let FlowWords {
+                actors,
+                from,
+                to,
+                is_object,
+            } = asked;
+            let (choice, words) = chosen(actors);
+            flow(alloc, form, seen, choice, words, from, to, is_object)
         }
         OfState::Powers {
             subject,

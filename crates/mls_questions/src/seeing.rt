@@ -2,6 +2,7 @@
 //! before, any other whole.
 use crate::acting::unknown_word;
 use crate::answering::question_refused;
+use crate::flowing::ended_flow;
 use crate::form_meant::asks_no_get;
 use crate::named::{Named, hint_of};
 use crate::one_state::{OfState, answer_seen};
@@ -27,6 +28,7 @@ fn named<'a>(source: &Source<'a>, asked: OfState<'a>) -> Named<'a> {
         OfState::Who { object, .. } => named.object = object,
         OfState::WhoCould { object, .. } => named.object = object,
         OfState::Could { line, .. } => named.line = line,
+        OfState::Flow(words) => named.object = words.from,
         OfState::Powers { subject, .. } => named.subject = subject.unwrap_or(""),
         OfState::Next | OfState::Lint | OfState::Lattice => {}
         OfState::List | OfState::StartFile { .. } => {}
@@ -192,6 +194,11 @@ fn end_seen<'a>(
     let done = answer_seen(alloc, form_of(progress), seen, asked);
     if let OfState::Could { line, .. } = asked {
         return ended_could(progress, &named, seen.start_file(), line, done);
+    }
+    if let OfState::Flow(words) = asked {
+        let status = ended_flow(progress, &named, seen, words, done);
+        tell_none(progress.rt(), seen, words.from);
+        return status;
     }
     let status = rows_ended(progress, &named, seen.start_file(), done);
     if let OfState::Who { object, .. } = asked {

@@ -69,6 +69,7 @@ pub(crate) fn source_of<'a>(question: &Question<'a>) -> Source<'a> {
         | Question::Who { source, .. }
         | Question::WhoCould { source, .. }
         | Question::Could { source, .. }
+        | Question::Flow { source, .. }
         | Question::Powers { source, .. }
         | Question::About { source, .. }
         | Question::Lint { source }

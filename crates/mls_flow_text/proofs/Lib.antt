@@ -1,0 +1,5 @@
+mod Flows
+mod Seen
+mod Telling
+mod Texts
+mod Ways
