@@ -133,15 +133,7 @@ pub(crate) fn decide_labels(
     ensures silent { result ≢ OK → reply.new ≡ reply.old }
 {
     if mode == 1 {
-        return decide_in(
-            state,
-            subject,
-            mode,
-            Mode::Read,
-            security,
-            integrity,
-            reply,
-        );
+        return decide_in(state, subject, mode, Mode::Read, security, integrity, reply);
     }
     decide_mode(state, subject, mode, security, integrity, reply)
 }

@@ -39,13 +39,7 @@ impl Session {
         let Ok(monitor) = win(gate, &mut self.seat, name) else {
             return (Err(Busy), false);
         };
-        let may_sleep = inquire(
-            gate,
-            &mut self.seat,
-            &mut self.counts,
-            monitor,
-            question,
-        );
+        let may_sleep = inquire(gate, &mut self.seat, &mut self.counts, monitor, question);
         (Ok(()), may_sleep)
     }
 
