@@ -5,7 +5,7 @@ mod acting;
 mod answering;
 mod comparison;
 mod describing;
-mod flowing;
+mod foreseeing;
 mod form_meant;
 mod listing;
 mod named;

@@ -2,8 +2,7 @@
 //! before, any other whole.
 use crate::acting::unknown_word;
 use crate::answering::question_refused;
-use crate::flowing::ended_flow;
-use crate::form_meant::asks_no_get;
+use crate::foreseeing::{ended_could, ended_flow};
 use crate::named::{Named, hint_of};
 use crate::one_state::{OfState, answer_seen};
 use crate::row_answers::{form_of, rows_ended};
@@ -13,9 +12,7 @@ use mls_command_line::Source;
 use mls_files::{
     Goal, Hint, Sought, Wanted, open_start, seek, segments_of, start_file, start_hint,
 };
-use mls_lines::LineFault;
 use mls_replay::{QuestionFault, named_object};
-use mls_rows::Listing;
 use mls_seen::Seen;
 use mls_terminal::Progress;
 use std::process::ExitCode;
@@ -152,24 +149,6 @@ fn tell_none(rt: &HostRuntime, seen: &Seen, object: &str) {
             let _ = eprintln!(rt; "mls: {object}: there is no such object");
         }
     }
-}
-
-/// Ends the question what could come about: prints the answer, or tells why there is none.
-fn ended_could(
-    progress: &mut Progress<'_>,
-    named: &Named<'_>,
-    start: &[u8],
-    line: &str,
-    done: Result<Listing, QuestionFault>,
-) -> ExitCode {
-    let is_bad = matches!(&done, Err(QuestionFault::Line(LineFault::BadForm)));
-    if is_bad && asks_no_get(line) {
-        progress.end();
-        drop(done);
-        let _ = eprintln!(progress.rt(); "mls: line: bad form: could asks of a get");
-        return ExitCode::from(1);
-    }
-    rows_ended(progress, named, start, done)
 }
 
 /// Ends the command in the state that is seen.

@@ -1,14 +1,34 @@
-//! How the question ends where content could flow.
+//! How the questions end what could come about, and where content could flow.
 use crate::acting::unknown_word;
 use crate::answering::thing_refused;
+use crate::form_meant::asks_no_get;
 use crate::named::Named;
 use crate::row_answers::rows_ended;
 use mls_command_line::FlowWords;
+use mls_lines::LineFault;
 use mls_replay::{QuestionFault, named_object};
 use mls_rows::Listing;
 use mls_seen::Seen;
 use mls_terminal::Progress;
 use std::process::ExitCode;
+
+/// Ends the question what could come about: prints the answer, or tells why there is none.
+pub(crate) fn ended_could(
+    progress: &mut Progress<'_>,
+    named: &Named<'_>,
+    start: &[u8],
+    line: &str,
+    done: Result<Listing, QuestionFault>,
+) -> ExitCode {
+    let is_bad = matches!(&done, Err(QuestionFault::Line(LineFault::BadForm)));
+    if is_bad && asks_no_get(line) {
+        progress.end();
+        drop(done);
+        let _ = eprintln!(progress.rt(); "mls: line: bad form: could asks of a get");
+        return ExitCode::from(1);
+    }
+    rows_ended(progress, named, start, done)
+}
 
 /// Whether a word names an object.
 fn names_object(seen: &Seen, word: &str) -> bool {
@@ -33,11 +53,11 @@ fn unknown_object<'a>(seen: &Seen, words: FlowWords<'a>) -> &'a str {
 }
 
 /// Ends the question where content could flow: prints the answer, or tells why there is none.
-pub(crate) fn ended_flow(
+pub(crate) fn ended_flow<'a>(
     progress: &mut Progress<'_>,
-    named: &Named<'_>,
+    named: &Named<'a>,
     seen: &Seen,
-    words: FlowWords<'_>,
+    words: FlowWords<'a>,
     done: Result<Listing, QuestionFault>,
 ) -> ExitCode {
     let start = seen.start_file();
