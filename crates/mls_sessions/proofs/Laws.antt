@@ -6,3 +6,5 @@ pub use Rattle.mls_sessions.proofs.SeatsKeep.{ascending_last, at_most}
 pub use Rattle.mls_sessions.proofs.Lists.{ascending_read, ascending_put}
 -- a list of feeds at a stage, with one more
 pub use Rattle.mls_monitor.proofs.FeedLists.{at_snoc}
+-- what a session has seen of the journal it doesn't lose
+pub use Rattle.mls_sessions.proofs.Recency.{seen_since, made_since}

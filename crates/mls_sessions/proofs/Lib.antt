@@ -9,6 +9,7 @@ mod Handing
 mod Turns
 mod SeatsKeep
 mod Meetings
+mod Recency
 mod Lists
 pub mod Laws
 mod Runs

@@ -7,7 +7,7 @@ use Rattle.atomic_table.specs.Seated.{TableId, table_id_coded}
 use Rattle.mls_requests.specs.declared.entry.Entry.{Entry}
 use Rattle.mls_requests.specs.declared.request.Request.{Request}
 use Rattle.mls_sessions.specs.Journals.{Charter, charter_code}
-use Rattle.mls_turns.specs.Journals.{Journal, Stands}
+use Rattle.mls_turns.specs.Journals.{Journal, journal, Stands}
 use Rattle.mls_monitor.specs.Entries.{of_session, AllBelow, AllOf}
 use Rattle.mls_rules.specs.Rules.{reply}
 use Rattle.mls_monitor.specs.Journal.{fold}
@@ -117,6 +117,18 @@ IsOf o s = (s.table ≡ o.table) × (s.view ≡ Sessions o.charter (member_of s.
 abbrev pub history : View → List Entry
 history (Sessions c (m ∷ rest)) = base c ++ m.later
 history v = []
+
+-- The journal as a session has seen it, with what was forgotten of it when the office was opened. (own)
+abbrev pub journal_seen : Charter → View → Journal
+journal_seen c v = journal (begun c) c.forgotten (history v)
+
+-- A session has seen a journal of at least n entries. (own)
+abbrev pub HasSeen : ℕ → View → Type 0
+HasSeen n v = n ≤ length (history v)
+
+-- The later of two histories has at least as many entries: what had seen a journal of n entries still has. (own)
+abbrev pub NoShorter : View → View → Type 0
+NoShorter old new = length (history old) ≤ length (history new)
 
 -- The own part of a session's history: those of its entries that the session made since the office was opened. (own)
 abbrev pub own : View → List Entry

@@ -1,4 +1,4 @@
-//! One session's turn at the gate in which it asks what would be replied, and makes no entry.
+//! One session's turn at the gate in which it makes no entry: it asks what would be replied, or puts a question.
 ghost use Rattle.std.specs.Prelude.{◌≡◌, ◌+◌, length};
 ghost use mathlib.Core.List.{IsPrefix};
 ghost use Rattle.mls_rules.specs.Rules.{reply};
@@ -6,12 +6,13 @@ ghost use Rattle.mls_monitor.specs.Journal.{fold};
 ghost use Rattle.mls_monitor.specs.Entries.{of_session};
 ghost use Rattle.mls_sessions.specs.Rule.{begun};
 ghost use Rattle.mls_sessions.specs.Steps.{kept_view};
-ghost use Rattle.mls_sessions.specs.Sessions.{member_of, taken_of, seated, Holds, Sees, history, number_of};
+ghost use Rattle.mls_sessions.specs.Sessions.{member_of, taken_of, seated, Holds, Sees, history, journal_seen, number_of};
 
 use crate::counts::Counts;
 use crate::gate::put_home;
 use crate::gate_table::{Gate, GateSeat};
 use crate::limits::FIRST;
+use crate::question::Question;
 use crate::steps::Update;
 use mls_requests::{Reply, Request};
 use mls_turns::BoxedMonitor;
@@ -51,4 +52,33 @@ pub(crate) fn consult(
     let may_sleep = put_home::<Update>(gate, seat, monitor);
     counts.saw(number);
     (Decision { number, reply }, may_sleep)
+}
+
+/// Puts a question to the monitor, puts the monitor home as it was, and has seen its journal. It wakes nobody, and
+/// returns whether someone may sleep.
+pub(crate) fn inquire<Q: Question>(
+    gate: &Gate,
+    seat: &mut GateSeat,
+    counts: &mut Counts,
+    monitor: BoxedMonitor,
+    question: &mut Q,
+) -> bool
+    requires office { (seat.old.table_id ≡ gate.now.table_id) × (gate.now.table_id.words ≡ gate.now.key.cells + FIRST) }
+    requires session { Holds gate.now.key monitor seat.old.me }
+    requires own { of_session (number_of seat.old.me.0) (taken_of seat.old.me.0)
+        ≡ of_session (number_of seat.old.me.0) (member_of seat.old.me.0).later }
+    requires front { IsPrefix (member_of seat.old.me.0).later (taken_of seat.old.me.0) }
+    ensures seat { (seat.new.table_id ≡ seat.old.table_id) × (seat.new.id ≡ seat.old.id) }
+    ensures session { (seat.new.me ≡ seated gate.now.key (member_of seat.new.me.0))
+        × (number_of seat.new.me.0 ≡ number_of seat.old.me.0) }
+    ensures seen { Sees gate.now.key (kept_view seat.old.me.0) seat.new.me.0 }
+    ensures found { Q.finds question.old (journal_seen gate.now.key seat.new.me.0) question.new }
+    ensures made { counts.new.made ≡ counts.old.made }
+    ensures counts { counts.new.seen ≡ length (history seat.new.me.0) }
+{
+    question.look(monitor.monitor());
+    let number = monitor.next_number();
+    let may_sleep = put_home::<Update>(gate, seat, monitor);
+    counts.saw(number);
+    may_sleep
 }

@@ -7,6 +7,7 @@ ghost use Rattle.mls_sessions.specs.Sessions.{session_at, seated, IsOf, Meets, h
 mod asking;
 mod checking;
 mod deciding;
+mod seeing;
 
 use crate::counts::Counts;
 use crate::gate_table::GateSeat;

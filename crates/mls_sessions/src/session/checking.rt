@@ -3,7 +3,7 @@ ghost use Rattle.std.specs.Prelude.{◌≡◌, IfSome, OnSome, IfNone, IfOk, IsO
 ghost use Rattle.std.specs.FinSet as set;
 ghost use Rattle.mls_monitor.specs.Journal.{fold};
 ghost use Rattle.mls_sessions.specs.Rule.{begun};
-ghost use Rattle.mls_sessions.specs.Sessions.{IsOf, Sees, history, number_of};
+ghost use Rattle.mls_sessions.specs.Sessions.{IsOf, Sees, NoShorter, history, number_of};
 
 use crate::cells::{BLANK, bit_of, cell_of, has_bit};
 use crate::gate::{glance, named, wake, win};
@@ -78,6 +78,7 @@ impl Session {
     /// or the triple has none. All words are blank when the office opens, and those of an object where it is deleted. A
     /// check that waited fills its word, but one of several asks of one turn fills none. A triple without a word always
     /// waits.
+    #[tactic(auto, using(crate::proofs::Recency::seen_since))]
     pub fn check<R: Wait>(
         &mut self,
         office: &Office,
@@ -90,6 +91,7 @@ impl Session {
         ensures office { IsOf office.now self.new }
         ensures number { number_of self.new.view ≡ number_of self.old.view }
         ensures seen { Sees office.now.charter self.old.view self.new.view }
+        ensures since { NoShorter self.old.view self.new.view }
         ensures answer { let b = (fold (begun office.now.charter) (history self.new.view)).accesses in result
             ≡ set.contains b (s, o, x) }
     {
@@ -104,6 +106,7 @@ impl Session {
     /// # Errors
     /// `Busy` where the word is blank, or there is none, and another session held the gate; the session is then as
     /// before. An office of one session is never busy.
+    #[tactic(auto, using(crate::proofs::Recency::seen_since))]
     pub fn try_check(
         &mut self,
         office: &Office,
@@ -115,6 +118,7 @@ impl Session {
         ensures office { IsOf office.now self.new }
         ensures number { number_of self.new.view ≡ number_of self.old.view }
         ensures seen { IfOk result (λ _. Sees office.now.charter self.old.view self.new.view) }
+        ensures since { IfOk result (λ _. NoShorter self.old.view self.new.view) }
         ensures answer { let b =
             (fold (begun office.now.charter) (history self.new.view)).accesses in IfOk result
             (λ is_held. is_held ≡ set.contains b (s, o, x)) }
@@ -131,6 +135,7 @@ impl Session {
     ///
     /// # Errors
     /// As those of [`try_check`](Session::try_check).
+    #[tactic(auto, using(crate::proofs::Recency::seen_since))]
     pub fn check_quietly(
         &mut self,
         office: &Office,
@@ -142,6 +147,7 @@ impl Session {
         ensures office { IsOf office.now self.new }
         ensures number { number_of self.new.view ≡ number_of self.old.view }
         ensures seen { IfOk result.0 (λ _. Sees office.now.charter self.old.view self.new.view) }
+        ensures since { IfOk result.0 (λ _. NoShorter self.old.view self.new.view) }
         ensures answer { let b =
             (fold (begun office.now.charter) (history self.new.view)).accesses in IfOk result.0
             (λ is_held. is_held ≡ set.contains b (s, o, x)) }

@@ -3,7 +3,7 @@ ghost use Rattle.std.specs.Prelude.{◌≡◌, length, IfOk, IsOk, OnErr};
 ghost use Rattle.mls_rules.specs.Rules.{reply};
 ghost use Rattle.mls_monitor.specs.Journal.{fold};
 ghost use Rattle.mls_sessions.specs.Rule.{begun};
-ghost use Rattle.mls_sessions.specs.Sessions.{IsOf, Sees, history, number_of};
+ghost use Rattle.mls_sessions.specs.Sessions.{IsOf, Sees, NoShorter, history, number_of};
 
 use crate::consulting::{Decision, consult};
 use crate::gate::{named, wake, win};
@@ -19,11 +19,13 @@ impl Session {
     /// # Errors
     /// `Busy` where another session held the gate; the session is then as before. An office of one session is never
     /// busy.
+    #[tactic(auto, using(crate::proofs::Recency::seen_since))]
     pub fn try_decide(&mut self, office: &Office, request: &Request) -> Result<Decision, Busy>
         requires { IsOf office.now self.old }
         ensures office { IsOf office.now self.new }
         ensures number { number_of self.new.view ≡ number_of self.old.view }
         ensures seen { IfOk result (λ _. Sees office.now.charter self.old.view self.new.view) }
+        ensures since { IfOk result (λ _. NoShorter self.old.view self.new.view) }
         ensures place { IfOk result (λ d. d.number ≡ length (history self.new.view)) }
         ensures reply { IfOk result
             (λ d. d.reply ≡ reply (fold (begun office.now.charter) (history self.new.view)) request.now) }
@@ -40,6 +42,7 @@ impl Session {
     ///
     /// # Errors
     /// As those of [`try_decide`](Session::try_decide).
+    #[tactic(auto, using(crate::proofs::Recency::seen_since))]
     pub fn decide_quietly(
         &mut self,
         office: &Office,
@@ -49,6 +52,7 @@ impl Session {
         ensures office { IsOf office.now self.new }
         ensures number { number_of self.new.view ≡ number_of self.old.view }
         ensures seen { IfOk result.0 (λ _. Sees office.now.charter self.old.view self.new.view) }
+        ensures since { IfOk result.0 (λ _. NoShorter self.old.view self.new.view) }
         ensures place { IfOk result.0 (λ d. d.number ≡ length (history self.new.view)) }
         ensures reply { IfOk result.0
             (λ d. d.reply ≡ reply (fold (begun office.now.charter) (history self.new.view)) request.now) }
