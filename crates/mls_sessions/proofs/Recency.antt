@@ -1,5 +1,5 @@
 -- What a session has seen of the journal it doesn't lose.
-use Rattle.std.proofs.Common.{◌≡◌, ℕ, ◌≤◌, List, [], ◌∷◌, ◌++◌, length, length-append, ap, arith}
+use Rattle.std.proofs.Common.{List, [], ◌∷◌, ◌++◌, length, length-append, ap, arith}
 use Rattle.mls_requests.specs.declared.entry.Entry.{Entry}
 use Rattle.mls_requests.specs.declared.request.Request.{Request}
 use Rattle.mls_sessions.specs.Journals.{Charter}

@@ -1,4 +1,4 @@
-use Rattle.std.proofs.Common.{ap, sym, subst, ◌∙◌, ◌≡◌, length}
+use Rattle.std.proofs.Common.{ap, sym, subst, ◌∙◌, length}
 use Rattle.mls_turns.specs.Journals.{Journal}
 use Rattle.mls_sessions.proofs.StepsKeep.{looks_at}
 use Rattle.mls_sessions.proofs.Turns.{sees, home_seat, home_history, home_journal}
