@@ -78,7 +78,7 @@ pub(crate) fn inquire<Q: Question>(
 {
     question.look(monitor.monitor());
     let number = monitor.next_number();
-    let may_sleep = put_home::<Update>(gate, seat, monitor);
+    let is_marked = put_home::<Update>(gate, seat, monitor);
     counts.saw(number);
-    may_sleep
+    is_marked
 }
