@@ -13,7 +13,6 @@ pub mod ReadBack
 pub mod ReadConditions
 pub mod Resumings
 pub mod Rows
-pub mod Seen
 pub mod ShortLabels
 pub mod StateOpenings
 pub mod Utf8
