@@ -3,7 +3,6 @@ use Rattle.std.specs.Prelude.{◌≡◌, ◌≢◌, ◌⊎◌, ℕ, ◌+◌, ◌
 use Rattle.std.specs.Prelude.{Option, Some, None, IsSomeAnd}
 use Rattle.mls_labels.specs.Label.{Label}
 use Rattle.mls_state.specs.State.{State}
-use Rattle.mls_requests.specs.declared.entry.Entry.{Entry}
 use Rattle.mls_requests.specs.declared.request.Request.{Request}
 use Rattle.mls_journal.specs.EntryText.{journal_text}
 use Rattle.mls_rules.specs.Rules.{is_defined}
