@@ -121,7 +121,11 @@ def told_at_a_terminal(words):
     ours, theirs = pty.openpty()
     done = subprocess.run([PROGRAM, *words], timeout=SECONDS, stdin=subprocess.DEVNULL, stdout=subprocess.DEVNULL, stderr=theirs)
     os.close(theirs)
-    told = os.read(ours, 65536).decode().replace("\r\n", "\n")
+    try:
+        told = os.read(ours, 65536).decode().replace("\r\n", "\n")
+    except OSError:
+        # (nothing was written, and the other end is closed)
+        told = ""
     os.close(ours)
     return done.returncode, told
 
@@ -274,7 +278,7 @@ def files_that_are_standard_input():
     put_files()
     start, script = example("standard.json"), b"ann get-read plans\nbob get-read memo\nann release read plans\n"
     put("the.script", script)
-    put("short.json", b'{"security": {"levels": ["a"]}, "subjects": [], "objects": [{"name": "o", "security": "a"}]}')
+    put("short.json", b'{"security": {"levels": ["a"]}, "subjects": [{"name": "s", "maximum": "a"}], "objects": [{"name": "o", "security": "a"}]}')
     rows = [("check -", STANDARD), ("lint -", STANDARD), ("lattice -", STANDARD), ("run - a.script", STANDARD), ("run STANDARD -", "the.script"),
             ("run --strict STANDARD a.script -", "the.script"), ("replay STANDARD -", "standard.journal"), ("journal STANDARD -", "standard.journal"),
             ("state STANDARD -", "standard.journal"), ("who --journal - STANDARD memo", "standard.journal"), ("complete -", "short.json"),
@@ -283,7 +287,8 @@ def files_that_are_standard_input():
         words = [{"STANDARD": STANDARD, "HELD": HELD}.get(it, it) for it in row.split()]
         with open(name, "rb") as file:
             given = file.read()
-        same((row, ran_program(words, given)), (row, ran_program([name if it == "-" else it for it in words])))
+        status, output, error = ran_program([name if it == "-" else it for it in words])
+        same((row, ran_program(words, given)), (row, (status, output.replace(name.encode(), b"-"), error)))
     same(ran_program(["check", "-"], b"{"), (1, b"", b"mls: -: start 1 Json\n"))
     same(ran_program(["run", "--strict", STANDARD, "-"], b"ann frob\n"), (4, b"session 0\nbad form\nentries 0\nsecure yes\n", b"mls: -: line 1: bad form\n"))
     put("-", b"")

@@ -280,8 +280,8 @@ MLS_INLINE int mls_wait_see(mls_session *s, uint64_t n) {
     return status;
 }
 
-MLS_INLINE int mls_wait_entry_text(mls_session *s, uint64_t from, char *buf, size_t cap, size_t *len,
-                                   uint64_t *next) {
+MLS_INLINE int mls_wait_entry_text(mls_session *s, uint64_t from, char *buf, size_t cap,
+                                   size_t *len, uint64_t *next) {
     unsigned round = 0;
     int status;
     while ((status = mls_session_entry_text(s, from, buf, cap, len, next)) == MLS_EBUSY)
