@@ -1,12 +1,15 @@
-"""Where content of an object could ever flow: `mls flow`, with answers by hand, and with those that flows.py finds in random states by a fixpoint
-over all triples."""
+"""Where content of an object could ever flow, and by which script: `mls flow`, with answers by hand, and with those that flows.py finds in random
+states by a fixpoint over all triples, where each script is fed to a service over a copy of the journal and brings the content where it is to."""
 import json
 
 import could_rows
 import flows
+import futures
 from asking import GONE, HELD, OFFICE, OPENED, STANDARD, asks, journal_of, put_faulty, shown_below
 from outside import in_its_folder, put, ran_program, same
-from policy import MODES, OBJECTS, dominates
+from policy import MODES, OBJECTS, dominates, words_of
+from question_texts import entry_of
+from question_worlds import lines_of
 
 # The examples of FORMATS.md: the words behind `mls flow`, and the status.
 SHOWN = [("examples/office.json staff", [OFFICE, "staff"], 0), ("examples/office.json staff intern", [OFFICE, "staff", "intern"], 0),
@@ -40,6 +43,11 @@ def full(state):
     return "full: no object could be made without a delete\n" if state.profile == 2 and state.next >= OBJECTS else ""
 
 
+def idle(name):
+    """What is told of a subject that doesn't act."""
+    return f"mls: {name}: it does not act (--all?)\n"
+
+
 def listed(state, actors, o):
     """What `flow` prints of an object, and its status."""
     found = flows.flows(state, actors, o) if o in state.label else {}
@@ -47,34 +55,56 @@ def listed(state, actors, o):
     return text + (full(state) if o in state.label else ""), 0 if text else 4
 
 
+def script_of(state, actors, o, way):
+    """The lines of the script along a way: releases of all that is held, and then the requests that carry the content."""
+    freed, releases = futures.duplicate(state), futures.released(state)
+    freed.accesses.clear()
+    asked = [*releases, *flows.script(freed, actors, o, way)]
+    return "".join(f"{state.subject(s)} {words_of(state, action)}\n" for s, action in asked)
+
+
 def listed_to(state, actors, o, place):
     """What `flow` prints of an object and a place, and its status."""
     found = flows.flows(state, actors, o) if o in state.label else {}
-    text = line_of(state, o, place, found[place]) if place in found else "never\n"
+    text = line_of(state, o, place, found[place]) + script_of(state, actors, o, found[place]) if place in found else "never\n"
     return text + (full(state) if o in state.label else ""), 0 if place in found else 4
 
 
-# By hand, from POLICY.md's steps: ann and bob act in the standard start, of which nobody could write root.
+# By hand, from POLICY.md's steps: ann and bob act in the standard start, of which nobody could write root. bob reads memo at C; sec gives him append
+# of tool below root, and he appends at U.
+TOLD = "object tool: memo > bob (read) > tool (append), down\n"
+READS, APPENDS = "bob level C\nbob get-read memo\nbob release read memo\n", "bob level U\nbob get-append tool\nbob release append tool\n"
+PERMITS = "sec get-write root\nsec give append bob tool\nsec release write root\n"
 LISTED = [
     (STANDARD, "plans", "subject ann: plans > ann (read)\n", 0),
     (STANDARD, "memo", "subject bob: memo > bob (read)\n", 0),
     (STANDARD, "tool", "", 4),
     (STANDARD, "--by bob plans", "", 4),
-    (STANDARD, "--all memo", "subject bob: memo > bob (read)\nobject tool: memo > bob (read) > tool (append), down\n", 0),
+    (STANDARD, "--all memo", "subject bob: memo > bob (read)\n" + TOLD, 0),
     (STANDARD, "--without ann,sec tool", "subject bob: tool > bob (read)\nobject memo: tool > bob (read) > memo (append)\n", 0),
-    # one place: a subject, an object, and one that has the content from the beginning
-    (STANDARD, "plans ann", "subject ann: plans > ann (read)\n", 0),
+    # one place, with the script: a subject, and one that never comes to it
+    (STANDARD, "plans ann", "subject ann: plans > ann (read)\nann get-read plans\nann release read plans\n", 0),
     (STANDARD, "plans bob", "never\n", 4),
-    (STANDARD, "--all plans bob", "subject bob: plans > bob (read)\n", 0),
-    (STANDARD, "--all memo #3", "object tool: memo > bob (read) > tool (append), down\n", 0),
+    # sec gives, and lowers plans to U; root is as low
+    (STANDARD, "--all plans bob", "subject bob: plans > bob (read)\nsec get-write root\nsec give read bob plans\nsec release write root\n"
+     "sec relabel plans U\nbob get-read plans\nbob release read plans\n", 0),
+    # an object, behind two hands; what is permitted is got before anybody gives
+    (STANDARD, "--all memo #3", TOLD + READS + PERMITS + APPENDS, 0),
+    # what is held is released first, also for the one that has the content from the beginning, and by whom doesn't act
     (STANDARD, "plans plans", "object plans: plans\n", 0),
-    (STANDARD, "plans #4095", "never\n", 4),
-    (HELD, "plans ann", "subject ann: plans > ann (read)\n", 0),
+    (HELD, "plans plans", "object plans: plans\nann release read plans\n", 0),
+    (HELD, "plans ann", "subject ann: plans > ann (read)\nann release read plans\nann get-read plans\nann release read plans\n", 0),
+    (HELD, "--by bob memo bob", "subject bob: memo > bob (read)\nann release read plans\n" + READS, 0),
 ]
 # Of a start in which a subject has the name of an object, and one reads high and appends low.
 PEOPLE, PAPERS = ("ann", "log", "eve"), (("root", None, "U"), ("plans", "root", "C"), ("log", "root", "U"))
 MADE = "plans > ann (write) > a new object below plans (append) >"
 LOW = "object log: plans > ann (write) > log (append), down\n"
+# ann writes plans at C; she makes an object below it for the subject log, or appends to the object log at U.
+WRITES = "ann get-write plans\nann release write plans\n"
+HANDS = ("ann get-write plans\nann create plans C lo\nann give append ann #3\nann give read log #3\nann release write plans\n"
+         "ann get-append #3\nann release append #3\nlog get-read #3\nlog release read #3\n")
+LOWERS = "ann level U\nann get-append log\nann release append log\n"
 FULL = "full: no object could be made without a delete\n"
 
 
@@ -104,6 +134,14 @@ def flows_by_hand():
         answered([*parts[:count], start, *parts[count:]], text, status)
     same(ran_program(["flow", STANDARD, "#4095"]), (4, b"", b"mls: #4095: there is no such object\n"))
     same(ran_program(["flow", STANDARD, "#4095", "ann"]), (4, b"never\n", b"mls: #4095: there is no such object\n"))
+    same(ran_program(["flow", STANDARD, "plans", "#4095"]), (4, b"never\n", b"mls: #4095: there is no such object\n"))
+    same(ran_program(["flow", STANDARD, "#4095", "#4095"]), (4, b"never\n", b"mls: #4095: there is no such object\n"))
+    same(ran_program(["flow", STANDARD, "#4095", "#4094"]), (4, b"never\n", b"mls: #4095: there is no such object\nmls: #4094: there is no such object\n"))
+    # a subject that doesn't act is told, unless the word is an object's
+    for words, name in ((["plans", "sec"], "sec"), (["--by", "bob", "memo", "ann"], "ann"), (["--without", "ann", "plans", "ann"], "ann")):
+        same((words, *ran_program(["flow", *words[:-2], STANDARD, *words[-2:]])), (words, 4, b"never\n", idle(name).encode()))
+    same(ran_program(["flow", "--json", STANDARD, "plans", "sec"]), (4, b'{"answer":"never"}\n', idle("sec").encode()))
+    same(ran_program(["flow", STANDARD, "#4095", "sec"]), (4, b"never\n", idle("sec").encode() + b"mls: #4095: there is no such object\n"))
 
 
 def flows_to_what_has_two_names():
@@ -111,8 +149,8 @@ def flows_to_what_has_two_names():
     put("twice.json", twice())
     subjects = f"subject ann: plans > ann (write)\nsubject log: {MADE} log (read)\nsubject eve: {MADE} eve (read)\n"
     answered(["twice.json", "plans"], subjects + LOW, 0)
-    answered(["twice.json", "plans", "log"], f"subject log: {MADE} log (read)\n", 0)
-    answered(["twice.json", "--as-object", "plans", "log"], LOW, 0)
+    answered(["twice.json", "plans", "log"], f"subject log: {MADE} log (read)\n" + WRITES + HANDS, 0)
+    answered(["twice.json", "--as-object", "plans", "log"], LOW + WRITES + LOWERS, 0)
     answered(["twice.json", "--as-object", "--by", "log", "log", "plans"], "never\n", 4)
 
 
@@ -122,7 +160,7 @@ def flows_where_no_number_is_free():
         put("full.json", twice(profile, OBJECTS - len(PAPERS)))
         last = FULL if profile == 2 else ""
         answered(["full.json", "plans", "log"], "never\n" + last, 4)
-        answered(["full.json", "--as-object", "plans", "log"], LOW + last, 0)
+        answered(["full.json", "--as-object", "plans", "log"], LOW + WRITES + LOWERS + last, 0)
         eve = "subject eve: plans > ann (write) > log (append), down > eve (read)\n"
         answered(["full.json", "plans"], "subject ann: plans > ann (write)\n" + eve + LOW + last, 0)
 
@@ -130,9 +168,32 @@ def flows_where_no_number_is_free():
 def flows_from_a_state_of_a_journal():
     """What is given and taken away by a journal."""
     journal_of(STANDARD, b"sec get-write root\nsec give append bob tool\nsec rescind read bob memo\n", b"yes\nyes\nyes\n", "flow.journal")
-    for words, text, status in (("", "", 4), ("--at 1", "subject bob: memo > bob (read)\n", 0),
-                                ("--at 2", "subject bob: memo > bob (read)\nobject tool: memo > bob (read) > tool (append), down\n", 0)):
+    for words, text, status in (("", "", 4), ("--at 1", "subject bob: memo > bob (read)\n", 0), ("--at 2", "subject bob: memo > bob (read)\n" + TOLD, 0)):
         answered([*words.split(), "--journal", "flow.journal", STANDARD, "memo"], text, status)
+    answered(["--at", "2", "--journal", "flow.journal", STANDARD, "memo", "tool"], TOLD + "sec release write root\n" + READS + APPENDS, 0)
+
+
+def flows_through_a_number_that_is_used_again():
+    """A new object that has the number of a deleted one is named as START names that."""
+    data = json.loads(twice(2))
+    data["subjects"][1].update(maximum="U", current="U")
+    data["matrix"].append({"subject": "ann", "object": "root", "modes": ["write"]})
+    put("again.json", json.dumps(data).encode())
+    journal_of("again.json", b"ann level U\nann get-write root\nann delete log\n", b"yes\nyes\nyes\n", "again.journal")
+    line = "subject log: plans > ann (read) > a new object below root (append) > log (read)\n"
+    reads = "ann get-write root\nann give read ann plans\nann release write root\nann level C\nann get-read plans\nann release read plans\n"
+    makes = "ann level U\nann get-write root\nann create root U lo\nann give append ann log\nann give read log log\nann release write root\n"
+    hands = "ann get-append log\nann release append log\nlog get-read log\nlog release read log\n"
+    answered(["--journal", "again.journal", "again.json", "plans", "log"], line + "ann release write root\n" + reads + makes + hands, 0)
+
+
+def scripts_that_are_run():
+    """A script that FORMATS.md shows is answered yes line by line, and the object that it makes has the number that its lines say."""
+    (_, text), = shown_below("mls flow examples/office.json staff intern")
+    put("flow.script", "".join(text.splitlines(True)[1:]).encode())
+    answers = ["yes"] * 3 + ["created 6"] + ["yes"] * 8
+    told = "".join(f"{it}\n" for it in ["session 0", *answers, "entries 12", "secure yes"])
+    same(ran_program(["run", OFFICE, "flow.script"]), (0, told.encode(), b""))
 
 
 def faults_of_flows_in_their_order():
@@ -156,21 +217,63 @@ def words_that_ask_for_no_flow():
                    [*of, "bob", "ann"], ["--ever", *of])
 
 
+def carried_by_a_service(world, number, lines):
+    """The requests of a script, each granted by a service over a copy of the journal before an entry."""
+    put("flow.journal", lines_of(world.entries[:number]).encode())
+    status, output, error = ran_program(["serve", "--journal", "flow.journal", world.start], "".join(lines).encode())
+    same((status, error), (0, b""))
+    first, *answers = output.decode().splitlines()
+    same((first, len(answers)), (f"ready {number}", len(lines)))
+    assert all(it == "yes" or it.startswith("created ") for it in answers), (lines, answers)
+    with open("flow.journal", encoding="ascii") as file:
+        entries = list(map(entry_of, list(file)[number:]))
+    same([it.reply for it in entries], answers)
+    return [(it.subject, it.action) for it in entries]
+
+
+def brought_there(world, number, state, actors, o, place, lines):
+    """A script does what it is to: releases of just what is held, then requests of actors, which carry the content to a place, and
+    hold nothing in the end."""
+    asked, count = carried_by_a_service(world, number, lines), len(state.accesses)
+    same(asked[:count], futures.released(state))
+    freed = futures.duplicate(state)
+    freed.accesses.clear()
+    assert place in flows.arrived(freed, actors, o, asked[count:]) and not freed.accesses, (place, lines)
+
+
+def flows_to(world, number, state, words, actors, o, place):
+    """A place that is asked for, by its name or number, and the script that is printed."""
+    is_subject = place[0] == flows.SUBJECT
+    ends = [f"#{o}", state.subject(place[1]) if is_subject else f"#{place[1]}"]
+    files = [*([] if is_subject else ["--as-object"]), "--journal", world.journal, "--at", str(number), world.start]
+    text, status = listed_to(state, actors, o, place)
+    told = idle(ends[1]) if is_subject and place[1] not in actors else ""
+    missing = [it for it in dict.fromkeys([o, *([] if is_subject else [place[1]])]) if it not in state.label]
+    told += "".join(f"mls: #{it}: there is no such object\n" for it in missing)
+    same((words, ends, *ran_program(["flow", *words, *files, *ends])), (words, ends, status, text.encode(), told.encode()))
+    lines = [it for it in text.splitlines(True)[1:] if it != full(state)]
+    if lines:
+        brought_there(world, number, state, actors, o, place, lines)
+
+
 def flows_by_chance(world):
-    """Some objects of a random state, by some choice of actors, to each place and to one."""
+    """Over a random state and some choice of actors: of some objects to each place; and to one place, by a way through an object that is made where
+    there is one, by any way, and of any object to any place."""
     rnd = world.rnd
     number = rnd.randrange(len(world.entries) + 1)
     state = world.before(number)
-    files = ["--journal", world.journal, "--at", str(number), world.start]
-    for o in rnd.sample(sorted(state.label), min(3, len(state.label))):
-        words, actors = could_rows.chosen(rnd, state)
-        answered([*words, *files, f"#{o}"], *listed(state, actors, o))
-        s, to = rnd.choice(sorted(state.maximum)), rnd.choice(sorted({*state.label, 7}))
-        answered([*words, *files, f"#{o}", state.subject(s)], *listed_to(state, actors, o, (flows.SUBJECT, s)))
-        answered([*words, "--as-object", *files, f"#{o}", f"#{to}"], *listed_to(state, actors, o, (flows.OBJECT, to)))
+    words, actors = could_rows.chosen(rnd, state)
+    for o in rnd.sample(sorted(state.label), min(2, len(state.label))):
+        answered([*words, "--journal", world.journal, "--at", str(number), world.start, f"#{o}"], *listed(state, actors, o))
+    ways = {(o, place): way for o in sorted(state.label) for place, way in sorted(flows.flows(state, actors, o).items())}
+    made = [it for it, way in ways.items() if any(isinstance(hand, tuple) for _, hand in way)]
+    numbers = sorted({*state.label, 7})
+    every = [(flows.SUBJECT, s) for s in sorted(state.maximum)] + [(flows.OBJECT, it) for it in numbers]
+    for ends in (rnd.choice(made or [*ways]), rnd.choice([it for it, way in ways.items() if way] or [*ways]), (rnd.choice(numbers), rnd.choice(every))):
+        flows_to(world, number, state, words, actors, *ends)
 
 
 CHECKS = [*map(in_its_folder, [flows_in_the_documents, flows_by_hand, flows_to_what_has_two_names, flows_where_no_number_is_free,
-           flows_from_a_state_of_a_journal, faults_of_flows_in_their_order, words_that_ask_for_no_flow, ])]
+           flows_from_a_state_of_a_journal, flows_through_a_number_that_is_used_again, scripts_that_are_run, faults_of_flows_in_their_order, words_that_ask_for_no_flow, ])]
 # (it is asked of random states)
 OF_WORLDS = [flows_by_chance]

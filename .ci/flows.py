@@ -1,8 +1,9 @@
 """Where the content of an object could flow, in Python from docs/POLICY.md ("Where content could flow"): by a fixpoint over all subjects and
-objects, and the requests along which it goes. Run by itself it tries both against the rules: `.ci/flows.py [SEED [WORLDS]]`."""
+objects; and the requests that carry it there, from docs/FORMATS.md ("flow"). Run by itself it tries both against the rules:
+`.ci/flows.py [SEED [WORLDS]]`."""
 import random
 import sys
-from collections import deque
+from collections import Counter, deque
 
 import futures
 from closures import WRITE, closure
@@ -50,6 +51,44 @@ def flows(state, actors, o):
     return found
 
 
+def script(state, actors, o, way):
+    """Requests that carry content of an object along a way where nothing is held; the state is changed as they say."""
+    asked = []
+
+    def ask(s, *action):
+        assert state.grants(s, action), (s, action, state.decide(s, action))
+        state.apply(s, action)
+        asked.append((s, action))
+
+    def bring(s, p, x):
+        asked.extend(futures.script(state, actors, closure(state, actors)[0], s, p, x))
+
+    def carry(s, p, x):
+        bring(s, p, x)
+        ask(s, "release", x, p)
+
+    def hand_on(s, t, by, p):
+        bring(by, p, WRITE)
+        new = state.next
+        ask(by, "create", p, state.label[p], state.own[t])
+        ask(by, "give", APPEND, s, new)
+        ask(by, "give", READ, t, new)
+        ask(by, "release", WRITE, p)
+        carry(s, new, APPEND)
+        carry(t, new, READ)
+
+    before = OBJECT, o
+    for place, hand in way:
+        if isinstance(hand, tuple):
+            hand_on(before[1], place[1], *hand)
+        elif place[0] == SUBJECT:
+            carry(place[1], before[1], hand)
+        else:
+            carry(before[1], place[1], hand)
+        before = place
+    return asked
+
+
 # What follows tries these answers.
 
 
@@ -81,59 +120,34 @@ def walk(rnd, state, actors, o, steps):
         assert all(it in found for it in tainted if it[0] == SUBJECT or it[1] in old), (sorted(tainted), sorted(found))
 
 
-def brought(state, actors, path, o):
-    """The requests along a path, each granted; the content is at its end."""
+def arrived(state, actors, o, asked):
+    """The places that have the content of an object after requests of actors, each granted, of which none deletes; it is in that object alone at
+    first. The state is changed as they say."""
+    tainted = spread(state, actors, {(OBJECT, o)})
+    for s, action in asked:
+        assert s in actors and action[0] != "delete" and state.grants(s, action), (s, action, state.decide(s, action))
+        tainted = carried(state, actors, tainted, s, action)
+    return tainted
+
+
+def brought(state, actors, o, way):
+    """The script along a way carries the content to its end. Its requests."""
     for request in futures.released(state):
         assert state.apply(*request) == "yes"
-    tainted = {(OBJECT, o)}
-
-    def held(s, p, x):
-        nonlocal tainted
-        could = closure(state, actors)[0]
-        for request in futures.script(state, actors, could, s, p, x):
-            pass
-        tainted = spread(state, actors, tainted)
-
-    def asks(s, *action):
-        nonlocal tainted
-        reply = state.decide(s, action)
-        assert reply == "yes" or reply.startswith("created"), (s, action, reply)
-        tainted = carried(state, actors, tainted, s, action)
-
-    def released():
-        for request in futures.released(state):
-            asks(request[0], *request[1])
-
-    before = OBJECT, o
-    for place, hand in path:
-        if before[0] == OBJECT:
-            held(place[1], before[1], hand)
-        elif place[0] == OBJECT:
-            held(before[1], place[1], hand)
-        else:
-            s, p = hand
-            held(s, p, WRITE)
-            new = state.next
-            asks(s, "create", p, state.label[p], state.own[place[1]])
-            asks(s, "give", APPEND, before[1], new)
-            asks(s, "give", READ, place[1], new)
-            released()
-            held(before[1], new, APPEND)
-            released()
-            held(place[1], new, READ)
-        released()
-        assert place in tainted, (place, sorted(tainted))
-        before = place
+    asked = script(futures.duplicate(state), actors, o, way)
+    tainted = arrived(state, actors, o, asked)
+    assert not state.accesses and {(OBJECT, o), *(place for place, _ in way)} <= tainted, (way, sorted(tainted))
+    return asked
 
 
 def main(seed=1, worlds=300):
-    rnd, counts = random.Random(int(seed)), [0] * 4
+    rnd, counts, words = random.Random(int(seed)), [0] * 4, Counter()
     for _ in range(int(worlds)):
         state, actors = futures.world(rnd)
         for o in sorted(state.label):
             found = flows(state, actors, o)
-            for place, path in found.items():
-                brought(futures.duplicate(state), actors, path, o)
+            for way in found.values():
+                words.update(action[0] for _, action in brought(futures.duplicate(state), actors, o, way))
             counts[0] += len(found) - 1
             counts[1] += sum(any(isinstance(hand, tuple) for _, hand in path) for path in found.values())
             counts[2] += len(state.maximum) + len(state.label) - len(found)
@@ -143,7 +157,7 @@ def main(seed=1, worlds=300):
                     state.accesses -= state.accesses if fresh else set()
                     walk(rnd, futures.duplicate(state), actors, o, 150)
     print(f"{worlds} worlds: content could reach {counts[0]} places, {counts[1]} of them through an object that is made; {counts[2]} it never could; "
-          f"{counts[3]} hands on the longest ways")
+          f"{counts[3]} hands on the longest ways; the requests: {', '.join(f'{count} {it}' for it, count in sorted(words.items()))}")
 
 
 if __name__ == "__main__":

@@ -14,6 +14,12 @@ def released(state):
     return [(s, ("release", x, o)) for s, o, x in sorted(state.accesses)]
 
 
+def giver_of(state, actors, could, o):
+    """Who gives permissions of an object: the first of those who could, or of those among them that are permitted write of its parent."""
+    some = givers(state, actors, could, o)
+    return min({it for it in some if o and (it, state.parent[o], WRITE) in state.matrix} or some)
+
+
 def script(state, actors, could, s, o, x):
     """Requests that bring an access about where nothing is held, as (s, o, x) in `could` says; the state is changed as they say."""
     asked = []
@@ -23,7 +29,7 @@ def script(state, actors, could, s, o, x):
         assert state.apply(*request) == "yes", (request, state.decide(*request))
 
     if (s, o, x) not in state.matrix:
-        giver = min(givers(state, actors, could, o))
+        giver = giver_of(state, actors, could, o)
         if o:
             asked += script(state, actors, could, giver, state.parent[o], WRITE)
         ask(giver, ("give", x, s, o))

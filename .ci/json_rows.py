@@ -77,7 +77,7 @@ def explain_lines(row, subject):
     if "instead" in row:
         steps.append(f"{step_words(row['instead'])} instead")
     if "none" in row:
-        steps.append({"level": lambda: "none by level", "request": lambda: "none", "giver": lambda: f"none now: nobody {gives(row['lacks'])}"}[row["none"]]())
+        steps.append({"level": lambda: "none by level", "request": lambda: "none found", "giver": lambda: f"none now: nobody {gives(row['lacks'])}"}[row["none"]]())
     return "".join([*lines, *(f"remedy: {it}\n" for it in steps)])
 
 
@@ -114,7 +114,7 @@ def ever_line(row):
     """A subject and a mode, and the spans in which the get would be granted."""
     begin = lambda span: "start" if span["begin"] is None else at(span, "begin")
     spans = [f"{begin(it)} " + ("on" if it["end"] is None else f"to {at(it, 'end')}") for it in row["spans"]]
-    return f"{named(row, 'subject')} {row['mode']}: {', '.join(spans) or 'never'}\n"
+    return f"{named(row, 'subject')} {row['mode']}: {', '.join(spans) or 'in no state'}\n"
 
 
 def future_line(row):
@@ -139,7 +139,9 @@ def hand_text(row):
 
 
 def flow_line(row):
-    """A way to a place; or that there is none, or that none could go through a new object."""
+    """A way to a place; a request of the script; or that there is no way, or that none could go through a new object."""
+    if "action" in row:
+        return f"{asked(row)}\n"
     if "answer" in row:
         return {"never": "never\n", "full": "full: no object could be made without a delete\n"}[row["answer"]]
     kind = "subject" if "subject" in row or "subject_name" in row else "object"
@@ -492,6 +494,8 @@ def objects_of_each_form():
         put("held.marks", marks.text_of(marks.made(OPENED, ends, TIMES[: len(ends)])))
         for command in ("held", "usage"):
             told(command, [command, "--marks", "held.marks", f"{EXAMPLES}/held.json", "held.journal"])
+    for words in ([f"{EXAMPLES}/office.json", "staff", "intern"], ["--all", STANDARD, "plans", "bob"], [f"{EXAMPLES}/held.json", "plans", "plans"]):
+        told("flow", ["flow", *words])
     for name in ("bob", "aud", "sec", "plans", "#4", "#5", "#6"):
         for more in ([], ["--marks", "about.marks"]):
             told("about", ["about", "--journal", "about.journal", *more, STANDARD, name])
@@ -554,7 +558,7 @@ def words_that_do_not_fit():
                   ["lattice", "--json", STANDARD], ["replay", "--json", STANDARD, "empty.journal"], ["check", "--json", "--json", STANDARD]):
         status, output, error = ran_program(words)
         same((words, status, output, bool(error)), (words, 2, b"", True))
-    same(ran_program(["ask", "--json", STANDARD, "bob frob"]), (1, b"", b"mls: line: bad form\n"))
+    same(ran_program(["ask", "--json", STANDARD, "bob frob"]), (1, b"", b"mls: line: bad form: mls ask --help has the forms\n"))
     same(ran_program(["journal", "--summary", "--json", STANDARD, "empty.journal"]), (4, b'{"entries":0}\n', b""))
 
 

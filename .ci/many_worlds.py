@@ -1,6 +1,6 @@
 """What is asked of many random worlds, each with a short journal, as the policy in Python answers: who could get what, and which releases and level
-that takes; why each entry has its reply, whether by trust, and what would help; and what could ever come about, of which each script is fed to a
-service, and where content could flow. A start without what was never granted, and what another start breaks, are in asked_worlds.py."""
+that takes; why each entry has its reply, whether by trust, and what would help; and what could ever come about, and where content could flow,
+where each script is fed to a service. A start without what was never granted, and what another start breaks, are in asked_worlds.py."""
 import could_rows
 import flow_rows
 import question_texts as texts
@@ -28,7 +28,7 @@ def remedies_and_trust_over_many_worlds(world):
 
 def futures_over_many_worlds(world):
     """Of an object of a state, and of some accesses of the last one, whether they could come about, by a script where they could; and where the
-    content of objects could flow."""
+    content of objects could flow, by a script, too."""
     could_rows.could_by_chance(world)
     script_could_rows.scripts_by_chance(world)
     flow_rows.flows_by_chance(world)

@@ -189,6 +189,23 @@ def grid_of(part):
     return titles_of(part)[1:], {it[0]: it[1:] for it in rows_of(part)[0]}
 
 
+def hands_of(part):
+    """The objects and subjects that are drawn; the pairs of an object and a subject that sees it, and of a subject and an object that it alters,
+    by their places; and those of the latter that go down."""
+    texts = {kind: [it.text() for it in part.all("text") if it.attributes["class"] == kind] for kind in ("from", "label", "to")}
+    assert texts["from"] == texts["to"], texts
+    place = lambda y: (int(y) - 20) // 26
+    pairs = {"seen": set(), "altered": set(), "down": set()}
+    for it in part.all("path"):
+        x, y, u, v = re.fullmatch(r"M(\d+) (\d+)L(\d+) (\d+)", it.attributes["d"]).groups()
+        kind = {("200", "280"): "seen", ("480", "560"): "altered"}[x, u]
+        pairs[kind].add((place(y), place(v)))
+        if has_class(it, "down"):
+            assert kind == "altered"
+            pairs["down"].add((place(y), place(v)))
+    return texts["from"], texts["label"], pairs
+
+
 def beside(part):
     """How many objects and subjects a grid doesn't have, by the line that tells it."""
     found = [it.text() for it in part.all("p") if has_class(it, "more")]

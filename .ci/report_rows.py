@@ -14,13 +14,13 @@ from asking import GONE, HELD, OPENED, STANDARD, asks, put_faulty, put_marks
 from browsing import CHROMIUM, pages_in_a_browser
 from outside import EXAMPLES, examples, in_its_folder, put, ran_program, same
 from pages import (
-    appendix, bar_of, beside, columns_of, drawn, grid_of, lattice_lines, more, page_of, rows_of, section, stretches_of, tables,
+    appendix, bar_of, beside, columns_of, drawn, grid_of, hands_of, lattice_lines, more, page_of, rows_of, section, stretches_of, tables,
     titles_of,
 )
-from policy import MODES, REASONS, State
+from policy import MODES, REASONS, State, dominates
 from time_rows import marks_by_chance
 
-SHOWN, LISTED, WEEKS, PARTS, DRAWN, ACROSS = 40, 2_000, 106, 24, 60, 20
+SHOWN, LISTED, WEEKS, PARTS, DRAWN, ACROSS, HANDS = 40, 2_000, 106, 24, 60, 20, 12
 TIME = b"2026-11-27T11:12:26.736512Z"
 NEVER = "\u00b7" * 4
 
@@ -294,6 +294,17 @@ def grid_agrees(page, seen):
                          {state.object(o): [signs[s, o] for s in subjects[:ACROSS]] for o in objects[:SHOWN]}))
     same(list(grid_of(part)[1]), [state.object(o) for o in objects[:SHOWN]])
     same(beside(part), (max(0, len(objects) - SHOWN), max(0, len(subjects) - ACROSS)))
+    hands_agree(part, state, signs, subjects[:HANDS], objects[:HANDS])
+
+
+def hands_agree(part, state, signs, subjects, objects):
+    """The drawing has a line of each of these objects to each subject that sees it, or could, and of each subject to what it alters, or could."""
+    could = lambda s, o, modes: any(signs[s, o][it] != "\u00b7" for it in modes)
+    seen = {(i, j) for i, o in enumerate(objects) for j, s in enumerate(subjects) if could(s, o, (1, 3))}
+    altered = {(j, i) for i, o in enumerate(objects) for j, s in enumerate(subjects) if could(s, o, (2, 3))}
+    down = {(j, i) for j, i in altered if any(not dominates(state.label[objects[i]], state.label[objects[k]]) for k, at in seen if at == j)}
+    cut = lambda names: [it if len(it) <= 28 else it[:28] + "\u2026" for it in names]
+    same(hands_of(part), (cut(map(state.object, objects)), cut(map(state.subject, subjects)), {"seen": seen, "altered": altered, "down": down}))
 
 
 WORDS = {"\u00b7": "never", "+": "could"} | {it: "could" for it in "eraw"} | {it: "held" for it in "ERAW"}

@@ -1,11 +1,12 @@
 -- Ways among the places that were found are shortest ways over the closure.
-use Rattle.std.proofs.Common.{◌≡◌, ◌↔◌, ℕ, zero, suc, ◌+◌, ◌-◌, ◌<◌, ◌≤◌, Bool, true, false, nat_lt, List, [], ◌∷◌, ◌++◌, get_or, Option, Some, None, is_some, refl, sym, ap, subst, ◌∙◌, arith}
+use Rattle.std.proofs.Common.{◌≡◌, ℕ, suc, ◌+◌, ◌-◌, ◌<◌, ◌≤◌, Bool, true, false, nat_lt, List, [], ◌∷◌, ◌++◌, get_or, Option, Some, None, is_some, refl, sym, ap, subst, ◌∙◌, arith}
 use Rattle.std.specs.Prelude.{IfNone, IfSome, option_map, if◌then◌else◌}
 use Rattle.std.specs.FinMap as map
 use Rattle.std.proofs.lemmas.Bool.{and_parts}
 use Rattle.std.proofs.lemmas.Bool.Decides.{nat_tests}
 use Rattle.mls_labels.specs.Label.{Label}
 use Rattle.mls_tables.specs.declared.limits.TheConstants.{MAX_SUBJECTS, MAX_OBJECTS}
+use Rattle.mls_requests.specs.declared.request.Request.{Request}
 use Rattle.mls_lines.specs.Names.{Names}
 use Rattle.mls_state.specs.State.{State, is_subject, is_active, is_above}
 use Rattle.mls_state.specs.Properties.{HasTree, HasWholeTables}
@@ -16,7 +17,7 @@ use Rattle.mls_flows.specs.declared.place.Place.TheVariants.{Subject, Object}
 use Rattle.mls_paths.specs.Found.{ComesIn, here, on, IsFlow, IsThere}
 use Rattle.mls_paths.specs.Hands.{IsHand, has_room}
 use Rattle.mls_paths.specs.Numbering.{place_of}
-use Rattle.mls_paths.specs.Ways.{LeadsOn, IsWayTo}
+use Rattle.mls_paths.specs.Ways.{LeadsOn, IsShortest, IsWayTo}
 use Rattle.mls_paths.specs.declared.numbering.TheConstants.{PLACES}
 use Rattle.mls_paths.specs.declared.reached.Hand.{Hand}
 use Rattle.mls_paths.specs.declared.reached.Hop.{Hop}
@@ -26,7 +27,8 @@ use Rattle.mls_rows.specs.Rows.{bytes_of, form_of}
 use Rattle.mls_rows.specs.declared.form.Form.{Form}
 use Rattle.mls_rows.specs.declared.output.Output.{Output}
 use Rattle.mls_flow_text.specs.Endings.{full_bytes}
-use Rattle.mls_flow_text.specs.Flows.{IsWay, RowsOfActive, RowsOfActiveTo}
+use Rattle.mls_shared_rows.specs.Requests.{requests_bytes}
+use Rattle.mls_flow_text.specs.Flows.{IsWay, DoesWay, RowsOfActive, RowsOfActiveTo}
 use Rattle.mls_flow_text.specs.Routes.{way_or_never}
 use Rattle.mls_flow_text.specs.Ways.{IsFound, AreFound}
 use Rattle.mls_flow_text.specs.declared.visiting.Written.{Written}
@@ -117,13 +119,33 @@ some_way items (Some hops) = refl
 
 -- the row of one way
 pub rows_active_to : {V : Type 0} (names : Names) (form : Form) (v : State) (acts : ℕ → Bool) (from : ℕ) (to : Place) (found : List Reached) (items : V → List Hop)
-    (way : Option V) (output : Output) (bytes : List ℕ) (positive : Bool) → IsFlow (IsHand v acts (has_room v)) (Object from) found
-    → IfNone way (IsThere found to → ⊥) → IfSome way (λ hops. IsWayTo found to (items hops)) → form_of output ≡ form
-    → bytes_of output ≡ way_or_never names form v from to (option_map items way) → bytes ≡ bytes_of output ++ full_bytes (form_of output) v
-    → positive ≡ is_some way → RowsOfActiveTo names v acts from to form bytes positive
-rows_active_to names form v acts from to found items way output bytes positive flow none some is first both is_positive = record {
-  way = option_map items way;
-  right = is_way v acts from found flow to (option_map items way) (found_way found to items way none some);
-  bytes = both ∙ (λ i. first i ++ full_bytes (is i) v);
-  some = is_positive ∙ sym (some_way items way);
-}
+    (way : Option V) (releases requests : List Request) (first second third : Output) (bytes : List ℕ) (positive : Bool) → IsFlow (IsHand v acts (has_room v)) (Object from) found
+    → IfNone way (IsThere found to → ⊥) → IfSome way (λ hops. IsWayTo found to (items hops)) → DoesWay v acts from to (option_map items way) releases requests
+    → form_of first ≡ form → bytes_of first ≡ way_or_never names form v from to (option_map items way)
+    → form_of second ≡ form_of first → bytes_of second ≡ bytes_of first ++ requests_bytes names (form_of first) releases
+    → form_of third ≡ form_of second → bytes_of third ≡ bytes_of second ++ requests_bytes names (form_of second) requests
+    → bytes ≡ bytes_of third ++ full_bytes (form_of third) v → positive ≡ is_some way → RowsOfActiveTo names v acts from to form bytes positive
+rows_active_to names form v acts from to found items way releases requests first second third bytes positive flow none some does form1 bytes1 form2 bytes2 form3 bytes3 both
+    is_positive = record {
+      way = option_map items way;
+      right = is_way v acts from found flow to (option_map items way) (found_way found to items way none some);
+      releases = releases;
+      requests = requests;
+      does = does;
+      bytes = both ∙ (λ i. bytes_in_third i ++ full_bytes (form_in_third i) v);
+      some = is_positive ∙ sym (some_way items way);
+    } where
+      form_in_third : form_of third ≡ form
+      form_in_third = form3 ∙ form2 ∙ form1
+
+      bytes_in_third : bytes_of third
+          ≡ (way_or_never names form v from to (option_map items way) ++ requests_bytes names form releases) ++ requests_bytes names form requests
+      bytes_in_third =
+          bytes3 ∙ (λ i. (bytes2 ∙ (λ j. bytes1 j ++ requests_bytes names (form1 j) releases)) i ++ requests_bytes names ((form2 ∙ form1) i) requests)
+
+-- a shortest way is one among those that were found
+pub shortest_found : {V : Type 0} (v : State) (acts : ℕ → Bool) (from : ℕ) (to : Place) (found : List Reached) (items : V → List Hop) (way : Option V)
+    → IsFlow (IsHand v acts (has_room v)) (Object from) found → IfSome way (λ hops. IsWayTo found to (items hops))
+    → IfSome way (λ hops. IsShortest (IsHand v acts (has_room v)) (Object from) (items hops) to)
+shortest_found v acts from to found items None flow some = tt
+shortest_found v acts from to found items (Some hops) flow some = some v acts (has_room v) (Object from) flow

@@ -1,5 +1,5 @@
 -- What is so of what is seen of files is so of these.
-use Rattle.std.proofs.Common.{◌≡◌, Result, Ok, Err, refl}
+use Rattle.std.proofs.Common.{Result, Ok, Err, refl}
 use Rattle.std.specs.Prelude.{IfOk, IfErr}
 use Rattle.mls_seen.specs.Files.{Seen, SeesFiles, SeesThat}
 

@@ -1,6 +1,5 @@
 -- Ways to places, one after the other.
-use Rattle.std.proofs.Common.{◌≡◌, ◌<◌, ◌||◌, ℕ, ◌+◌, Bool, true, false, List, [], ◌∷◌, ◌++◌, map, All, Option, Some, None, length, refl, sym, ap, ◌∙◌, append-nil, arith}
-use Rattle.std.specs.List.{flat_map, list_any, range_with_len}
+use Rattle.std.proofs.Common.{◌≡◌, ◌||◌, ℕ, ◌+◌, Bool, true, false, List, [], ◌∷◌, ◌++◌, Some, None, length, refl, sym, ap, ◌∙◌, append-nil, arith}
 use Rattle.std.proofs.Math.Bool.{or-false}
 use Rattle.std.proofs.lemmas.Grind.{flat_map-append}
 use Rattle.std.proofs.lemmas.List.{map-append}
@@ -18,7 +17,7 @@ use Rattle.mls_paths.specs.declared.reached.Reached.{Reached}
 use Rattle.mls_rows.specs.Rows.{bytes_of, form_of}
 use Rattle.mls_rows.specs.declared.form.Form.{Form}
 use Rattle.mls_flow_text.specs.Routes.{has_row, route_bytes, way_bytes}
-use Rattle.mls_flow_text.specs.Ways.{Way, IsFound, places, ways_bytes, any_row, AddsPlace, AreFound}
+use Rattle.mls_flow_text.specs.Ways.{Way, IsFound, ways_bytes, any_row, AddsPlace, AreFound}
 use Rattle.mls_flow_text.specs.declared.visiting.Written.{Written}
 
 module _ (names : Names) (v : State) (from : ℕ) (found : List Reached) where

@@ -1,7 +1,10 @@
 -- Answers where content of an object could flow, in their forms.
 use Rattle.std.specs.Prelude.{◌≡◌, ◌<◌, ℕ, Bool, true, false, is_some, List, [], ◌++◌, map, All, Option, Some, None}
+use Rattle.mls_requests.specs.declared.request.Request.{Request}
 use Rattle.mls_lines.specs.Names.{Names}
 use Rattle.mls_state.specs.State.{State, is_active}
+use Rattle.mls_futures.specs.Futures.{HasLabelsWithin}
+use Rattle.mls_flows.specs.Arriving.{HasIntegrityWithin}
 use Rattle.mls_flows.specs.Reaching.{CouldReach}
 use Rattle.mls_flows.specs.declared.place.Place.{Place}
 use Rattle.mls_flows.specs.declared.place.Place.TheVariants.{Object}
@@ -10,7 +13,9 @@ use Rattle.mls_paths.specs.Numbering.{place_of}
 use Rattle.mls_paths.specs.Ways.{IsShortest}
 use Rattle.mls_paths.specs.declared.numbering.TheConstants.{PLACES}
 use Rattle.mls_paths.specs.declared.reached.Hop.{Hop}
+use Rattle.mls_flow_ways.specs.Scripts.{CarriesContent}
 use Rattle.mls_rows.specs.declared.form.Form.{Form}
+use Rattle.mls_shared_rows.specs.Requests.{requests_bytes}
 use Rattle.mls_flow_text.specs.Endings.{full_bytes, never_bytes}
 use Rattle.mls_flow_text.specs.Routes.{way_or_never}
 use Rattle.mls_flow_text.specs.Ways.{Way, any_row, places, ways_bytes}
@@ -44,13 +49,24 @@ abbrev pub RowsOfFlows : Names → State → (ℕ → Bool) → ℕ → Form →
 RowsOfFlows names v acts from form told positive =
     RowsWhether (is_active v from) names v acts from form told positive
 
--- The bytes of an answer and whether it is positive tell whether content of an active object could flow to a place, and
--- by which way. (own)
+-- Releases and requests carry content of an object to a place, where there is a way; that supposes that the labels are
+-- within the bounds, as those of all states are to which journals lead. Where there is no way, there are none. (own)
+abbrev pub DoesWay : State → (ℕ → Bool) → ℕ → Place → Option (List Hop) → List Request → List Request → Type 0
+DoesWay v acts from to None releases requests = (releases ≡ []) × (requests ≡ [])
+DoesWay v acts from to (Some hops) releases requests =
+    HasLabelsWithin v → HasIntegrityWithin v → CarriesContent v acts (Object from) to releases requests
+
+-- The bytes of an answer and whether it is positive tell whether content of an active object could flow to a place, by
+-- which way, and which script carries it there. (own)
 pub record RowsOfActiveTo (names : Names) (v : State) (acts : ℕ → Bool) (from : ℕ) (to : Place) (form : Form)
     (told : List ℕ) (positive : Bool) : Type 0 where
   pub way : Option (List Hop)
   pub right : IsWay v acts from to way
-  pub bytes : told ≡ way_or_never names form v from to way ++ full_bytes form v
+  pub releases : List Request
+  pub requests : List Request
+  pub does : DoesWay v acts from to way releases requests
+  pub bytes : told ≡ way_or_never names form v from to way ++ requests_bytes names form releases
+      ++ requests_bytes names form requests ++ full_bytes form v
   pub some : positive ≡ is_some way
 
 -- The same of an object that is active or isn't; from one that isn't content never flows. (own)

@@ -1,4 +1,5 @@
-//! What the question flow is answered: where content of an object could flow, each place with a shortest way.
+//! What the question flow is answered: where content of an object could flow, each place with a shortest way, and the
+//! script that carries it to one.
 #![tactic(auto)]
 
 mod ending;

@@ -68,7 +68,7 @@ in_grown acts v w f (Object o) there = f.active o there
 pub bounds_still : (v : State) (r : Request) → (after v r).integrity ≡ v.integrity
 bounds_still v r = ap (λ (f : Fixed). f.4) (after_fixed v r)
 
-script_bounds : (acts : ℕ → Bool) (v w : State) → Script acts v w → w.integrity ≡ v.integrity
+pub script_bounds : (acts : ℕ → Bool) (v w : State) → Script acts v w → w.integrity ≡ v.integrity
 script_bounds acts v w done = refl
 script_bounds acts v w (asks r actor grant keeps rest) = script_bounds acts (after v r) w rest ∙ bounds_still v r
 
@@ -87,7 +87,7 @@ change_next v s (Delete o) h known is_yes keeps =
 change_next v s (SubjectLevel l) h known is_yes keeps = refl
 change_next v s (ObjectLevel o l) h known is_yes keeps = refl
 
-after_next : (v : State) (r : Request) → HasTree v → reply v r ≡ Yes → ((o : ℕ) → is_active v o ≡ true → is_active (after v r) o ≡ true) → (after v r).next ≡ v.next
+pub after_next : (v : State) (r : Request) → HasTree v → reply v r ≡ Yes → ((o : ℕ) → is_active v o ≡ true → is_active (after v r) o ≡ true) → (after v r).next ≡ v.next
 after_next v r h is_yes keeps =
     let grant : is_grant (reply v r) ≡ true = ap is_grant is_yes in
     let told = granted_from v r grant in

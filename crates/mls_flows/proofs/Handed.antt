@@ -25,6 +25,7 @@ use Rattle.mls_futures.specs.Futures.{HasLabelsWithin, HoldsNothing}
 use Rattle.mls_futures.proofs.Laws.{HoldsOnly, TrustedKnown, IsStep, give, release, to_give, to_release, parent_controls, trusted_still, label_there, got_qualifies, within_insert}
 use Rattle.mls_flows.specs.Arriving.{was, saw, left, IsAt, HasIntegrityWithin}
 use Rattle.mls_flows.specs.Reaching.{CouldHand}
+pub use Rattle.mls_flows.specs.Ways.{IsBetween}
 use Rattle.mls_flows.specs.declared.place.Place.{Place}
 use Rattle.mls_flows.specs.declared.place.Place.TheVariants.{Subject, Object}
 use Rattle.mls_flows.proofs.Before.{IsIn}
@@ -45,25 +46,17 @@ subjects_grown acts v w f k = record {
 }
 
 -- what is dominated is there
-below_there : (a b : Option Label) → is_above a b ≡ true → is_some b ≡ true
+pub below_there : (a b : Option Label) → is_above a b ≡ true → is_some b ≡ true
 below_there (Some a) (Some b) above = refl
 below_there (Some a) None above = cc
 below_there None b above = cc
 
-above_there : (a b : Option Label) → is_above a b ≡ true → is_some a ≡ true
+pub above_there : (a b : Option Label) → is_above a b ≡ true → is_some a ≡ true
 above_there (Some a) (Some b) above = refl
 above_there (Some a) None above = cc
 above_there None b above = cc
 
--- an object is below another one, and through it a subject could hand content to another one, as far as labels go
-pub record IsBetween (acts : ℕ → Bool) (s t n p : ℕ) (w : State) : Type 0 where
-  pub active : is_active w n ≡ true
-  pub parent : map.get w.parent n ≡ Some p
-  pub above : is_above (map.get w.subject_integrity s) (map.get w.object_integrity n) ≡ true
-  pub below : is_above (map.get w.object_integrity n) (map.get w.subject_integrity t) ≡ true
-  pub cleared : (is_above (map.get w.maximum t) (map.get w.object_label n) ≡ true) ⊎ HasTrusted w acts
-
-between_grown : (acts : ℕ → Bool) (s t n p : ℕ) (v w : State) → Grown acts v w → IsBetween acts s t n p v → IsBetween acts s t n p w
+pub between_grown : (acts : ℕ → Bool) (s t n p : ℕ) (v w : State) → Grown acts v w → IsBetween acts s t n p v → IsBetween acts s t n p w
 between_grown acts s t n p v w f b = record {
   active = f.active n b.active;
   parent = f.parent n b.active ∙ b.parent;
@@ -88,7 +81,7 @@ module _ (acts : ℕ → Bool) (s t maker p n : ℕ) (hands : acts s ≡ true) (
     pub making : is_subject w maker ≡ true
     pub between : IsBetween acts s t n p w
 
-  well_grown : (v w : State) → Grown acts v w → IsSecure w → HasLabelsWithin w → IsWell v → IsWell w
+  pub well_grown : (v w : State) → Grown acts v w → IsSecure w → HasLabelsWithin w → IsWell v → IsWell w
   well_grown v w f h within k = record {
     secure = h;
     within = within;
@@ -99,7 +92,7 @@ module _ (acts : ℕ → Bool) (s t maker p n : ℕ) (hands : acts s ≡ true) (
     between = between_grown acts s t n p v w f k.between;
   }
 
-  could_append : (w : State) → IsWell w → set.contains w.matrix (s, n, Append) ≡ true → CouldGet w acts s n Append
+  pub could_append : (w : State) → IsWell w → set.contains w.matrix (s, n, Append) ≡ true → CouldGet w acts s n Append
   could_append w k has = permitted has (record {
     actor = hands;
     known = and_from (is_subject w s) (is_active w n) k.giver k.between.active;
@@ -107,7 +100,7 @@ module _ (acts : ℕ → Bool) (s t maker p n : ℕ) (hands : acts s ≡ true) (
     simple = inl refl;
   })
 
-  could_read : (w : State) → IsWell w → set.contains w.matrix (t, n, Read) ≡ true → CouldGet w acts t n Read
+  pub could_read : (w : State) → IsWell w → set.contains w.matrix (t, n, Read) ≡ true → CouldGet w acts t n Read
   could_read w k has = permitted has (record {
     actor = takes;
     known = and_from (is_subject w t) (is_active w n) k.taker k.between.active;
@@ -140,7 +133,7 @@ module _ (acts : ℕ → Bool) (s t maker p n : ℕ) (hands : acts s ≡ true) (
       (by_one acts w (release maker p Write) HoldsNothing (Subject s) k.secure tt (to_release acts w k.secure k.within maker p Write makes k.making active only)))
       (λ u f h within free. by_appending u (well_grown w u f h within k) free (f.matrix (s, n, Append) appends) (f.matrix (t, n, Read) reads))
 
-  controls_it : (w : State) → IsWell w → HoldsOnly (maker, p, Write) w → controls w maker n ≡ true
+  pub controls_it : (w : State) → IsWell w → HoldsOnly (maker, p, Write) w → controls w maker n ≡ true
   controls_it w k only = parent_controls w maker n p k.secure k.between.parent (only (maker, p, Write) ∙ is_triple-itself (maker, p, Write))
 
   -- both permissions are given before
@@ -183,11 +176,11 @@ module _ (acts : ℕ → Bool) (w : State) (maker p : ℕ) (l i : Label) (h : Is
     (ap (is_above (Some l)) label ∙ reflexive l, (fits, (room, tt))),
   )
 
-  grant : is_grant (reply w asked) ≡ true
-  grant = ap is_grant (grants w asked defined holds)
+  pub grant_made : is_grant (reply w (creates maker p l i)) ≡ true
+  grant_made = ap is_grant (grants w asked defined holds)
 
-  pub is_made : after w asked ≡ with_object w p l i
-  is_made = after_grant w asked grant
+  pub is_made : after w (creates maker p l i) ≡ with_object w p l i
+  is_made = after_grant w asked grant_made
 
   other : (o : ℕ) → is_active w o ≡ true → nat_eq o w.next ≡ false
   other o there = not_new w o h.tree there room
@@ -208,22 +201,31 @@ module _ (acts : ℕ → Bool) (w : State) (maker p : ℕ) (l i : Label) (h : Is
     matrix = λ t there. there;
   }
 
+  pub keeps_made : (o : ℕ) → is_active w o ≡ true → is_active (after w (creates maker p l i)) o ≡ true
+  keeps_made o there = subst (λ (u : State). is_active u o ≡ true) (sym is_made) (there_still o there)
+
+  pub grown_made : Grown acts w (after w (creates maker p l i))
+  grown_made = subst (Grown acts w) (sym is_made) made_grown
+
+  pub within_made : HasLabelsWithin (after w (creates maker p l i))
+  within_made = subst HasLabelsWithin (sym is_made) (λ o k at. within_insert w.security w.object_label w.next l within (within p l label) o k at)
+
   way : Way acts w (after w asked)
-  way = goes asked makes grant (λ o there. subst (λ (u : State). is_active u o ≡ true) (sym is_made) (there_still o there)) ends
+  way = goes asked makes grant_made keeps_made ends
 
   pub make : (q : Place) → IsIn w q → Carries acts w q q (λ u. u ≡ with_object w p l i)
   make q there = record {
     last = after w asked;
     way = way;
-    grown = subst (Grown acts w) (sym is_made) made_grown;
+    grown = grown_made;
     secure = after_secure w asked h;
-    within = subst HasLabelsWithin (sym is_made) (λ o k at. within_insert w.security w.object_label w.next l within (within p l label) o k at);
+    within = within_made;
     along = still_at acts w (after w asked) way q there;
     now = is_made;
   }
 
 -- what is made so lies between the two
-between_made : (acts : ℕ → Bool) (s t p : ℕ) (w : State) (l i : Label) → map.get w.object_label p ≡ Some l → is_above (map.get w.subject_integrity s) (Some i) ≡ true
+pub between_made : (acts : ℕ → Bool) (s t p : ℕ) (w : State) (l i : Label) → map.get w.object_label p ≡ Some l → is_above (map.get w.subject_integrity s) (Some i) ≡ true
     → map.get w.subject_integrity t ≡ Some i → (is_above (map.get w.maximum t) (map.get w.object_label p) ≡ true) ⊎ HasTrusted w acts
     → IsBetween acts s t w.next p (with_object w p l i)
 between_made acts s t p w l i label above own clear = record {

@@ -3,6 +3,7 @@ mod Before
 mod Getting
 mod Handed
 mod Handing
+pub mod Laws
 mod Made
 mod NeverArrives
 mod Once

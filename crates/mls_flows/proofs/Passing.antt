@@ -16,28 +16,26 @@ use Rattle.mls_futures.specs.Futures.{IsByActors, HasLabelsWithin}
 use Rattle.mls_futures.specs.Scripts.{Alike}
 use Rattle.mls_futures.proofs.Laws.{Script, done, asks, entries_of, trusted_still}
 use Rattle.mls_flows.specs.Arriving.{Spreads, was, Keeps, IsCarried, StaysThere, IsAt}
+pub use Rattle.mls_flows.specs.Ways.{Way, ends, goes, requests_on, Along, Grown}
 use Rattle.mls_flows.specs.declared.place.Place.{Place}
 use Rattle.mls_flows.specs.declared.place.Place.TheVariants.{Subject, Object}
 use Rattle.mls_flows.proofs.Spreading.{spreads_more, keeps_more}
-
-pub data Way (acts : ℕ → Bool) : State → State → Type 0 where
-  ends : {v : State} → Way acts v v
-  goes : {v w : State} (r : Request) → acts r.subject ≡ true → is_grant (reply v r) ≡ true
-      → ((o : ℕ) → is_active v o ≡ true → is_active (after v r) o ≡ true) → Way acts (after v r) w → Way acts v w
 
 pub and_on : (acts : ℕ → Bool) (u v w : State) → Way acts u v → Way acts v w → Way acts u w
 and_on acts u v w ends second = second
 and_on acts u v w (goes r actor grant keeps rest) second = goes r actor grant keeps (and_on acts (after u r) v w rest second)
 
-pub way_of : (acts : ℕ → Bool) (v w : State) → Script acts v w → Way acts v w
+abbrev pub way_of : (acts : ℕ → Bool) (v w : State) → Script acts v w → Way acts v w
 way_of acts v w done = ends
 way_of acts v w (asks r actor grant keeps rest) = goes r actor (ap is_grant grant) keeps (way_of acts (after v r) w rest)
 
--- its requests lead where the way does, are actors', and leave each object there
-abbrev pub requests_on : (acts : ℕ → Bool) (v w : State) → Way acts v w → List Request
-requests_on acts v w ends = []
-requests_on acts v w (goes r actor grant keeps rest) = r ∷ requests_on acts (after v r) w rest
+pub requests_both : (acts : ℕ → Bool) (u v w : State) (first : Way acts u v) (second : Way acts v w)
+    → requests_on acts u w (and_on acts u v w first second) ≡ requests_on acts u v first ++ requests_on acts v w second
+unfolding and_on
+requests_both acts u v w ends second = refl
+requests_both acts u v w (goes r actor grant keeps rest) second = ap (λ rs. r ∷ rs) (requests_both acts (after u r) v w rest second)
 
+-- its requests lead where the way does, are actors', and leave each object there
 pub way_leads : (acts : ℕ → Bool) (v w : State) (n : ℕ) (way : Way acts v w) → fold v (entries_of v n (requests_on acts v w way)) ≡ w
 way_leads acts v w n ends = refl
 way_leads acts v w n (goes r actor grant keeps rest) = way_leads acts (after v r) w (n + 1) rest
@@ -53,11 +51,6 @@ way_keeps acts v w n ends o active zero = active
 way_keeps acts v w n ends o active (suc k) = active
 way_keeps acts v w n (goes r actor grant keeps rest) o active zero = active
 way_keeps acts v w n (goes r actor grant keeps rest) o active (suc k) = way_keeps acts (after v r) w (n + 1) rest o (keeps o active) k
-
--- content that some places have is carried along it to a place
-abbrev pub Along : (acts : ℕ → Bool) (v w : State) → Way acts v w → (Place → Type 0) → Place → Type 0
-Along acts v w ends has p = Spreads v acts has p
-Along acts v w (goes r actor grant keeps rest) has p = Along acts (after v r) w rest (Keeps (after v r) (Spreads v acts has)) p
 
 pub carried_of : (acts : ℕ → Bool) (v w : State) (n : ℕ) (way : Way acts v w) (has : Place → Type 0) (p : Place) → Along acts v w way has p
     → IsCarried v acts has (entries_of v n (requests_on acts v w way)) p
@@ -95,19 +88,6 @@ pub stays_in : (acts : ℕ → Bool) (v w : State) (way : Way acts v w) (has : P
 stays_in acts v w ends has o active had = was (Object o) had
 stays_in acts v w (goes r actor grant keeps rest) has o active had =
     stays_in acts (after v r) w rest (Keeps (after v r) (Spreads v acts has)) o (keeps o active) (was (Object o) had, keeps o active)
-
--- A later state has all that there was: the same subjects, the objects at the same places with the same integrity, and
--- with their labels, unless an actor is trusted; and all permissions.
-pub record Grown (acts : ℕ → Bool) (v w : State) : Type 0 where
-  pub maximum : w.maximum ≡ v.maximum
-  pub subject_integrity : w.subject_integrity ≡ v.subject_integrity
-  pub trusted : w.trusted ≡ v.trusted
-  pub bounds : w.integrity ≡ v.integrity
-  pub active : (o : ℕ) → is_active v o ≡ true → is_active w o ≡ true
-  pub integrity : (o : ℕ) → is_active v o ≡ true → map.get w.object_integrity o ≡ map.get v.object_integrity o
-  pub parent : (o : ℕ) → is_active v o ≡ true → map.get w.parent o ≡ map.get v.parent o
-  pub label : (o : ℕ) → is_active v o ≡ true → (map.get w.object_label o ≡ map.get v.object_label o) ⊎ HasTrusted v acts
-  pub matrix : (t : Triple) → set.contains v.matrix t ≡ true → set.contains w.matrix t ≡ true
 
 pub grown_itself : (acts : ℕ → Bool) (v : State) → Grown acts v v
 grown_itself acts v = record {

@@ -9,9 +9,10 @@ use Rattle.mls_rows.specs.declared.listing.Listing.{Listing}
 use Rattle.mls_requests.specs.declared.request.Request.{Request}
 use Rattle.mls_futures.specs.Futures.{HasLabelsWithin, CouldCome}
 use Rattle.mls_could.specs.Foreseeing.{NeverComes}
+use Rattle.mls_shared_rows.specs.Requests.{requests_bytes}
 use Rattle.mls_ways.specs.Brings.{BringsLeanly}
 use Rattle.mls_futures_text.specs.Reasons.{AreReasons}
-use Rattle.mls_futures_text.specs.Rows.{answer_bytes, requests_bytes, reasons_bytes}
+use Rattle.mls_futures_text.specs.Rows.{answer_bytes, reasons_bytes}
 use Rattle.mls_futures_text.specs.Whether.{RowsOfScript, RowsOfNever, RowsWhether}
 use Rattle.mls_futures_text.specs.declared.barrier.Why.{Why}
 

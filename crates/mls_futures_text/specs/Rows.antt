@@ -2,13 +2,10 @@
 use Rattle.std.specs.Prelude.{ℕ, Bool, true, false, List, ◌++◌, codes}
 use Rattle.std.specs.List.{flat_map}
 use Rattle.json.specs.Token.{Token}
-use Rattle.mls_requests.specs.declared.request.Request.{Request}
 use Rattle.mls_lines.specs.Names.{Names}
 use Rattle.mls_rows.specs.Members.{text_member}
 use Rattle.mls_rows.specs.Rows.{row_bytes}
 use Rattle.mls_rows.specs.declared.form.Form.{Form}
-use Rattle.mls_shared_rows.specs.Requests.{asked_members}
-use Rattle.mls_wording.specs.RequestText.{request_text}
 use Rattle.mls_futures_text.specs.Barriers.{barrier_text, barrier_members}
 use Rattle.mls_futures_text.specs.declared.barrier.Why.{Why}
 
@@ -28,15 +25,6 @@ answer_members could = text_member (codes "answer") (answer_word could)
 -- The first row of an answer. (own)
 abbrev pub answer_bytes : Form → Bool → List ℕ
 answer_bytes form could = row_bytes form (answer_line could) (answer_members could)
-
--- The line of a request. (own)
-abbrev pub request_line : Names → Request → List ℕ
-request_line names r = request_text names r ++ codes "\n"
-
--- The rows of requests, in a form. (own)
-abbrev pub requests_bytes : Names → Form → List Request → List ℕ
-requests_bytes names form requests =
-    flat_map (λ r. row_bytes form (request_line names r) (asked_members names r)) requests
 
 -- The rows of reasons, in a form. (own)
 abbrev pub reasons_bytes : Names → Form → List Why → List ℕ

@@ -19,9 +19,10 @@ use Rattle.mls_futures.specs.Futures.{HasLabelsWithin, CouldCome}
 use Rattle.mls_could.specs.Actors.{are_known, is_actor}
 use Rattle.mls_could.specs.Foreseeing.{NeverComes}
 use Rattle.mls_could.specs.declared.choice.Choice.{Choice}
+use Rattle.mls_shared_rows.specs.Requests.{requests_bytes}
 use Rattle.mls_ways.specs.Brings.{BringsLeanly}
 use Rattle.mls_futures_text.specs.Reasons.{AreReasons}
-use Rattle.mls_futures_text.specs.Rows.{answer_bytes, requests_bytes, reasons_bytes}
+use Rattle.mls_futures_text.specs.Rows.{answer_bytes, reasons_bytes}
 use Rattle.mls_futures_text.specs.declared.barrier.Why.{Why}
 
 -- The access that an action of a subject asks for: that of a get. (own)

@@ -6,7 +6,6 @@ mod answered;
 mod asked;
 mod barrier;
 mod barriers;
-mod request_row;
 mod told;
 mod written;
 

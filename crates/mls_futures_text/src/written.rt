@@ -1,14 +1,15 @@
 //! The rows of an answer.
 ghost use Rattle.std.specs.Prelude.{◌≡◌, ◌++◌, IfOk, true, false};
 ghost use Rattle.mls_rows.specs.Rows.{bytes_of, form_of};
-ghost use Rattle.mls_futures_text.specs.Rows.{answer_bytes, requests_bytes, reasons_bytes};
+ghost use Rattle.mls_shared_rows.specs.Requests.{requests_bytes};
+ghost use Rattle.mls_futures_text.specs.Rows.{answer_bytes, reasons_bytes};
 
 use crate::answer_row::AnswerRow;
 use crate::barrier::{Barrier, Why};
-use crate::request_row::RequestRow;
 use mls_lines::Names;
 use mls_requests::Request;
 use mls_rows::{Form, Listing, Output};
+use mls_shared_rows::with_requests;
 use std::alloc::{AllocError, Global};
 
 /// The first row of an answer.
@@ -17,28 +18,6 @@ fn answered(alloc: Global, form: Form, names: &Names, could: bool) -> Result<Out
     ensures bytes { IfOk result (λ new. bytes_of new ≡ answer_bytes form could) }
 {
     Output::new(alloc, form).with(names, None, &AnswerRow { could })
-}
-
-/// The rows with those of requests behind them.
-fn with_requests(
-    alloc: Global,
-    output: Output,
-    names: &Names,
-    requests: &[Request],
-) -> Result<Output, AllocError>
-    ensures form { IfOk result (λ new. form_of new ≡ form_of output) }
-    ensures bytes { IfOk result
-        (λ new. bytes_of new ≡ bytes_of output ++ requests_bytes names.now (form_of output) requests.now) }
-{
-    let mut output = output;
-    for request in requests {
-        let row = RequestRow {
-            alloc,
-            request: *request,
-        };
-        output = output.with(names, None, &row)?;
-    }
-    Ok(output)
 }
 
 /// The rows with those of reasons behind them.

@@ -70,6 +70,7 @@ td .named li { display: inline; padding: 0; }
 .never { color: var(--soft); }
 .lattice { display: block; }
 .link { stroke: var(--soft); stroke-width: 1.5; }
+.down { stroke: var(--denied); stroke-dasharray: 5 3; }
 .box { fill: var(--paper); stroke: var(--ink); stroke-width: 1.25; }
 .lattice text { fill: var(--ink); font-size: 11.5px; text-anchor: middle; }
 .label { font-weight: 700; }

@@ -15,16 +15,11 @@ const FIT: usize = 28;
 const TOLD: &str =
     "The labels by rank, with a line from each to those that it covers; the table below tells the same";
 
-/// What can be scrolled, where a drawing is wider than the window.
-const WIDE: [(Attribute, &str); 4] = [
-    (Attribute::Class, "wide"),
-    (Attribute::TabIndex, "0"),
-    (Attribute::Role, "group"),
-    (Attribute::AriaLabel, "Drawing of the labels"),
-];
+/// What its scrolled part is called.
+const SCROLLED: &str = "Drawing of the labels";
 
 /// Appends a path of a class.
-fn shape(page: &mut Page, class: &str, drawn: String) -> Result<(), AllocError> {
+pub(crate) fn shape(page: &mut Page, class: &str, drawn: String) -> Result<(), AllocError> {
     let attributes = [
         (Attribute::Class, class),
         (Attribute::Drawn, drawn.as_str()),
@@ -62,7 +57,12 @@ fn strokes(page: &mut Page, drawing: &Drawing) -> Result<(), AllocError> {
 }
 
 /// A line of text in a box, as far as it fits.
-fn box_line(page: &mut Page, class: &str, at: (u64, u64), text: &str) -> Result<(), AllocError> {
+pub(crate) fn box_line(
+    page: &mut Page,
+    class: &str,
+    at: (u64, u64),
+    text: &str,
+) -> Result<(), AllocError> {
     let (x, y) = at;
     let alloc = page.alloc();
     let place = format!(in alloc; "translate({x} {y})")?;
@@ -146,9 +146,15 @@ fn node_box(page: &mut Page, names: &Names, node: &Node, place: Place) -> Result
     more_line(page, node.unnamed(), (place.x, y.saturating_add(LINE)))
 }
 
-/// The beginning of what can be scrolled, and in it of what is as wide as a drawing.
-fn sheet(page: &mut Page, width: u64) -> Result<(), AllocError> {
-    page.open_all(Tag::Division, &WIDE)?;
+/// The beginning of what can be scrolled, where it is wider than the window, and in it of what is as wide as a drawing.
+fn sheet(page: &mut Page, scrolled: &'static str, width: u64) -> Result<(), AllocError> {
+    let wide = [
+        (Attribute::Class, "wide"),
+        (Attribute::TabIndex, "0"),
+        (Attribute::Role, "group"),
+        (Attribute::AriaLabel, scrolled),
+    ];
+    page.open_all(Tag::Division, &wide)?;
     page.line()?;
     let alloc = page.alloc();
     let broad = format!(in alloc; "width:{width}px")?;
@@ -162,19 +168,40 @@ fn sheet(page: &mut Page, width: u64) -> Result<(), AllocError> {
     page.line()
 }
 
-/// The beginning of a drawing.
-fn extent(page: &mut Page, width: u64, height: u64) -> Result<(), AllocError> {
+/// The beginning of a drawing's lines and texts.
+fn extent(page: &mut Page, told: &'static str, width: u64, height: u64) -> Result<(), AllocError> {
     let alloc = page.alloc();
     let extent = format!(in alloc; "0 0 {width} {height}")?;
     let attributes = [
         (Attribute::Class, "lattice"),
         (Attribute::Role, "img"),
-        (Attribute::AriaLabel, TOLD),
+        (Attribute::AriaLabel, told),
         (Attribute::Extent, extent.as_str()),
     ];
     let done = page.open_all(Tag::Svg, &attributes);
     drop(extent);
     done?;
+    page.line()
+}
+
+/// The beginning of a drawing of a width and a height, with what it and its scrolled part are called.
+pub(crate) fn begin_drawing(
+    page: &mut Page,
+    called: (&'static str, &'static str),
+    width: u64,
+    height: u64,
+) -> Result<(), AllocError> {
+    let (scrolled, told) = called;
+    sheet(page, scrolled, width)?;
+    extent(page, told, width, height)
+}
+
+/// The end of a drawing.
+pub(crate) fn end_drawing(page: &mut Page) -> Result<(), AllocError> {
+    page.close()?;
+    page.line()?;
+    page.close()?;
+    page.close()?;
     page.line()
 }
 
@@ -185,17 +212,12 @@ pub(crate) fn draw(
     drawing: &Drawing,
     nodes: &[Node],
 ) -> Result<(), AllocError> {
-    sheet(page, drawing.width)?;
-    extent(page, drawing.width, drawing.height)?;
+    begin_drawing(page, (SCROLLED, TOLD), drawing.width, drawing.height)?;
     strokes(page, drawing)?;
     for (index, slot) in drawing.slots.iter().enumerate() {
         if let Some(node) = slot.node.and_then(|place| nodes.get(place)) {
             node_box(page, names, node, drawing.at(index))?;
         }
     }
-    page.close()?;
-    page.line()?;
-    page.close()?;
-    page.close()?;
-    page.line()
+    end_drawing(page)
 }

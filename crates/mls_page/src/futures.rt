@@ -1,15 +1,23 @@
 //! What could come about.
 use crate::grid::{add_grid, add_sign};
+use crate::hands::add_hands;
 use crate::section::{FUTURES, begin_section, end_section};
 use mls_grid::{Grid, Prospect};
 use mls_lines::Names;
 use mls_markup::{Page, Tag};
+use mls_state::State;
 use std::alloc::AllocError;
 
 const COMMAND: &str = "mls who --could --journal J START OBJECT";
 
 const ACTING: &str =
-    " lists it all of an object. After the last entry: all act that are not trusted, and nobody else does.";
+    " lists it all of an object. After the last entry: all act that are not trusted, and nobody else does. So a \
+     trusted subject has letters only for what it holds, even where mls who says yes.";
+
+const FLOWS: &str =
+    "Flows by one access that is held or could be got, of the first objects and subjects of the grid: content of an \
+     object on the left could come to a subject that a line leads to, and from it to an object on the right. A dashed \
+     line goes down: the object's label does not dominate that of an object on the left that the subject could see. ";
 
 /// What the signs say, each in a line.
 const LEGEND: [(Prospect, &str); 4] = [
@@ -77,11 +85,27 @@ fn more(page: &mut Page, grid: &Grid) -> Result<(), AllocError> {
     page.line()
 }
 
-/// Appends what could come about: a grid of objects and subjects, the heaviest first.
+/// How content could flow by one access of the first subjects and objects of a grid.
+fn drawn(page: &mut Page, names: &Names, state: &State, grid: &Grid) -> Result<(), AllocError> {
+    page.open_as(Tag::Paragraph, "source")?;
+    page.text(FLOWS)?;
+    page.leaf(Tag::Code, "mls flow --journal J START OBJECT")?;
+    page.text(" tells where content of an object could flow by many.")?;
+    page.close()?;
+    page.line()?;
+    add_hands(page, names, state, grid)
+}
+
+/// Appends what could come about: a grid of objects and subjects of a state, the heaviest first, and a drawing of flows.
 ///
 /// # Errors
 /// `AllocError` where an allocation failed.
-pub fn add_futures(page: &mut Page, names: &Names, grid: &Grid) -> Result<(), AllocError> {
+pub fn add_futures(
+    page: &mut Page,
+    names: &Names,
+    state: &State,
+    grid: &Grid,
+) -> Result<(), AllocError> {
     begin_section(page, &FUTURES)?;
     source(page)?;
     legend(page)?;
@@ -92,5 +116,6 @@ pub fn add_futures(page: &mut Page, names: &Names, grid: &Grid) -> Result<(), Al
         grid,
     )?;
     more(page, grid)?;
+    drawn(page, names, state, grid)?;
     end_section(page)
 }

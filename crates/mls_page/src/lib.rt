@@ -10,6 +10,7 @@ mod each;
 mod futures;
 mod gets;
 mod grid;
+mod hands;
 mod head;
 mod holding;
 mod labels;

@@ -1,5 +1,6 @@
--- The members of requests.
+-- What is written of requests.
 use Rattle.std.specs.Prelude.{ℕ, List, ◌++◌, codes}
+use Rattle.std.specs.List.{flat_map}
 use Rattle.json.specs.Token.{Token}
 use Rattle.mls_labels.specs.Label.{Label}
 use Rattle.mls_tables.specs.declared.mode.Mode.{Mode}
@@ -9,6 +10,9 @@ use Rattle.mls_requests.specs.declared.action.Action.TheVariants as action
 use Rattle.mls_requests.specs.declared.request.Request.{Request}
 use Rattle.mls_lines.specs.Names.{Names}
 use Rattle.mls_rows.specs.Members.{mode_member, object_member, subject_member, text_member}
+use Rattle.mls_rows.specs.Rows.{row_bytes}
+use Rattle.mls_rows.specs.declared.form.Form.{Form}
+use Rattle.mls_wording.specs.RequestText.{request_text}
 use Rattle.mls_wording.specs.Wording.{integrity_text, security_text}
 
 -- The object that an action is about. (own)
@@ -55,3 +59,12 @@ abbrev pub asked_members : Names → Request → List Token
 asked_members names r =
     subject_member (codes "subject") (codes "subject_name") names r.subject ++ action_member r.action
     ++ operand_members names r.action
+
+-- The line of a request. (own)
+abbrev pub request_line : Names → Request → List ℕ
+request_line names r = request_text names r ++ codes "\n"
+
+-- The rows of requests, in a form. (own)
+abbrev pub requests_bytes : Names → Form → List Request → List ℕ
+requests_bytes names form requests =
+    flat_map (λ r. row_bytes form (request_line names r) (asked_members names r)) requests

@@ -16,12 +16,16 @@ use Rattle.mls_tables.specs.Triples.{Triple}
 use Rattle.mls_tables.proofs.Laws.{is_triple-itself}
 use Rattle.mls_ways.specs.Lean.{brings}
 use Rattle.mls_ways.proofs.Lean.{brings-granted}
-use Rattle.mls_ways.specs.Ways.{LeadsTo, IsLowered, IsCleared, HoldsOnly}
+use Rattle.mls_ways.specs.Ways.{LeadsTo, LeavesObjects, IsLowered, IsCleared, HoldsOnly}
 use Rattle.mls_ways.proofs.Making.{lowered_clears}
 
 actors_both : (acts : ℕ → Bool) (rs qs : List Request) → AreOfActors acts rs → AreOfActors acts qs → AreOfActors acts (rs ++ qs)
 actors_both acts [] qs first later = later
 actors_both acts (r ∷ rs) qs first later = (first.0, actors_both acts rs qs first.1 later)
+
+objects_both : (v : State) (rs qs : List Request) → LeavesObjects v rs → LeavesObjects (run v rs) qs → LeavesObjects v (rs ++ qs)
+objects_both v [] qs first later = later
+objects_both v (r ∷ rs) qs first later = (first.0, objects_both (after v r) rs qs first.1 later)
 
 -- none
 pub leads_nowhere : (acts : ℕ → Bool) (v : State) (old : List Request) (P : State → Type 0) → IsSecure v → HasLabelsWithin v → P v → LeadsTo acts v v old old P
@@ -30,6 +34,7 @@ leads_nowhere acts v old P secure within now = record {
   added = sym (append-nil old);
   granted = tt;
   of_actors = tt;
+  objects = tt;
   last = refl;
   alike = alike_itself acts v;
   secure = secure;
@@ -47,6 +52,7 @@ leads_by acts v r w old new P one is added =
       added = added;
       granted = (one.grant, tt);
       of_actors = (one.actor, tt);
+      objects = (one.alike.active, tt);
       last = refl;
       alike = one.alike;
       secure = one.secure;
@@ -62,6 +68,7 @@ leads_on acts v w u old mid new P Q first second = record {
   added = second.added ∙ ap (λ t. t ++ second.requests) first.added ∙ append_assoc old first.requests second.requests;
   granted = granted_both v first.requests second.requests first.granted (subst (λ z. AreGranted z second.requests) (sym first.last) second.granted);
   of_actors = actors_both acts first.requests second.requests first.of_actors second.of_actors;
+  objects = objects_both v first.requests second.requests first.objects (subst (λ z. LeavesObjects z second.requests) (sym first.last) second.objects);
   last = run_both v first.requests second.requests ∙ ap (λ z. run z second.requests) first.last ∙ second.last;
   alike = alike_on acts v w u first.alike second.alike;
   secure = second.secure;
@@ -76,6 +83,7 @@ leads_so acts v w old new P Q so first = record {
   added = first.added;
   granted = first.granted;
   of_actors = first.of_actors;
+  objects = first.objects;
   last = first.last;
   alike = first.alike;
   secure = first.secure;

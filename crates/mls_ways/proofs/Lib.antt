@@ -1,3 +1,4 @@
+pub mod Laws
 mod Leading
 mod Lean
 mod Making

@@ -1,5 +1,5 @@
 -- Requests that lead from one state to another, one after the other.
-use Rattle.std.specs.Prelude.{◌≡◌, ℕ, Bool, IsTrue, List, ◌++◌, Option, Some, None}
+use Rattle.std.specs.Prelude.{◌≡◌, ℕ, Bool, IsTrue, List, [], ◌∷◌, ◌++◌, Option, Some, None}
 use Rattle.std.specs.FinMap as map
 use Rattle.std.specs.FinSet as set
 use Rattle.mls_labels.specs.Label.{Label}
@@ -8,8 +8,9 @@ use Rattle.mls_tables.specs.declared.mode.Mode.{Mode}
 use Rattle.mls_tables.specs.declared.mode.Mode.TheVariants.{Execute, Read, Append, Write}
 use Rattle.mls_requests.specs.declared.action.Action.{Action}
 use Rattle.mls_requests.specs.declared.request.Request.{Request}
-use Rattle.mls_state.specs.State.{State}
+use Rattle.mls_state.specs.State.{State, is_active}
 use Rattle.mls_state.specs.Properties.{IsSecure, simple_holds, star_holds}
+use Rattle.mls_rules.specs.Rules.{after}
 use Rattle.mls_laws.specs.Journals.{run}
 use Rattle.mls_futures.specs.Futures.{HasLabelsWithin, HoldsNothing}
 use Rattle.mls_futures.specs.Scripts.{AreGranted, AreOfActors, Alike}
@@ -54,13 +55,21 @@ level_for (Some l) Execute = l
 level_for (Some l) Read = l
 level_for (Some l) Write = l
 
--- Requests that were added to others lead from one state to another: each is an actor's and is answered yes. The state
--- that they lead to is like the first one, secure, with labels within the bounds, and this holds of it. (own)
+-- None of some requests makes an object or takes one away, in the state that those before it lead to. (own)
+abbrev pub LeavesObjects : State → List Request → Type 0
+LeavesObjects v [] = Unit {0}
+LeavesObjects v (r ∷ requests) =
+    ((o : ℕ) → is_active (after v r) o ≡ is_active v o) × LeavesObjects (after v r) requests
+
+-- Requests that were added to others lead from one state to another: each is an actor's, is answered yes, and leaves the
+-- objects that there are. The state that they lead to is like the first one, secure, with labels within the bounds, and
+-- this holds of it. (own)
 pub record LeadsTo (acts : ℕ → Bool) (v w : State) (old new : List Request) (P : State → Type 0) : Type 0 where
   pub requests : List Request
   pub added : new ≡ old ++ requests
   pub granted : AreGranted v requests
   pub of_actors : AreOfActors acts requests
+  pub objects : LeavesObjects v requests
   pub last : run v requests ≡ w
   pub alike : Alike acts v w
   pub secure : IsSecure w

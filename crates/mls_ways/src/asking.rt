@@ -9,7 +9,10 @@ use mls_tables::SubjectId;
 use std::alloc::AllocError;
 
 /// Makes the change of a request that is answered yes, and adds it to a script.
-pub(crate) fn ask(
+///
+/// # Errors
+/// `AllocError` where an allocation failed; the change may have been made then, and the script lack it.
+pub fn ask(
     state: &mut State,
     script: &mut Vec<Request>,
     subject: SubjectId,

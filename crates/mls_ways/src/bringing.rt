@@ -17,8 +17,11 @@ use std::alloc::AllocError;
 
 /// Brings an access about that an actor could get, where nobody holds anything: has it permitted, where it isn't, by an
 /// actor for which write of the parent is brought about first; and gets it. The root is met within so many steps up
-/// from the object.
-pub(crate) fn bring(
+/// from the object. Nothing else is held then.
+///
+/// # Errors
+/// `AllocError` where an allocation failed; some requests may have been made and added then.
+pub fn bring(
     state: &mut State,
     script: &mut Vec<Request>,
     actors: &[bool],

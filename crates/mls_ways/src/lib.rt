@@ -13,4 +13,8 @@ mod script;
 mod within;
 mod working;
 
+pub use asking::ask;
+pub use bringing::bring;
+pub use releasing::release_all;
 pub use script::{Script, script_of};
+pub use within::are_within;

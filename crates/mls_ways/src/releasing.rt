@@ -87,7 +87,10 @@ fn release_subject(
 }
 
 /// Releases all that is held, by whomever: by subject, then by object, then by mode.
-pub(crate) fn release_all(
+///
+/// # Errors
+/// `AllocError` where an allocation failed; some releases may have been made and added then.
+pub fn release_all(
     alloc: Global,
     state: &mut State,
     script: &mut Vec<Request>,

@@ -83,7 +83,7 @@ fn script_within(
 /// The script that brings an access about which an actor could get, from a secure state whose labels are within the
 /// bounds, as those of each state are to which a journal leads: it releases all that is held, by whomever, and has then
 /// requests of actors; each is answered yes, the access is held in the end, and none of the requests behind the
-/// releases can be left out alone. Of any other state it is empty.
+/// releases can be left out alone. From any other state both lists are empty.
 ///
 /// # Errors
 /// `AllocError` where an allocation failed.

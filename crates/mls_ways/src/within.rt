@@ -19,7 +19,7 @@ fn is_within(state: &State, o: ObjectId) -> bool
 }
 
 /// Whether each object's label is within the bounds.
-pub(crate) fn are_within(state: &State) -> bool
+pub fn are_within(state: &State) -> bool
     ensures { IsTrue result ↔ HasLabelsWithin state.now }
 {
     state.agrees();

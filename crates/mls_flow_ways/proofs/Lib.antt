@@ -1,0 +1,5 @@
+mod Begun
+mod Carried
+mod Freed
+mod Growing
+mod Once
