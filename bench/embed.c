@@ -1,9 +1,10 @@
 /* Calls the library many times: `embed START WHAT COUNT`, where WHAT is check, decide, dominates, label (decided by
- * labels), explain, denied, held (a get of what is held already), granted (a get of what isn't, and its release, in
- * turn), delete, or with no monitor: cells, which looks up packed cells of four modes, and plain, which decides the get of decide
- * by the same conditions. Prints nanoseconds a call. `delete` is for the start of bench/rules.sh in which subject 0
- * writes object 1, and below this stand objects 2 to 11 with 60 below each, 12 to 611, that subjects 1 to 16 may read: all that is got,
- * and then COUNT of the ten are deleted. */
+ * labels), labels (the same in batches of 1,000 rows: COUNT and the time are of rows), explain, denied, held (a get of
+ * what is held already), granted (a get of what isn't, and its release, in turn), delete, or with no monitor: cells,
+ * which looks up packed cells of four modes, and plain, which decides the get of decide by the same conditions. Prints
+ * nanoseconds a call. `delete` is for the start of bench/rules.sh in which subject 0 writes object 1, and below this
+ * stand objects 2 to 11 with 60 below each, 12 to 611, that subjects 1 to 16 may read: all that is got, and then COUNT
+ * of the ten are deleted. */
 #define _POSIX_C_SOURCE 199309L
 #include "mls.h"
 
@@ -11,6 +12,8 @@
 #include <stdlib.h>
 #include <string.h>
 #include <time.h>
+
+enum { BATCH = 1000 };
 
 static double now(void) {
     struct timespec t;
@@ -91,6 +94,8 @@ int main(int argc, char **argv) {
     mls_answer_t a;
     mls_request_t get, release, denied;
     mls_label labels[4] = {{0, {0}}, {2, {1, 0, 0, 0}}, {1, {0}}, {3, {3, 0, 0, 0}}}, low = {0, {0}};
+    static mls_labels batch[BATCH];
+    static uint16_t replies[BATCH];
     mls_condition conditions[MLS_CONDITIONS];
     mls_remedy remedy;
     size_t rows;
@@ -109,6 +114,7 @@ int main(int argc, char **argv) {
     release = denied = get;
     release.action = MLS_RELEASE;
     denied.subject = 1;
+    for (n = 0; n < BATCH; n++) batch[n].security = labels[n & 3], batch[n].integrity = low;
     if (!strcmp(argv[2], "delete")) get_all(&m);
     begun = now();
     if (!strcmp(argv[2], "check"))
@@ -126,6 +132,8 @@ int main(int argc, char **argv) {
         for (n = 0; n < count; n++) sum += (unsigned)mls_dominates(&labels[n & 3], &labels[n >> 2 & 3]);
     else if (!strcmp(argv[2], "label"))
         for (n = 0; n < count; n++) sum += (unsigned)mls_decide_label(&m, n & 3, MLS_READ, &labels[n >> 2 & 3], &low, &reply) + reply;
+    else if (!strcmp(argv[2], "labels"))
+        for (n = 0; n < count / BATCH; n++) sum += (unsigned)mls_decide_labels(&m, n & 3, MLS_READ, batch, BATCH, replies) + replies[0];
     else if (!strcmp(argv[2], "explain"))
         for (n = 0; n < count; n++) sum += (unsigned)mls_explain(&m, &get, conditions, MLS_CONDITIONS, &rows, &remedy) + conditions[0].holds;
     else if (!strcmp(argv[2], "denied"))

@@ -19,7 +19,7 @@ instructions() {
 }
 
 echo "call: nanoseconds, instructions"
-for row in "cells 100000000" "check 100000000" "plain 20000000" "decide 20000000" "dominates 100000000" "label 50000000" "explain 2000000" "denied 5000000" "held 5000000" "granted 5000000"; do
+for row in "cells 100000000" "check 100000000" "plain 20000000" "decide 20000000" "dominates 100000000" "label 50000000" "labels 50000000" "explain 2000000" "denied 5000000" "held 5000000" "granted 5000000"; do
   read -r what count <<<"$row"
   each="?"
   if command -v valgrind >/dev/null; then

@@ -221,12 +221,17 @@ static void reasons(void) {
     mls_condition rows[MLS_CONDITIONS];
     mls_remedy remedy;
     size_t count;
-    uint16_t reply, numbers[MLS_OBJECTS];
+    mls_labels batch[2];
+    uint16_t reply, replies[2], numbers[MLS_OBJECTS];
     CHECK(mls_shared_open(&s, start, start_len, &fault) == MLS_OK);
     security = label(&s.monitor, MLS_SECURITY_LABEL, "C");
     integrity = label(&s.monitor, MLS_INTEGRITY_LABEL, "lo");
     CHECK(mls_shared_decide_label(&s, BOB, MLS_READ, &security, &integrity, &reply) == MLS_OK);
     CHECK(mls_reason_of(reply) == MLS_STAR);
+    batch[0].security = security, batch[0].integrity = batch[1].integrity = integrity;
+    batch[1].security = label(&s.monitor, MLS_SECURITY_LABEL, "U");
+    CHECK(mls_shared_decide_labels(&s, BOB, MLS_READ, batch, 2, replies) == MLS_OK);
+    CHECK(replies[0] == reply && replies[1] == MLS_YES);
     CHECK(mls_shared_explain(&s, &get, rows, MLS_CONDITIONS, &count, &remedy) == MLS_OK && count == 4);
     CHECK(rows[2].reason == MLS_STAR && rows[2].holds == 0 && rows[2].basis == MLS_BY_DOMINANCE);
     CHECK(remedy.there == 1 && mls_dominates(&remedy.label, &security) && mls_dominates(&security, &remedy.label));
@@ -235,6 +240,7 @@ static void reasons(void) {
     mls_shared_close(&s);
     CHECK(mls_shared_state_start(&s, NULL, 0, &count, numbers) == MLS_ECLOSED);
     CHECK(mls_shared_decide_label(&s, BOB, MLS_READ, &security, &integrity, &reply) == MLS_ECLOSED);
+    CHECK(mls_shared_decide_labels(&s, BOB, MLS_READ, batch, 2, replies) == MLS_ECLOSED && replies[1] == MLS_YES);
     CHECK(mls_shared_explain(&s, &get, rows, MLS_CONDITIONS, &count, &remedy) == MLS_ECLOSED);
     mls_shared_destroy(&s);
 }

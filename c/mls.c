@@ -16,6 +16,10 @@ static char nowhere;
 
 static mls_condition no_condition;
 
+static mls_labels no_row;
+
+static uint16_t no_reply;
+
 static char *room(char *at, size_t cap) { return at || cap ? at : &nowhere; }
 
 int mls_open_bytes(mls_monitor *m, const uint8_t *start, size_t len, mls_fault *fault);
@@ -28,6 +32,7 @@ int mls_read_label_bytes(mls_monitor *m, uint32_t kind, const uint8_t *text, siz
 int mls_write_label_bytes(mls_monitor *m, uint32_t kind, const mls_label *label, char *buf, size_t cap, size_t *len);
 int mls_subject_name_bytes(mls_monitor *m, uint16_t subject, char *buf, size_t cap, size_t *len);
 int mls_object_name_bytes(mls_monitor *m, uint16_t object, char *buf, size_t cap, size_t *len);
+int mls_decide_label_pairs(mls_monitor *m, uint16_t subject, uint8_t mode, const mls_labels *pairs, size_t n, uint16_t *replies, size_t count);
 int mls_explain_rows(mls_monitor *m, const mls_request *request, mls_condition *rows, size_t cap, size_t *count, mls_remedy *remedy);
 int mls_state_start_bytes(mls_monitor *m, char *buf, size_t cap, size_t *len, uint16_t *numbers, size_t count);
 int mls_state_text_bytes(mls_monitor *m, char *buf, size_t cap, size_t *len);
@@ -36,6 +41,7 @@ int mls_office_close_monitor(mls_office *office, mls_monitor *m);
 int mls_office_hand_out(mls_office *office, mls_session *session);
 int mls_office_take_back(mls_office *office, mls_session *session);
 int mls_session_meet_other(mls_session *s, mls_session *other);
+int mls_session_decide_label_pairs(mls_session *s, uint16_t subject, uint8_t mode, const mls_labels *pairs, size_t n, uint16_t *replies, size_t count);
 int mls_session_explain_rows(mls_session *s, const mls_request *request, mls_condition *rows, size_t cap, size_t *count, mls_remedy *remedy);
 int mls_session_entry_bytes(mls_session *s, uint64_t from, char *buf, size_t cap, size_t *len, uint64_t *next);
 
@@ -77,6 +83,11 @@ int mls_subject_name(mls_monitor *m, uint16_t subject, char *buf, size_t cap, si
 
 int mls_object_name(mls_monitor *m, uint16_t object, char *buf, size_t cap, size_t *len) {
     return mls_object_name_bytes(m, object, room(buf, cap), cap, len);
+}
+
+/* (there are as many replies as rows) */
+int mls_decide_labels(mls_monitor *m, uint16_t subject, uint8_t mode, const mls_labels *rows, size_t n, uint16_t *replies) {
+    return mls_decide_label_pairs(m, subject, mode, rows || n ? rows : &no_row, n, replies || n ? replies : &no_reply, n);
 }
 
 int mls_explain(mls_monitor *m, const mls_request *request, mls_condition *conditions, size_t cap, size_t *count, mls_remedy *remedy) {
@@ -152,6 +163,10 @@ int mls_session_meet(mls_session *s, mls_session *other) {
     if (!s->held || !other->held) return MLS_ECLOSED;
     if (s == other || s->office != other->office) return MLS_EINVAL;
     return mls_session_meet_other(s, other);
+}
+
+int mls_session_decide_labels(mls_session *s, uint16_t subject, uint8_t mode, const mls_labels *rows, size_t n, uint16_t *replies) {
+    return mls_session_decide_label_pairs(s, subject, mode, rows || n ? rows : &no_row, n, replies || n ? replies : &no_reply, n);
 }
 
 int mls_session_explain(mls_session *s, const mls_request *request, mls_condition *conditions, size_t cap, size_t *count, mls_remedy *remedy) {

@@ -118,6 +118,7 @@ static void is_closed(mls_t *m) {
     mls_counts c = {7, 7, 7, 7};
     mls_condition rows[MLS_CONDITIONS];
     mls_remedy r = {7, {0, {0}}};
+    mls_labels row = {{0, {0}}, {0, {0}}};
     uint16_t n = 7;
     size_t len = 7;
     char buf[8] = "abcdefg";
@@ -135,6 +136,7 @@ static void is_closed(mls_t *m) {
     CHECK(mls_read_label(m, MLS_SECURITY_LABEL, (const uint8_t *)"S", 1, &l) == MLS_ECLOSED);
     CHECK(mls_write_label(m, MLS_SECURITY_LABEL, &l, buf, sizeof buf, &len) == MLS_ECLOSED);
     CHECK(mls_decide_label(m, ANN, MLS_READ, &l, &l, &n) == MLS_ECLOSED && mls_decide_label(m, ANN, 4, &l, &l, &n) == MLS_ECLOSED);
+    CHECK(mls_decide_labels(m, ANN, MLS_READ, &row, 1, &n) == MLS_ECLOSED && mls_decide_labels(m, ANN, 4, NULL, 0, NULL) == MLS_ECLOSED);
     CHECK(mls_read_subject(m, ANN, &s) == MLS_ECLOSED && mls_read_object(m, PLANS, &o) == MLS_ECLOSED);
     CHECK(mls_read_pair(m, ANN, PLANS, &p) == MLS_ECLOSED && mls_count(m, &c) == MLS_ECLOSED);
     CHECK(s.trusted == 7 && o.parent == 7 && p.permitted == 7 && p.held == 7 && c.entries == 7 && c.objects == 7);
@@ -534,6 +536,120 @@ static void deciding_by_long_labels(void) {
     reply = 999;
     CHECK(mls_decide_label(&m, 0, MLS_READ, &bad, &info.integrity, &reply) == MLS_EINVAL && mls_decide_label(&m, 0, 4, &l, &l, &reply) == MLS_EINVAL);
     CHECK(reply == 999);
+    mls_close(&m);
+}
+
+enum { ROWS = 3000, LEVELS = 2 };
+
+static mls_labels batch[ROWS];
+static uint16_t batch_replies[ROWS + 1];
+
+static uint64_t next_random(void) {
+    static uint64_t random = 88172645463325252u;
+    random ^= random << 13, random ^= random >> 7, random ^= random << 17;
+    return random;
+}
+
+/* A label of the long start's schemes, mostly: one of seven has a level that they don't have. */
+static mls_label long_label(void) {
+    mls_label l = {0, {0}};
+    uint64_t random = next_random();
+    l.level = random % 7 ? (uint8_t)(random >> 8 & 1) : (uint8_t)(LEVELS + (random >> 8 & 7));
+    l.categories[0] = random >> 16 & 1;
+    l.categories[1] = random >> 17 & 1;
+    l.categories[2] = (random >> 18 & 1) << 2;
+    l.categories[3] = (random >> 19 & 1) << 63;
+    /* (half of the labels have categories of the first 64 alone) */
+    if (random >> 20 & 1) l.categories[1] = l.categories[2] = l.categories[3] = 0;
+    return l;
+}
+
+/* Whether each reply of a batch is that of the call for its row, and none is written behind the last. */
+static long answered_alike(mls_t *m, uint16_t subject, uint8_t mode, size_t n, long *seen) {
+    uint16_t reply;
+    long wrong = 0;
+    size_t k;
+    memset(batch_replies, 77, sizeof batch_replies);
+    CHECK(mls_decide_labels(m, subject, mode, batch, n, batch_replies) == MLS_OK);
+    for (k = 0; k < n; k++) {
+        CHECK(mls_decide_label(m, subject, mode, &batch[k].security, &batch[k].integrity, &reply) == MLS_OK);
+        wrong += batch_replies[k] != reply;
+        seen[reply & 31]++;
+    }
+    return wrong + (batch_replies[n] != 77 * 257);
+}
+
+/* A batch is refused as a whole: no reply is a grant, and none is written behind the last. */
+static long refused_whole(mls_t *m, uint8_t mode, size_t n) {
+    long wrong = 0;
+    size_t k;
+    memset(batch_replies, 0, sizeof batch_replies);
+    wrong += mls_decide_labels(m, ANN, mode, batch, n, batch_replies) != MLS_EINVAL;
+    for (k = 0; k < n; k++) wrong += batch_replies[k] != MLS_UNDEFINED;
+    return wrong + (batch_replies[n] != 0);
+}
+
+/* Batches, of rows with labels in each word of categories. */
+static void deciding_batches(void) {
+    static const size_t counts[] = {0, 1, 2, 63, ROWS}, faults[] = {0, 1, 1500, ROWS - 1};
+    mls_t m = MLS_INIT;
+    mls_fault_t f;
+    uint16_t subject;
+    uint8_t mode;
+    long seen[32] = {0}, before;
+    size_t k;
+    CHECK(mls_open(&m, (const uint8_t *)long_start, write_long_start(), &f) == MLS_OK);
+    for (k = 0; k < ROWS; k++) batch[k].security = long_label(), batch[k].integrity = long_label();
+    before = live;
+    left = 0;
+    for (subject = 0; subject <= LONG_SUBJECTS; subject++)
+        for (mode = MLS_EXECUTE; mode <= MLS_WRITE; mode++)
+            for (k = 0; k < sizeof counts / sizeof *counts; k++) CHECK(answered_alike(&m, subject, mode, counts[k], seen) == 0);
+    CHECK(seen[MLS_YES] && seen[MLS_UNDEFINED] && seen[MLS_DENIED + MLS_SIMPLE] && seen[MLS_DENIED + MLS_STAR] && seen[MLS_DENIED + MLS_INTEGRITY]);
+    CHECK(mls_decide_labels(&m, 0, MLS_READ, NULL, 0, NULL) == MLS_OK && mls_decide_labels(&m, 0, 4, NULL, 0, NULL) == MLS_EINVAL);
+    CHECK(refused_whole(&m, 4, ROWS) == 0 && refused_whole(&m, 255, 1) == 0);
+    /* one row that is no label's, of short labels and of long ones, whichever of the two labels it is */
+    for (k = 0; k < sizeof faults / sizeof *faults; k++) {
+        mls_labels row = batch[faults[k]];
+        batch[faults[k]].security = bits(16, 0, 0);
+        CHECK(refused_whole(&m, MLS_READ, ROWS) == 0 && refused_whole(&m, MLS_READ, faults[k] + 1) == 0);
+        CHECK(answered_alike(&m, 0, MLS_READ, faults[k], seen) == 0);
+        batch[faults[k]].security = bits(255, 0, 1);
+        CHECK(refused_whole(&m, MLS_APPEND, ROWS) == 0);
+        batch[faults[k]] = row;
+        batch[faults[k]].integrity = bits(16, 1, 1);
+        CHECK(refused_whole(&m, MLS_WRITE, ROWS) == 0);
+        batch[faults[k]] = row;
+    }
+    left = -1;
+    CHECK(live == before && mls_entries(&m) == 0);
+    mls_close(&m);
+}
+
+/* A session's batches are those of the monitor. */
+static void batches_of_a_session(void) {
+    mls_t m = MLS_INIT;
+    mls_fault_t f;
+    mls_office office = MLS_OFFICE_INIT;
+    mls_session s = MLS_SESSION_INIT;
+    static uint16_t wanted[LONG_SUBJECTS + 1][ROWS];
+    uint16_t subject;
+    CHECK(mls_session_decide_labels(&s, 0, MLS_READ, batch, ROWS, batch_replies) == MLS_ECLOSED);
+    CHECK(mls_open(&m, (const uint8_t *)long_start, write_long_start(), &f) == MLS_OK);
+    for (subject = 0; subject <= LONG_SUBJECTS; subject++)
+        CHECK(mls_decide_labels(&m, subject, MLS_READ, batch, ROWS, wanted[subject]) == MLS_OK);
+    CHECK(mls_office_open(&office, &m, &s, 1) == MLS_OK);
+    left = 0;
+    for (subject = 0; subject <= LONG_SUBJECTS; subject++) {
+        memset(batch_replies, 77, sizeof batch_replies);
+        CHECK(mls_session_decide_labels(&s, subject, MLS_READ, batch, ROWS, batch_replies) == MLS_OK);
+        CHECK(memcmp(batch_replies, wanted[subject], sizeof wanted[subject]) == 0 && batch_replies[ROWS] == 77 * 257);
+    }
+    CHECK(mls_session_decide_labels(&s, 0, MLS_READ, NULL, 0, NULL) == MLS_OK && mls_session_decide_labels(&s, 0, 4, NULL, 0, NULL) == MLS_EINVAL);
+    batch_replies[0] = batch_replies[1] = MLS_YES;
+    CHECK(mls_session_decide_labels(&s, 0, 4, batch, 2, batch_replies) == MLS_EINVAL && batch_replies[0] == MLS_UNDEFINED && batch_replies[1] == MLS_UNDEFINED);
+    left = -1;
+    CHECK(mls_office_close(&office, &s, &m) == MLS_OK);
     mls_close(&m);
 }
 
@@ -1819,6 +1935,8 @@ int main(int argc, char **argv) {
     tell("dominance", dominance);
     tell("deciding by labels", deciding_by_labels);
     tell("deciding by long labels", deciding_by_long_labels);
+    tell("deciding batches", deciding_batches);
+    tell("batches of a session", batches_of_a_session);
     tell("readers", readers);
     tell("explaining", explaining);
     tell("the text of a journal", keeping);

@@ -2,10 +2,11 @@
  *
  *     rows START SUBJECT [ROWS]
  *
- * Three loops over the same rows. The first asks mls_dominates whether the subject's current label dominates the row's.
+ * Four loops over the same rows. The first asks mls_dominates whether the subject's current label dominates the row's.
  * The second does the same with dominance written out by hand. The third asks mls_decide_label, which looks at the
- * maximum label and at integrity too, and knows who is trusted. Prints how many rows each lets pass and how long a row
- * takes. The status is 1 where the first two differ, and 2 where the files or the names are wrong. */
+ * maximum label and at integrity too, and knows who is trusted. The fourth asks mls_decide_labels, once for all rows.
+ * Prints how many rows each lets pass and how long a row takes. The status is 1 where the first two differ, or the last
+ * two, and 2 where the files or the names are wrong. */
 #define _POSIX_C_SOURCE 199309L
 #include "mls.h"
 
@@ -17,15 +18,11 @@
 enum { REPEATS = 5 };
 
 typedef struct {
-    uint64_t id;
-    mls_label security, integrity;
-} row;
-
-typedef struct {
     mls_monitor monitor;
     uint16_t subject;
     mls_label current;
-    const row *rows;
+    const mls_labels *rows;
+    uint16_t *replies;
     size_t count;
 } table;
 
@@ -61,6 +58,13 @@ static size_t by_rule(table *t) {
     return passed;
 }
 
+static size_t by_batch(table *t) {
+    size_t n, passed = 0;
+    if (mls_decide_labels(&t->monitor, t->subject, MLS_READ, t->rows, t->count, t->replies)) return 0;
+    for (n = 0; n < t->count; n++) passed += t->replies[n] == MLS_YES;
+    return passed;
+}
+
 /* Tells how many rows a loop lets pass, and the shortest time of a row in some runs of it. */
 static size_t timed(const char *name, table *t, size_t (*loop)(table *)) {
     double best = 0;
@@ -78,13 +82,12 @@ static size_t timed(const char *name, table *t, size_t (*loop)(table *)) {
 }
 
 /* Rows with labels that change from one to the next: three levels and two categories, and two levels of integrity. */
-static row *made(size_t count) {
-    row *rows = calloc(count, sizeof *rows);
+static mls_labels *made(size_t count) {
+    mls_labels *rows = calloc(count, sizeof *rows);
     uint32_t random = 2463534242u;
     size_t n;
     for (n = 0; rows && n < count; n++) {
         random ^= random << 13, random ^= random >> 17, random ^= random << 5;
-        rows[n].id = n;
         rows[n].security.level = (uint8_t)(random % 3);
         rows[n].security.categories[0] = random >> 8 & 3;
         rows[n].integrity.level = random >> 16 & 1;
@@ -97,8 +100,8 @@ int main(int argc, char **argv) {
     static table t;
     mls_fault fault;
     mls_subject_info subject;
-    row *rows;
-    size_t calls, hand;
+    mls_labels *rows;
+    size_t calls, hand, rule, batch;
     FILE *file = argc == 3 || argc == 4 ? fopen(argv[1], "rb") : NULL;
     if (!file || mls_open(&t.monitor, start, fread(start, 1, sizeof start, file), &fault)) return 2;
     fclose(file);
@@ -107,11 +110,14 @@ int main(int argc, char **argv) {
     t.current = subject.current;
     t.count = argc == 4 ? strtoul(argv[3], NULL, 10) : 1000000;
     t.rows = rows = made(t.count);
-    if (!rows || !t.count) return 2;
+    t.replies = calloc(t.count, sizeof *t.replies);
+    if (!rows || !t.replies || !t.count) return 2;
     calls = timed("mls_dominates", &t, by_calls);
     hand = timed("by hand", &t, by_hand);
-    timed("mls_decide_label", &t, by_rule);
+    rule = timed("mls_decide_label", &t, by_rule);
+    batch = timed("mls_decide_labels", &t, by_batch);
     mls_close(&t.monitor);
+    free(t.replies);
     free(rows);
-    return calls != hand;
+    return calls != hand || rule != batch;
 }

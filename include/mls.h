@@ -37,8 +37,8 @@ extern "C" {
 
 /* Statuses: MLS_OK, or a number below 0. With a status below 0 the handle is unchanged, and the
  * call writes only the output that its comment names for that status: the fault of MLS_ESTART,
- * MLS_EJOURNAL, MLS_EREPLAY and MLS_ESTATE, and the length of MLS_ERANGE. The decision is never in
- * the status. */
+ * MLS_EJOURNAL, MLS_EREPLAY and MLS_ESTATE, the length of MLS_ERANGE, and the replies of a batch
+ * that is MLS_EINVAL. The decision is never in the status. */
 enum {
     MLS_OK = 0,
     MLS_ECLOSED = -1,   /* the handle is closed */
@@ -119,6 +119,11 @@ typedef struct {
     uint8_t level;
     uint64_t categories[4];
 } mls_label;
+
+/* The labels of something that isn't an object, say a row or a file. */
+typedef struct {
+    mls_label security, integrity;
+} mls_labels;
 
 /* A request. The library ignores the members that its action doesn't use. */
 typedef struct {
@@ -343,6 +348,13 @@ int mls_dominates(const mls_label *a, const mls_label *b);
 int mls_decide_label(mls_monitor *m, uint16_t subject, uint8_t mode, const mls_label *security,
                      const mls_label *integrity, uint16_t *reply);
 
+/* Decides n accesses of the subject in the mode, all in one state, the present one: reply k is what
+ * mls_decide_label writes for the labels of row k. Nothing changes, and it doesn't allocate.
+ * MLS_ECLOSED; MLS_EINVAL if mode is no mode or the numbers of a row are no labels: then each of
+ * the n replies is MLS_UNDEFINED, and none is a grant. */
+int mls_decide_labels(mls_monitor *m, uint16_t subject, uint8_t mode, const mls_labels *rows,
+                      size_t n, uint16_t *replies);
+
 /* Copy out a subject; an active object; which modes of a subject on an object are permitted and
  * held; and the counts. They don't allocate. MLS_ECLOSED; MLS_ENOTFOUND if there is no such subject
  * or the object isn't active. */
@@ -449,10 +461,14 @@ int mls_session_entry_text(mls_session *s, uint64_t from, char *buf, size_t cap,
                            uint64_t *next);
 
 /* As the calls of a monitor that have their names, of the state to which the journal leads that the
- * session sees. They try the lock once: MLS_EBUSY besides, and nothing is then written. */
+ * session sees. They try the lock once: MLS_EBUSY besides, and nothing is then written.
+ * mls_session_decide_labels decides all rows in one such state, and holds the lock no longer than
+ * mls_session_decide_label does: it decides the rows after that. */
 int mls_session_decide_label(mls_session *s, uint16_t subject, uint8_t mode,
                              const mls_label *security, const mls_label *integrity,
                              uint16_t *reply);
+int mls_session_decide_labels(mls_session *s, uint16_t subject, uint8_t mode,
+                              const mls_labels *rows, size_t n, uint16_t *replies);
 int mls_session_explain(mls_session *s, const mls_request *request, mls_condition *conditions,
                         size_t cap, size_t *count, mls_remedy *remedy);
 int mls_session_read_subject(mls_session *s, uint16_t subject, mls_subject_info *info);

@@ -150,6 +150,13 @@ MLS_INLINE int mls_shared_decide_label(mls_shared *s, uint16_t subject, uint8_t 
     return status;
 }
 
+MLS_INLINE int mls_shared_decide_labels(mls_shared *s, uint16_t subject, uint8_t mode,
+                                        const mls_labels *rows, size_t n, uint16_t *replies) {
+    int status = mls_decide_labels(mls_shared_lock(s), subject, mode, rows, n, replies);
+    mls_shared_unlock(s);
+    return status;
+}
+
 MLS_INLINE int mls_shared_explain(mls_shared *s, const mls_request *request,
                                   mls_condition *conditions, size_t cap, size_t *count,
                                   mls_remedy *remedy) {

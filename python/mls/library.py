@@ -38,6 +38,10 @@ class Label(ctypes.Structure):
     _fields_ = [("level", c_uint8), ("categories", c_uint64 * 4)]
 
 
+class Labels(ctypes.Structure):
+    _fields_ = [("security", Label), ("integrity", Label)]
+
+
 class Request(ctypes.Structure):
     _fields_ = [
         ("action", c_uint8), ("mode", c_uint8), ("subject", c_uint16), ("other", c_uint16), ("object", c_uint16),
@@ -112,6 +116,7 @@ CALLS = {
     "mls_write_label": (c_int, [MONITOR, c_int, POINTER(Label), c_char_p, c_size_t, LENGTH]),
     "mls_dominates": (c_int, [POINTER(Label), POINTER(Label)]),
     "mls_decide_label": (c_int, [MONITOR, c_uint16, c_uint8, POINTER(Label), POINTER(Label), POINTER(c_uint16)]),
+    "mls_decide_labels": (c_int, [MONITOR, c_uint16, c_uint8, POINTER(Labels), c_size_t, POINTER(c_uint16)]),
     "mls_read_subject": (c_int, [MONITOR, c_uint16, POINTER(SubjectInfo)]),
     "mls_read_object": (c_int, [MONITOR, c_uint16, POINTER(ObjectInfo)]),
     "mls_read_pair": (c_int, [MONITOR, c_uint16, c_uint16, POINTER(PairInfo)]),
@@ -133,6 +138,7 @@ CALLS = {
     "mls_session_meet": (c_int, [SESSION, SESSION]),
     "mls_session_entry_text": (c_int, [SESSION, c_uint64, c_char_p, c_size_t, LENGTH, POINTER(c_uint64)]),
     "mls_session_decide_label": (c_int, [SESSION, c_uint16, c_uint8, POINTER(Label), POINTER(Label), POINTER(c_uint16)]),
+    "mls_session_decide_labels": (c_int, [SESSION, c_uint16, c_uint8, POINTER(Labels), c_size_t, POINTER(c_uint16)]),
     "mls_session_explain": (c_int, [SESSION, POINTER(Request), POINTER(Condition), c_size_t, LENGTH, POINTER(Remedy)]),
     "mls_session_read_subject": (c_int, [SESSION, c_uint16, POINTER(SubjectInfo)]),
     "mls_session_read_object": (c_int, [SESSION, c_uint16, POINTER(ObjectInfo)]),

@@ -2,8 +2,9 @@
 from __future__ import annotations
 
 import ctypes
+from array import array
 from ctypes import byref, c_size_t, c_uint16
-from typing import Any, Iterator, TypeVar, Union
+from typing import Any, Iterable, Iterator, List, TypeVar, Union
 
 from . import library as lib
 from .asking import Asking
@@ -13,6 +14,7 @@ from .handle import is_ok
 from .infos import Counts, ObjectInfo, PairInfo, SubjectInfo
 from .numbering import answer_of, counts_of, explanation_of, label_struct, object_of, pair_of, subject_of
 from .requests import Name, Request
+from .rows import Pair, lent, packed
 from .values import Answer, Kind, Label, Mode
 
 S = TypeVar("S", bound=ctypes.Structure)
@@ -35,6 +37,31 @@ class Reading(Asking):
         numbers = self.subject(subject), Mode.of(mode)
         is_ok(self._asked("decide_label", *numbers, *structs, byref(reply)))
         return answer_of(None, reply.value, 0)
+
+    def rows(self, pairs: Iterable[Pair]) -> bytes:
+        """The rows of pairs of labels, for decide_rows: each a security label and an integrity label, as texts of the
+        start's schemes or as labels. Each text is read once. Rows may be kept, and be used again with every monitor."""
+        return packed(self.label, pairs)
+
+    def decide_rows(self, subject: Name, mode: Union[Mode, str], rows: Any) -> array[int]:
+        """What decide_label says of the labels of each row, in their order and all in one state, as numbers: 0 for yes.
+        `rows` is any buffer of structs `library.Labels`, one after the other: what `rows` returns, a bytearray, an
+        array, a memoryview, or an array of numpy. Nobody may write to it meanwhile. BadRequest says that a row has no
+        labels; then nothing is decided."""
+        numbers, (structs, count) = (self.subject(subject), Mode.of(mode)), lent(rows)
+        replies = array("H", bytes(2 * count))
+        room = (c_uint16 * count).from_buffer(replies) if count else None
+        is_ok(self._asked("decide_labels", *numbers, structs, count, room))
+        return replies
+
+    def decide_labels(self, subject: Name, mode: Union[Mode, str], pairs: Iterable[Pair]) -> List[Answer]:
+        """What decide_label says of each pair of a security label and an integrity label, in their order and all in one
+        state. Each text is read once, and each pair is decided once, however often it comes."""
+        asked = list(pairs)
+        distinct = list(dict.fromkeys(asked))
+        replies = self.decide_rows(subject, mode, self.rows(distinct))
+        answers = {pair: answer_of(None, reply, 0) for pair, reply in zip(distinct, replies)}
+        return [answers[pair] for pair in asked]
 
     def explain(self, request: Request) -> Explanation:
         """The conditions of a request, each with whether it holds now and what it rests on, and the remedy of a get. No

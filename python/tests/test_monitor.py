@@ -237,8 +237,9 @@ class Monitors(unittest.TestCase):
             lambda: m.entry(0), lambda: m.line(0), lambda: m.entry_count, lambda: m.subject("ann"),
             lambda: m.forget(0), lambda: m.forgotten,
             lambda: m.label("S"), lambda: m.label_text(mls.Label(0)), lambda: m.decide_label(0, "read", "S", "lo"),
-            lambda: m.decide_label(0, "read", mls.Label(0), mls.Label(0)), lambda: m.explain(mls.Delete(0, 1)), m.state_start,
-            m.state_text,
+            lambda: m.decide_label(0, "read", mls.Label(0), mls.Label(0)), lambda: m.decide_rows(0, "read", b""),
+            lambda: m.decide_labels(0, "read", [("S", "lo")]), lambda: m.rows([("S", "lo")]),
+            lambda: m.explain(mls.Delete(0, 1)), m.state_start, m.state_text,
             lambda: m.subject_info(0), lambda: m.object_info(0), lambda: m.pair(0, 0), m.counts,
             lambda: list(m.children(0)), lambda: m.subject_name(0), lambda: m.object_name(0),
         ]  # fmt: skip

@@ -1,10 +1,17 @@
 """The package over the library: decisions by labels, what a monitor holds, and explanations. Without a library these
 tests are skipped, as those of test_monitor."""
+import array
 import itertools
 import unittest
+import unittest.mock
 
 import mls
 from test_monitor import MISSING, STANDARD
+
+try:
+    import numpy
+except ImportError:
+    numpy = None
 
 ANN, BOB, SEC, AUD = range(4)
 ROOT, PLANS, MEMO, TOOL, MADE = range(5)
@@ -42,6 +49,71 @@ class Readers(unittest.TestCase):
         m.level("bob", "C")
         self.assertTrue(m.decide_label("bob", "read", "C", "lo"))
         self.assertEqual(m.entry_count, 1)
+
+    def test_batches(self):
+        """Each reply is that of the call for its row; a pair that comes often is read and decided once."""
+        m, texts = self.monitor, ("U", "C", "S:A", "S:B", "T:A,B", mls.Label(2, {0}), mls.Label(4))
+        pairs = list(itertools.product(texts, ("lo", "hi", mls.Label(0, {70}))))
+        for subject, mode in itertools.product(range(5), mls.Mode):
+            wanted = [m.decide_label(subject, mode, *pair) for pair in pairs]
+            self.assertEqual(m.decide_labels(subject, mode, pairs), wanted)
+            self.assertEqual(m.decide_labels(subject, mode, iter(pairs[::-1] * 3)), wanted[::-1] * 3)
+            numbers = [it.reply + (it.reason or 0) for it in wanted]
+            self.assertEqual(list(m.decide_rows(subject, mode, m.rows(pairs))), numbers)
+        with unittest.mock.patch.object(mls.Monitor, "label", side_effect=m.label) as read:
+            answers = m.decide_labels("bob", "read", zip(["C", "U"] * 1000, itertools.repeat("lo")))
+        self.assertEqual(([str(it) for it in answers], read.call_count), (["no star", "yes"] * 1000, 3))
+        self.assertEqual((m.decide_labels("bob", "read", []), m.entry_count), ([], 0))
+        for pairs in ([("Q", "lo")], [("U", "lo"), ("U", "S")], [("U", 3)]):
+            with self.assertRaises(mls.BadRequest):
+                m.decide_labels("bob", "read", pairs)
+        for asked in (("bob", "raed", [("U", "lo")]), (65536, "read", [])):
+            with self.assertRaises(mls.BadRequest):
+                m.decide_labels(*asked)
+        with self.assertRaises(mls.UnknownName):
+            m.decide_labels("eve", "read", [])
+
+    def test_rows_in_buffers(self):
+        """Any buffer of rows is taken, wherever it begins; one that is none, or has a row that is none, is refused."""
+        m = self.monitor
+        rows = m.rows([("U", "lo"), ("C", "lo"), ("S:A", "hi")] * 50)
+        wanted = list(m.decide_rows("bob", "read", rows))
+        self.assertEqual((len(rows), sorted(set(wanted))), (150 * 80, [0, 18, 19]))
+        words, shifted = array.array("Q", rows), bytearray(b"#" + rows)
+        structs = (mls.library.Labels * 150).from_buffer_copy(rows)
+        buffers = [bytearray(rows), memoryview(rows), memoryview(rows)[:], words, memoryview(words), structs,
+                   memoryview(structs), memoryview(shifted)[1:], memoryview(bytes(shifted))[1:]]  # fmt: skip
+        if numpy:
+            buffers += [numpy.frombuffer(rows, mls.library.Labels), numpy.array(words).reshape(-1, 10)]
+        for rows_in in buffers:
+            replies = m.decide_rows("bob", "read", rows_in)
+            self.assertEqual((list(replies), replies.typecode), (wanted, "H"))
+        self.assertEqual(list(m.decide_rows("bob", "read", memoryview(words)[10:20])), wanted[1:2])
+        for empty in (b"", bytearray(), memoryview(b""), array.array("Q")):
+            self.assertEqual(list(m.decide_rows("bob", "read", empty)), [])
+        no_labels = rows + b"\x10" + bytes(79), rows[:40] + b"\xff" * 40
+        for refused in (rows[1:], rows[:79], memoryview(rows)[::2], *no_labels):
+            with self.assertRaises(mls.BadRequest):
+                m.decide_rows("bob", "read", refused)
+        for refused in ("U", None, [("U", "lo")]):
+            with self.assertRaises(TypeError):
+                m.decide_rows("bob", "read", refused)
+        lent = bytearray(rows)
+        m.decide_rows("bob", "read", lent)
+        lent.clear()
+        m.close()
+        with self.assertRaises(mls.Closed):
+            m.decide_rows(0, "read", rows)
+
+    def test_batches_of_a_session(self):
+        m = self.monitor
+        pairs = [(m.label("U"), mls.Label(0)), (m.label("C"), mls.Label(0))] * 2
+        rows, wanted = m.rows(pairs), [m.decide_labels(it, "read", pairs) for it in range(5)]
+        session = mls.Office(m, 2).sessions[1]
+        self.assertEqual([session.decide_labels(it, "read", pairs) for it in range(5)], wanted)
+        self.assertEqual((session.rows(pairs), list(session.decide_rows("bob", "read", rows))), (rows, [0, 19, 0, 19]))
+        with self.assertRaises(mls.BadRequest):
+            session.decide_labels("bob", "read", [("U", "lo")])
 
     def test_decisions_by_the_labels_of_objects(self):
         """They are what the rule for a get says, where the matrix permits that."""

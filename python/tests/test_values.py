@@ -18,7 +18,7 @@ STRUCTS = {
     "mls_answer": library.Answer, "mls_journal_entry": library.Entry, "mls_fault": library.Fault,
     "mls_subject_info": library.SubjectInfo, "mls_object_info": library.ObjectInfo, "mls_pair_info": library.PairInfo,
     "mls_counts": library.Counts, "mls_term": library.Term, "mls_condition": library.Condition,
-    "mls_remedy": library.Remedy, "mls_office": library.Office, "mls_session": library.Session,
+    "mls_remedy": library.Remedy, "mls_labels": library.Labels, "mls_office": library.Office, "mls_session": library.Session,
 }  # fmt: skip
 TYPES = {**STRUCTS, "int": ctypes.c_int, "size_t": ctypes.c_size_t}
 TYPES.update({f"uint{n}_t": getattr(ctypes, f"c_uint{n}") for n in (8, 16, 32, 64)})

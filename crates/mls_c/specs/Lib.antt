@@ -1,4 +1,5 @@
 pub mod Answers
+pub mod Batches
 pub mod Conditions
 pub mod Faults
 pub mod Handle

@@ -97,7 +97,7 @@ Explained v r all level status =
 -- What explaining a request through a session returns: that the handle is closed, or the numbers are no request; else as
 -- any look, that what it names isn't there, or whether there is room for its conditions, or there is no memory. (own)
 abbrev pub ExplainLook : Option Place → Option Request → ℕ → Option Place → ℤ → Type 0
-ExplainLook None request room new status = status ≡ ECLOSED
+ExplainLook None request room new status = (status ≡ ECLOSED) × (new ≡ None)
 ExplainLook (Some p) None room new status = (status ≡ EINVAL) × (new ≡ Some p)
 ExplainLook (Some p) (Some r) room new status = LookStatus (Some p) (λ j. DefinedStatus (state_at j) r room) new status
 

@@ -149,6 +149,14 @@ pub struct mls_label {
     pub categories: [u64; 4],
 }
 
+/// The labels of something that isn't an object, say a row or a file.
+#[repr(C)]
+#[derive(Clone, Copy, Debug, Default, PartialEq, Eq, Hash)]
+pub struct mls_labels {
+    pub security: mls_label,
+    pub integrity: mls_label,
+}
+
 /// A request. What its action doesn't use isn't looked at.
 #[repr(C)]
 #[derive(Clone, Copy, Debug, Default, PartialEq, Eq, Hash)]
@@ -324,6 +332,14 @@ extern "C" {
         integrity: *const mls_label,
         reply: *mut u16,
     ) -> c_int;
+    pub fn mls_decide_labels(
+        m: *mut mls_monitor,
+        subject: u16,
+        mode: u8,
+        rows: *const mls_labels,
+        n: usize,
+        replies: *mut u16,
+    ) -> c_int;
     pub fn mls_read_subject(m: *mut mls_monitor, subject: u16, info: *mut mls_subject_info) -> c_int;
     pub fn mls_read_object(m: *mut mls_monitor, object: u16, info: *mut mls_object_info) -> c_int;
     pub fn mls_read_pair(m: *mut mls_monitor, subject: u16, object: u16, info: *mut mls_pair_info) -> c_int;
@@ -377,6 +393,14 @@ extern "C" {
         security: *const mls_label,
         integrity: *const mls_label,
         reply: *mut u16,
+    ) -> c_int;
+    pub fn mls_session_decide_labels(
+        s: *mut mls_session,
+        subject: u16,
+        mode: u8,
+        rows: *const mls_labels,
+        n: usize,
+        replies: *mut u16,
     ) -> c_int;
     pub fn mls_session_explain(
         s: *mut mls_session,

@@ -42,6 +42,7 @@ fn layouts() -> Vec<Layout> {
         layout!(mls_office: held hall serial count),
         layout!(mls_session: held place office number),
         layout!(mls_label: level categories),
+        layout!(mls_labels: security integrity),
         layout!(mls_request: action mode subject other object security integrity),
         layout!(mls_answer: number reply object),
         layout!(mls_journal_entry: number session reply object request),

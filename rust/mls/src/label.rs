@@ -1,6 +1,6 @@
 //! Labels, by numbers.
 use crate::handle::dominates;
-use mls_sys::{mls_label, MLS_INTEGRITY_LABEL, MLS_SECURITY_LABEL};
+use mls_sys::{mls_label, mls_labels, MLS_INTEGRITY_LABEL, MLS_SECURITY_LABEL};
 use std::os::raw::c_int;
 use std::{error, fmt};
 
@@ -90,6 +90,31 @@ impl fmt::Display for Label {
             write!(f, "{}{it}", if n == 0 { ':' } else { ',' })?;
         }
         Ok(())
+    }
+}
+
+/// The security label and the integrity label of something that is no object, say a row of a table.
+/// [`Monitor::decide_labels`] takes many.
+///
+/// [`Monitor::decide_labels`]: crate::Monitor::decide_labels
+#[derive(Clone, Copy, Debug, Default, PartialEq, Eq, Hash)]
+#[repr(transparent)]
+pub struct Labels(mls_labels);
+
+impl Labels {
+    /// Both labels of a row.
+    pub fn new(security: &Label, integrity: &Label) -> Labels {
+        Labels(mls_labels { security: security.0, integrity: integrity.0 })
+    }
+
+    /// The security label.
+    pub fn security(&self) -> Label {
+        Label(self.0.security)
+    }
+
+    /// The integrity label.
+    pub fn integrity(&self) -> Label {
+        Label(self.0.integrity)
     }
 }
 

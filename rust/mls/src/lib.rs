@@ -26,7 +26,7 @@ pub use explanation::{Condition, ExplainError, Explanation};
 pub use faults::{EntryFault, LoadFault, SchemeFault, StartFault};
 pub use infos::{Counts, ObjectInfo, PairInfo, SubjectInfo};
 pub use journal::{Entry, EntryError};
-pub use label::{Kind, Label, LabelError};
+pub use label::{Kind, Label, LabelError, Labels};
 pub use library::OtherVersion;
 pub use modes::Modes;
 pub use monitor::{Monitor, SubmitError};

@@ -1,7 +1,7 @@
 //! A monitor: a handle of the library, with its calls as methods.
 use crate::handle::{version, Handle};
 use crate::library::is_known;
-use crate::{Answer, Kind, Label, LabelError, Mode, Object, OpenError, Reply, Request, Subject};
+use crate::{Answer, Kind, Label, LabelError, Labels, Mode, Object, OpenError, Reply, Request, Subject};
 use mls_sys::*;
 use std::os::raw::c_int;
 use std::{error, fmt};
@@ -86,6 +86,14 @@ impl Monitor {
         match self.handle.decide_label(subject.0, mode as u8, &security.as_told(), &integrity.as_told()) {
             Ok(reply) => Reply::told(reply),
             Err(status) => unknown("mls_decide_label", status),
+        }
+    }
+
+    /// What [`decide_label`](Monitor::decide_label) says of each of many rows, in their order and all in one state.
+    pub fn decide_labels(&self, subject: Subject, mode: Mode, rows: &[Labels]) -> Vec<Reply> {
+        match self.handle.decide_labels(subject.0, mode as u8, rows) {
+            Ok(replies) => replies.into_iter().map(Reply::told).collect(),
+            Err(status) => unknown("mls_decide_labels", status),
         }
     }
 

@@ -2,8 +2,8 @@
 use crate::monitor::unknown;
 use crate::office::until_free;
 use crate::{
-    Counts, ExplainError, Explanation, Label, Mode, Object, ObjectInfo, PairInfo, Reply, Request, Session, Subject,
-    SubjectInfo,
+    Counts, ExplainError, Explanation, Label, Labels, Mode, Object, ObjectInfo, PairInfo, Reply, Request, Session,
+    Subject, SubjectInfo,
 };
 use std::os::raw::c_int;
 
@@ -14,6 +14,14 @@ impl Session {
         match until_free(|| self.handle.decide_label(subject.0, mode as u8, &labels.0, &labels.1)) {
             Ok(reply) => Reply::told(reply),
             Err(status) => unknown("mls_session_decide_label", status),
+        }
+    }
+
+    /// As [`Monitor::decide_labels`](crate::Monitor::decide_labels), in one state that the session sees.
+    pub fn decide_labels(&mut self, subject: Subject, mode: Mode, rows: &[Labels]) -> Vec<Reply> {
+        match until_free(|| self.handle.decide_labels(subject.0, mode as u8, rows)) {
+            Ok(replies) => replies.into_iter().map(Reply::told).collect(),
+            Err(status) => unknown("mls_session_decide_labels", status),
         }
     }
 

@@ -61,6 +61,22 @@ fn decisions_by_labels() {
     assert_eq!(m.entry_count(), 1);
 }
 
+/// Each reply is that of the call for its row.
+#[test]
+fn batches() {
+    let m = opened();
+    let securities =
+        [(0, &[][..]), (1, &[]), (2, &[0]), (2, &[1, 64]), (3, &[0, 1]), (4, &[])].map(|it| label(it.0, it.1));
+    let integrities = [(0, &[][..]), (1, &[]), (0, &[200])].map(|it| label(it.0, it.1));
+    let rows: Vec<_> = securities.iter().flat_map(|s| integrities.map(|i| Labels::new(s, &i))).collect();
+    for (subject, mode) in (0..5).flat_map(|s| Mode::ALL.map(|x| (Subject(s), x))) {
+        let wanted = rows.iter().map(|it| m.decide_label(subject, mode, &it.security(), &it.integrity()));
+        assert_eq!(m.decide_labels(subject, mode, &rows), wanted.collect::<Vec<_>>());
+        assert_eq!(m.decide_labels(subject, mode, &rows[..1]).len(), 1);
+        assert_eq!(m.decide_labels(subject, mode, &[]), []);
+    }
+}
+
 /// Of an object's labels it says what the rule for a get says, where the matrix permits that.
 #[test]
 fn decisions_by_the_labels_of_objects() {

@@ -1,5 +1,5 @@
 //! A monitor behind a mutex, asked by many threads; and one that goes from thread to thread.
-use mls::{CloseError, LinesError, Mode, Monitor, Object, Office, OfficeError, Request, Session, Subject};
+use mls::{CloseError, Labels, LinesError, Mode, Monitor, Object, Office, OfficeError, Request, Session, Subject};
 use std::sync::{Arc, Mutex};
 use std::thread;
 
@@ -93,6 +93,8 @@ fn a_session_sees_and_reads_what_another_did() {
     assert_eq!((other.subject_info(bob), other.pair(ann, plans), other.counts()), wanted);
     assert_eq!((other.explain(&request), other.object_info(Object(0))), (why, Some(root)));
     assert_eq!(other.decide_label(bob, Mode::Read, &root.security, &root.integrity), said);
+    let rows = [Labels::new(&root.security, &root.integrity); 3];
+    assert_eq!(other.decide_labels(bob, Mode::Read, &rows), [said; 3]);
     let next = |last: &Object| other.child_after(Object(0), *last);
     assert_eq!(std::iter::successors(Some(Object(0)), next).skip(1).collect::<Vec<_>>(), children);
     assert_eq!(other.lines(0, 1 << 16).unwrap(), (journal.clone(), 1));

@@ -1,5 +1,7 @@
 //! An office and its sessions: the calls of the library on them.
+use super::plain::rows;
 use super::{filled, told, Handle};
+use crate::Labels;
 use mls_sys::*;
 use std::os::raw::c_int;
 
@@ -122,6 +124,15 @@ impl SessionHandle {
         let mut reply = 0;
         // SAFETY: as for `submit`; the labels are valid and are only read, so they may be one.
         told(unsafe { mls_session_decide_label(&mut self.0, subject, mode, security, integrity, &mut reply) }, reply)
+    }
+
+    /// The replies of `mls_session_decide_labels`, or its status.
+    pub fn decide_labels(&mut self, subject: u16, mode: u8, labels: &[Labels]) -> Result<Vec<u16>, c_int> {
+        let mut replies = vec![0; labels.len()];
+        let at = replies.as_mut_ptr();
+        // SAFETY: as for `submit`; the rows are valid and are only read, and the replies are new and as many.
+        let status = unsafe { mls_session_decide_labels(&mut self.0, subject, mode, rows(labels), labels.len(), at) };
+        told(status, replies)
     }
 
     /// The subject of `mls_session_read_subject`, or its status.

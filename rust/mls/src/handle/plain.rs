@@ -1,4 +1,5 @@
 //! The calls that take no handle: dominance, the words of numbers, and the version.
+use crate::Labels;
 use mls_sys::*;
 use std::ffi::CStr;
 use std::os::raw::{c_char, c_int};
@@ -7,6 +8,12 @@ use std::os::raw::{c_char, c_int};
 pub(crate) fn dominates(a: &mls_label, b: &mls_label) -> bool {
     // SAFETY: the labels are valid, and are only read; the call takes no handle.
     unsafe { mls_dominates(a, b) == 1 }
+}
+
+/// The rows of a slice, as calls take them.
+pub(super) fn rows(labels: &[Labels]) -> *const mls_labels {
+    // (`Labels` is transparent over `mls_labels`)
+    labels.as_ptr().cast()
 }
 
 /// A word of the library's, which stays where it is.

@@ -1,5 +1,7 @@
 //! The calls that tell what a handle holds, and what its rules say.
+use super::plain::rows;
 use super::{copied, filled, told, Handle};
+use crate::Labels;
 use mls_sys::*;
 use std::os::raw::c_int;
 
@@ -16,6 +18,15 @@ impl Handle {
         // SAFETY: `Handle` is no `Sync`, so this call is the only one; the labels are valid and are only read, so they
         // may be one; the reply is new.
         told(unsafe { mls_decide_label(self.0.get(), subject, mode, security, integrity, &mut reply) }, reply)
+    }
+
+    /// The replies of `mls_decide_labels`, or its status.
+    pub fn decide_labels(&self, subject: u16, mode: u8, labels: &[Labels]) -> Result<Vec<u16>, c_int> {
+        let mut replies = vec![0; labels.len()];
+        let at = replies.as_mut_ptr();
+        // SAFETY: this call is the only one; the rows are valid and are only read, and the replies are new and as many.
+        let status = unsafe { mls_decide_labels(self.0.get(), subject, mode, rows(labels), labels.len(), at) };
+        told(status, replies)
     }
 
     /// The subject of `mls_read_subject`, or its status.
