@@ -57,7 +57,7 @@ ending_line names Asked = []
 ending_line names (Instead t) = codes "remedy: " ++ step_text names t ++ codes " instead\n"
 ending_line names NoLevel = codes "remedy: none by level\n"
 ending_line names (NoGiver x s o) = codes "remedy: none now: nobody" ++ gives_text names x s o ++ codes "\n"
-ending_line names Nothing = codes "remedy: none\n"
+ending_line names Nothing = codes "remedy: none found\n"
 
 -- The lines of a remedy. (own)
 abbrev pub remedy_lines : Names → List Step → Ending → List ℕ

@@ -43,7 +43,7 @@ fn push_ending(text: &mut String, names: &Names, ending: &Ending) -> Result<(), 
         Ending::Instead(step) => push_instead(text, names, step),
         Ending::NoLevel => text.push_str("remedy: none by level\n"),
         Ending::NoGiver(x, s, o) => push_nobody(text, names, *x, *s, *o),
-        Ending::Nothing => text.push_str("remedy: none\n"),
+        Ending::Nothing => text.push_str("remedy: none found\n"),
     }
 }
 

@@ -25,9 +25,9 @@ window_text rows window = begin_text rows window.opened ++ closed_text rows wind
 abbrev pub next_text : Option (List Row) → Window → List ℕ
 next_text rows window = codes ", " ++ window_text rows window
 
--- Spans, with commas between them; `never` of none. (own)
+-- Spans, with commas between them; or that there is none. (own)
 abbrev pub windows_text : Option (List Row) → List Window → List ℕ
-windows_text rows [] = codes "never"
+windows_text rows [] = codes "in no state"
 windows_text rows (window ∷ rest) = window_text rows window ++ flat_map (next_text rows) rest
 
 -- The line of an access and the spans in which its get would be granted. (own)

@@ -54,7 +54,7 @@ fn push_rest(text: &mut String, marks: Option<&Marks>, windows: &[Window]) -> Re
     Ok(())
 }
 
-/// Appends spans, or `never` where there is none.
+/// Appends spans, or that there is none.
 fn push_windows(
     text: &mut String,
     marks: Option<&Marks>,
@@ -68,7 +68,7 @@ fn push_windows(
             push_window(text, marks, first)?;
             push_rest(text, marks, rest)
         }
-        None => text.push_str("never"),
+        None => text.push_str("in no state"),
     }
 }
 
