@@ -30,29 +30,29 @@ sec delete $x
 bob level U
 """
 ANSWERS = b"yes\nyes\nno star\n" + 7 * b"yes\n" + b"created 4\n" + 6 * b"yes\n"
-MEMO = "ann read: never\nbob read: 0 to 4, 9 on\nsec append: start on\nsec write: never\n"
+MEMO = "ann read: in no state\nbob read: 0 to 4, 9 on\nsec append: start on\nsec write: in no state\n"
 MADE = "bob read: 11 to 13, 14 to 15\n"
-NEVER, READS = "ann read: never\nbob read: never\n", "ann read: start to 7, 8 on\naud read: start on\n"
+NEVER, READS = "ann read: in no state\nbob read: in no state\n", "ann read: start to 7, 8 on\naud read: start on\n"
 # What is asked of its journal, what is printed, and the status.
 LISTED = [
-    ("memo", MEMO, 0), ("memo read", "ann read: never\nbob read: 0 to 4, 9 on\n", 0), ("memo execute", "", 4),
-    ("memo write", "sec write: never\n", 4), ("#2 append", "sec append: start on\n", 0), ("plans read", READS, 0),
+    ("memo", MEMO, 0), ("memo read", "ann read: in no state\nbob read: 0 to 4, 9 on\n", 0), ("memo execute", "", 4),
+    ("memo write", "sec write: in no state\n", 4), ("#2 append", "sec append: start on\n", 0), ("plans read", READS, 0),
     ("#4", MADE, 0), ("#4 append", "", 4), ("#4095", "", 4), ("--to 10 #4", "", 4), ("--to 11 #4", "bob read: 11 to 13\n", 0),
     ("--from 12 --to 12 #4", "bob read: 11 to 13\n", 0), ("--from 13 --to 14 #4", MADE, 0), ("--from 14 #4", "bob read: 14 to 15\n", 0),
     ("--from 15 #4", "bob read: 14 to 15\n", 0), ("--from 16 #4", "", 4), ("--from 5 --to 8 memo read", NEVER, 4),
-    ("--from 4 --to 8 memo read", "ann read: never\nbob read: 0 to 4\n", 0), ("--from 5 --to 9 memo read", "ann read: never\nbob read: 9 on\n", 0),
-    ("--from 17 memo read", "ann read: never\nbob read: 9 on\n", 0), ("--from 8 --to 8 plans read", "ann read: 8 on\naud read: start on\n", 0),
+    ("--from 4 --to 8 memo read", "ann read: in no state\nbob read: 0 to 4\n", 0), ("--from 5 --to 9 memo read", "ann read: in no state\nbob read: 9 on\n", 0),
+    ("--from 17 memo read", "ann read: in no state\nbob read: 9 on\n", 0), ("--from 8 --to 8 plans read", "ann read: 8 on\naud read: start on\n", 0),
     ("--from 7 --to 18446744073709551615 plans read", READS, 0),
 ]
 # The batches of its journal end before these entries; the last two have no mark.
 ENDS, TIMES = [5, 9, 15], [b"2026-11-27T10:00:00.000000Z", b"2026-11-27T11:00:00.000000Z", b"2026-11-27T12:00:00.000000Z"]
 TEN, ELEVEN, NOON = (f"[{it.decode()}]" for it in TIMES)
 MARKED = [
-    ("memo read", f"ann read: never\nbob read: 0 {TEN} to 4 {TEN}, 9 {NOON} on\n", 0),
+    ("memo read", f"ann read: in no state\nbob read: 0 {TEN} to 4 {TEN}, 9 {NOON} on\n", 0),
     ("plans read", f"ann read: start to 7 {ELEVEN}, 8 {ELEVEN} on\naud read: start on\n", 0),
     ("--since 2026-11-27T10:30:00Z --until 2026-11-27T11:00:00Z memo read", NEVER, 4),
     ("--until 2026-11-27T10:00:00Z --from 5 memo read", NEVER, 4), ("--until 2026-11-27T10:00:00Z --from 6 memo read", "", 4),
-    ("--since 2026-11-27T12:00:00+01:00 --to 9 memo read", f"ann read: never\nbob read: 9 {NOON} on\n", 0),
+    ("--since 2026-11-27T12:00:00+01:00 --to 9 memo read", f"ann read: in no state\nbob read: 9 {NOON} on\n", 0),
     ("--since 2026-11-28 #4", f"bob read: 14 {NOON} to 15 [-]\n", 0),
     ("--since 2026-11-28 plans read", f"ann read: 8 {ELEVEN} on\naud read: start on\n", 0), ("--until 2026-11-26 memo read", NEVER, 4),
     ("--until 2026-11-26 plans read", f"ann read: start to 7 {ELEVEN}\naud read: start on\n", 0),
@@ -88,10 +88,10 @@ def who_could_ever_with_times():
     put("none.marks", b"")
     for words, text, status in MARKED:
         ever(words, files[0], text, status)
-    ever("memo read", files[1], f"ann read: never\nbob read: 0 {TEN} to 4 {TEN}, 9 [-] on\n")
+    ever("memo read", files[1], f"ann read: in no state\nbob read: 0 {TEN} to 4 {TEN}, 9 [-] on\n")
     for words in ("--since 2026-11-27 memo read", "memo read"):
-        ever(words, files[2], "ann read: never\nbob read: 0 [-] to 4 [-], 9 [-] on\n")
-    ever("--until 2026-11-27 memo", files[2], f"{NEVER}sec append: start on\nsec write: never\n")
+        ever(words, files[2], "ann read: in no state\nbob read: 0 [-] to 4 [-], 9 [-] on\n")
+    ever("--until 2026-11-27 memo", files[2], f"{NEVER}sec append: start on\nsec write: in no state\n")
 
 
 def who_could_ever_of_what_a_start_opens_with():
@@ -99,7 +99,7 @@ def who_could_ever_of_what_a_start_opens_with():
     put("empty.journal", b"")
     for journal in ("opened.journal", "empty.journal"):
         ever("plans read", f"{journal} {HELD}", "ann read: start on\naud read: start on\n")
-        ever("plans append", f"{journal} {HELD}", "bob append: never\n", 4)
+        ever("plans append", f"{journal} {HELD}", "bob append: in no state\n", 4)
     ever("--from 0 --to 0 plans read", f"empty.journal {HELD}", "ann read: start on\naud read: start on\n")
 
 

@@ -37,6 +37,6 @@ def listed(states, o, mode=None, first=0, last=None, found=None):
     for s, _, x in sorted(permitted):
         answers = [state.decide(s, (f"get-{MODES[x]}", x, o)) == "yes" for state in states]
         told = [it for it in runs(answers) if it[0] <= last and first <= it[1]]
-        lines += f"{states[0].subject(s)} {MODES[x]}: {', '.join(run_text(it, count, found) for it in told) or 'never'}\n"
+        lines += f"{states[0].subject(s)} {MODES[x]}: {', '.join(run_text(it, count, found) for it in told) or 'in no state'}\n"
         is_any |= bool(told)
     return lines, 0 if is_any else 4

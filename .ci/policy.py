@@ -412,7 +412,7 @@ class State:
         if own is not None:
             return free + [([s], own)], None
         others = freed.by_others(action) if word != "level" else []
-        return (free + others[:-1], others[-1]) if others else ([], "none")
+        return (free + others[:-1], others[-1]) if others else ([], "none found")
 
     def own_get(self, s, action):
         """The get of append or write of the parent after which a subject is granted an action."""

@@ -60,16 +60,16 @@ EXPLAINED = [
      "remedy: sec get-write root\n", 4),
     ("ann create memo U hi",
      "no authority\nauthority fails: ann holds neither append nor write on memo\ncompatibility fails: new U does not dominate C of memo\n"
-     "integrity fails: lo of memo does not dominate new hi\nfull holds: next number is 4\nremedy: none\n", 4),
+     "integrity fails: lo of memo does not dominate new hi\nfull holds: next number is 4\nremedy: none found\n", 4),
     ("bob create memo C lo",
      "no authority\nauthority fails: bob holds neither append nor write on memo\ncompatibility holds: new C dominates C of memo\n"
      "integrity holds: lo of memo dominates new lo\nfull holds: next number is 4\n"
      "remedy: sec get-append memo\nremedy: sec create memo C lo instead\n", 4),
-    ("ann delete root", "no root\nroot fails: root is the root\nauthority fails: root has no parent\nremedy: none\n", 4),
+    ("ann delete root", "no root\nroot fails: root is the root\nauthority fails: root has no parent\nremedy: none found\n", 4),
     ("ann delete memo", "no authority\nroot holds: memo is not the root\nauthority fails: ann does not hold write on root\n"
      "remedy: sec get-write root\nremedy: sec delete memo instead\n", 4),
     ("bob level S", "no ceiling\nceiling fails: maximum C does not dominate new S\nstar holds: all that bob holds meets star at new S\n"
-     "remedy: none\n", 4),
+     "remedy: none found\n", 4),
     ("sec level T:A,B", "yes\nceiling holds: maximum T:A,B dominates new T:A,B\nstar holds: all that sec holds meets star at new T:A,B\n", 0),
     ("bob relabel memo S",
      "no authority\nauthority fails: bob does not hold write on root, current U does not dominate C of memo, new S dominates C of memo\n"
@@ -78,7 +78,7 @@ EXPLAINED = [
      "remedy: sec or aud relabel memo S instead\n", 4),
     ("sec relabel root C",
      "no compatibility\nauthority holds by trust: sec is trusted\ncompatibility fails: not each child of root dominates new C\n"
-     "simple holds: all that observe root meet simple at new C\nstar holds: all that hold root meet star at new C\nremedy: none\n", 4),
+     "simple holds: all that observe root meet simple at new C\nstar holds: all that hold root meet star at new C\nremedy: none found\n", 4),
     ("bob check read memo", "not held\n", 4),
     ("#9 give read #8 #7", "undefined\nunknown subject: #9\nunknown subject: #8\ninactive object: #7\n", 4),
     ("#9 give read #9 root", "undefined\nunknown subject: #9\n", 4),
@@ -114,13 +114,15 @@ STAFF_EXPLAINED = [
 STAFF_WHO = ("petra read no integrity, never\npetra append no star, level unclassified after releasing read staff\nintern read yes\n"
              "intern write yes\n")
 
-BAD_LINES = [("", "form"), ("   ", "form"), ("; ann get-read plans", "form"), ("ann get-read", "form: SUBJECT get-read OBJECT"),
-             ("ann get-read plans\n", "form"), ("ann get-read plans\nbob get-read memo", "form: SUBJECT get-read OBJECT"),
-             ("ann get-read $x", "form"), ("$x = sec create root U hi", "form"), ("ann frob plans", "form"),
-             ("ann get-read #01", "form"), ("zoe get-reads plan", "form: get-reads (get-read?)"), ("zoe get-read plan extra", "form: SUBJECT get-read OBJECT"),
+# What is told of a line that has no form, where none is near.
+FORMS = "form: mls ask --help has the forms"
+BAD_LINES = [("", FORMS), ("   ", FORMS), ("; ann get-read plans", FORMS), ("ann get-read", "form: SUBJECT get-read OBJECT"),
+             ("ann get-read plans\n", FORMS), ("ann get-read plans\nbob get-read memo", "form: SUBJECT get-read OBJECT"),
+             ("ann get-read $x", FORMS), ("$x = sec create root U hi", FORMS), ("ann frob plans", FORMS),
+             ("ann get-read #01", FORMS), ("zoe get-reads plan", "form: get-reads (get-read?)"), ("zoe get-read plan extra", "form: SUBJECT get-read OBJECT"),
              ("ann release plans", "form: SUBJECT release MODE OBJECT"), ("ann get read plans", "form: SUBJECT get-read OBJECT"), ("ann get plans", "form: SUBJECT get-read OBJECT"),
              ("sec give read plans", "form: SUBJECT give MODE SUBJECT OBJECT"), ("sec create root U", "form: SUBJECT create PARENT SECURITY-LABEL INTEGRITY-LABEL"),
-             ("ann check plans", "form: SUBJECT check MODE OBJECT"), ("ann GET-READ plans", "form: GET-READ (get-read?)"), ("ann release red plans", "form")]
+             ("ann check plans", "form: SUBJECT check MODE OBJECT"), ("ann GET-READ plans", "form: GET-READ (get-read?)"), ("ann release red plans", FORMS)]
 
 # Lines of which a word names nothing, with what is told of it: the first such word, and the nearest name that can stand there.
 WRONG_WORDS = [
@@ -315,7 +317,7 @@ def lines_that_ask_nothing():
     for line, fault in BAD_LINES:
         for command in ("ask", "explain"):
             refused([command, STANDARD, line], f"line: bad {fault}")
-    refused(["ask", STANDARD, "a" * 20001], "line: bad form")
+    refused(["ask", STANDARD, "a" * 20001], f"line: bad {FORMS}")
 
 
 def words_that_name_nothing():
@@ -331,6 +333,8 @@ def words_that_name_nothing():
         refused(["ask", STANDARD, f"ann {word} plans"], f"line: bad form: {word} ({meant}?)")
         refused(["explain", STANDARD, f"ann {word} plans"], f"line: bad form: {word} ({meant}?)")
     refused(["powers", STANDARD, "memo"], "memo: bad name: it is an object: mls about")
+    for command in ("ask", "explain", "could"):
+        refused([command, STANDARD, " memo  get-read bob"], "line: bad name: memo: it is an object: mls about")
     refused(["who", STANDARD, "bob"], "bob: bad name: it is a subject: mls about")
     refused(["journal", "--by", "memo", STANDARD, "memo.journal"], "memo: bad name: it is an object: mls about")
     refused(["journal", "--subject", "memo", STANDARD, "memo.journal"], "memo: bad name: it is an object: mls about")

@@ -54,10 +54,10 @@ def scripts_by_hand():
 def faults_of_scripts_in_their_order():
     put_faulty()
     for words, told, status in (
-        (["no.json", "x"], f"no.json: {GONE}", 1), (["--by", "bobb", HELD, "x"], "line: bad form", 1),
+        (["no.json", "x"], f"no.json: {GONE}", 1), (["--by", "bobb", HELD, "x"], "line: bad form: mls ask --help has the forms", 1),
         (["--by", "bobb", HELD, "bob get-read memmo"], "line: bad name: memmo (memo?)", 1), ([HELD, "bob release read memo"], "line: bad form: could asks of a get", 1),
         ([HELD, "bob check read memo"], "line: bad form: could asks of a get", 1), ([HELD, "bob release memo"], "line: bad form: could asks of a get", 1),
-        ([HELD, "bob get-read"], "line: bad form: SUBJECT get-read OBJECT", 1), ([HELD, "$x = bob get-read memo"], "line: bad form", 1),
+        ([HELD, "bob get-read"], "line: bad form: SUBJECT get-read OBJECT", 1), ([HELD, "$x = bob get-read memo"], "line: bad form: mls ask --help has the forms", 1),
         (["--by", "bobb", HELD, "bob get-read memo"], "bobb: bad name (bob?)", 1),
         (["--without", "ann,sek", HELD, "bob get-read memo"], "sek: bad name (sec?)", 1),
     ):

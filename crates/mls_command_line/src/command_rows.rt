@@ -1,9 +1,12 @@
 //! The commands of the program, as rows of a table.
 use crate::argument::Argument;
-use crate::question_arguments::{
-    ABOUT_ARGUMENTS, ASK_ARGUMENTS, COMPARE_ARGUMENTS, COULD_ARGUMENTS, EXPLAIN_ARGUMENTS,
-    FLOW_ARGUMENTS, HELD_ARGUMENTS, JOURNAL_ARGUMENTS, LATTICE_ARGUMENTS, LINT_ARGUMENTS,
-    POWERS_ARGUMENTS, REPORT_ARGUMENTS, STATE_ARGUMENTS, USAGE_ARGUMENTS, WHO_ARGUMENTS,
+use crate::asked_arguments::{
+    ABOUT_ARGUMENTS, ASK_ARGUMENTS, COULD_ARGUMENTS, EXPLAIN_ARGUMENTS, FLOW_ARGUMENTS,
+    LATTICE_ARGUMENTS, LINT_ARGUMENTS, POWERS_ARGUMENTS, WHO_ARGUMENTS,
+};
+use crate::compare_arguments::{COMPARE_ARGUMENTS, REPORT_ARGUMENTS};
+use crate::journal_arguments::{
+    HELD_ARGUMENTS, JOURNAL_ARGUMENTS, STATE_ARGUMENTS, USAGE_ARGUMENTS,
 };
 use crate::run_arguments::{
     CHECK_ARGUMENTS, COMPLETE_ARGUMENTS, INIT_ARGUMENTS, REPLAY_ARGUMENTS, RUN_ARGUMENTS,
@@ -157,10 +160,10 @@ pub(crate) const COMMANDS: [CommandRow; 22] = [
         group: Group::Ask,
         brief: "Why is a request answered so, and what would help?",
         about: "Prints the answer to LINE, or without LINE to entry N of a journal; each condition of its rule, \
-            with the labels that it compares, and whether it holds by trust alone; and for a get that is denied what \
-            the subject can ask itself so that it is granted: the lowest current label that helps with all that it \
-            holds; or releases, and then a label; or none by level: no releases and labels of its own help, which \
-            mls who calls never. The status is 0 for yes, created and held, else 4",
+            with the labels that it compares, and whether it holds by trust alone; and after a no the remedy: requests \
+            in order, of the subject or of others, after which it is granted. Of a get that is permitted these are \
+            releases and the lowest current label that helps; none by level: no releases and labels of its own help, \
+            which mls who calls never. The status is 0 for yes, created and held, else 4",
         example: "Examples: mls explain examples/standard.json 'bob get-read memo'; mls explain --journal \
             office.journal --at 1 examples/office.json, of the entry that mls journal --from 1 --to 1 \
             examples/office.json office.journal prints",
@@ -173,10 +176,10 @@ pub(crate) const COMMANDS: [CommandRow; 22] = [
         brief: "Who may get an object, and could now, or could ever?",
         about: "Prints which subjects are permitted OBJ and in which modes, and for each whether a get would be \
             granted now, or else why not and with which current label it would be, after which releases, or never: \
-            no releases and labels of the subject help. It prints nothing for #N where there is no object N. With \
-            --ever, for each permission that there was, from which entry of the journal to which its get would have \
-            been granted. With --could, for each subject and mode, whether it ever comes to that, whatever some \
-            subjects do. The status is 0 where one would be granted, else 4",
+            no releases and labels of the subject help. With --ever, for each permission that there was, from which \
+            entry of the journal to which its get would have been granted. With --could, for each subject and mode, \
+            whether it ever comes to that, whatever some subjects do. The status is 0 where one would be granted, \
+            else 4",
         example: "Examples: mls who examples/standard.json memo read; mls who --could examples/standard.json plans \
             read; mls who --ever --journal office.journal \
             examples/office.json salaries. mls state prints who holds what. Who holds write on the parent may give \
@@ -202,10 +205,10 @@ pub(crate) const COMMANDS: [CommandRow; 22] = [
         brief: "Where could content of an object ever flow?",
         about: "Prints where content of FROM could flow, whatever some subjects do, though what they remember is all \
             that carries it: a line for each subject and then for each object, with a way of the fewest hands there; \
-            or with TO the way to this place alone, or never. All untrusted subjects act. The status is 0 where there \
-            is a way, else 4",
-        example: "Examples: mls flow examples/standard.json plans; mls flow --all examples/standard.json plans bob. \
-            mls could prints a script that does one of the hands",
+            or with TO the way to this place alone and a script, as mls run reads it, that carries the content there, \
+            or never. All untrusted subjects act; one that does not act has no line, even where it holds FROM. The \
+            status is 0 where there is a way, else 4",
+        example: "Examples: mls flow examples/standard.json plans; mls flow --all examples/standard.json plans bob",
         arguments: &FLOW_ARGUMENTS,
     },
     CommandRow {
@@ -213,9 +216,10 @@ pub(crate) const COMMANDS: [CommandRow; 22] = [
         name: "powers",
         group: Group::Ask,
         brief: "What may a subject change: permissions, objects, labels?",
-        about: "Prints what each subject may change now: on which objects it may give and rescind permissions, under \
-            which it may create objects, which it may delete, which labels it may take, and which it may give to an \
-            object, of the labels in use. The status is 0 where there is a line, else 4",
+        about: "Prints what each subject may change now, by one request: on which objects it may give and rescind \
+            permissions, under which it may create objects, which it may delete, which labels it may take, and which \
+            it may give to an object, of the labels in use. A subject that gets write of an object may do more then: \
+            mls could tells what. The status is 0 where there is a line, else 4",
         example: "Examples: mls powers examples/standard.json; mls powers --down examples/office.json, of what can be \
             downgraded, and by whom",
         arguments: &POWERS_ARGUMENTS,
@@ -302,7 +306,7 @@ pub(crate) const COMMANDS: [CommandRow; 22] = [
             was held before them is held at start, which is no grant of theirs. Then of each subject that is trusted, \
             how many entries were granted that would not have been otherwise, and the last: not with --subject, \
             --object or --never. A review wants the whole life of a start, or --from: a permission that is never asked \
-            may be young. The status is 0 where each was granted, else 4; with --tighten it is 0",
+            may be young. The status is 0 where each was granted or is held at start, else 4; with --tighten it is 0",
         example: "Examples: mls usage examples/office.json office.journal; mls usage --never --subject petra \
             examples/office.json office.journal; mls usage --tighten examples/office.json office.journal > tight.json",
         arguments: &USAGE_ARGUMENTS,

@@ -2,14 +2,18 @@
 #![tactic(auto)]
 
 mod argument;
+mod asked_arguments;
+mod asked_words;
 mod command_line;
 mod command_rows;
+mod compare_arguments;
 mod compare_words;
 mod job;
+mod journal_arguments;
+mod journal_words;
 mod json_words;
 mod number_words;
 mod question;
-mod question_arguments;
 mod question_words;
 mod run_arguments;
 mod shared_arguments;

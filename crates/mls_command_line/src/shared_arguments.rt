@@ -12,7 +12,7 @@ pub(crate) const START: Argument = Argument {
 pub(crate) const JOURNAL: Argument = Argument {
     name: "JOURNAL",
     kind: Kind::Operand,
-    help: "The journal, as mls run writes it",
+    help: "The journal, as mls run and mls serve write it",
 };
 
 /// The option `--journal` of a question.

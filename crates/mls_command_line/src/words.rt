@@ -1,14 +1,16 @@
 //! The words of a command line.
+use crate::asked_words::{
+    about_words, ask_words, could_words, explain_words, flow_words, powers_words, state_words,
+    who_words,
+};
 use crate::command_line::command;
 use crate::command_rows::{COMMANDS, CommandName, CommandRow};
 use crate::compare_words::compare_words;
 use crate::job::{Asked, Job, RunWords, ServeWords};
+use crate::journal_words::{held_words, journal_words, usage_words};
 use crate::json_words::asks_json;
 use crate::number_words::number_fault;
-use crate::question_words::{
-    about_words, ask_words, could_words, explain_words, flow_words, held_words, journal_words,
-    operand, powers_words, state_words, usage_words, who_words,
-};
+use crate::question_words::operand;
 use crate::short_help::short_help;
 use crate::state_words::{lattice_words, lint_words, report_words};
 use crate::verify_words::verify_words;

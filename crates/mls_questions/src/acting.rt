@@ -1,8 +1,9 @@
 //! Who acts, where it is asked what could come about.
-use mls_command_line::Actors;
-use mls_could::Choice;
+use mls_command_line::{Actors, FlowWords};
+use mls_could::{Choice, actors_of};
 use mls_replay::named_subject;
 use mls_seen::Seen;
+use mls_tables::SubjectId;
 
 /// Whom a question has act, and by which words.
 pub(crate) fn chosen(actors: Actors<'_>) -> (Choice, Option<&str>) {
@@ -34,4 +35,26 @@ pub(crate) fn unknown_word<'a>(seen: &Seen, actors: Actors<'a>) -> &'a str {
         }
     }
     ""
+}
+
+/// Whether a subject doesn't act.
+fn is_idle(rt: &HostRuntime, seen: &Seen, actors: Actors<'_>, s: SubjectId) -> bool {
+    let (choice, words) = chosen(actors);
+    match actors_of(rt.alloc(), seen.names(), seen.state(), choice, words) {
+        Ok(flags) => !matches!(flags.get(s.number() as usize), Some(true)),
+        Err(_) => false,
+    }
+}
+
+/// Tells that the subject to which content never flows doesn't act, where it doesn't.
+pub(crate) fn tell_idle(rt: &HostRuntime, seen: &Seen, words: FlowWords<'_>) {
+    let word = words.to.unwrap_or("");
+    if words.is_object || word.is_empty() {
+        return;
+    }
+    if let Some(s) = seen.names().subject(word) {
+        if is_idle(rt, seen, words.actors, s) {
+            let _ = eprintln!(rt; "mls: {word}: it does not act (--all?)");
+        }
+    }
 }

@@ -52,9 +52,51 @@ fn tell_form(rt: &HostRuntime, line: &str) -> bool {
     false
 }
 
+/// Tells that a line has no form, and where the forms are.
+fn tell_bad_form(rt: &HostRuntime, line: &str) -> ExitCode {
+    if !tell_form(rt, line) {
+        let _ = eprintln!(rt; "mls: line: bad form: mls ask --help has the forms");
+    }
+    ExitCode::from(1)
+}
+
+/// The first word of a line; empty where it has none.
+fn first_word(line: &str) -> &str {
+    for word in line.split(' ') {
+        if !word.is_empty() {
+            return word;
+        }
+    }
+    ""
+}
+
+/// Whether a word names an object of a start and no subject, by the bytes of the start file.
+fn is_object_alone(alloc: Global, start: &[u8], word: &str) -> bool {
+    let Ok(loaded) = read_start(alloc, start) else {
+        return false;
+    };
+    let names = loaded.names();
+    let is = names.subject(word).is_none() && names.object(word).is_some();
+    drop(loaded);
+    is
+}
+
+/// Tells that the name of a line's subject is an object's, by the bytes of the start file, and says whether it is.
+fn tell_exchanged(rt: &HostRuntime, start: &[u8], line: &str) -> bool {
+    let word = first_word(line);
+    let is_object = is_object_alone(rt.alloc(), start, word);
+    if is_object {
+        let _ = eprintln!(rt; "mls: line: bad name: {word}: it is an object: mls about");
+    }
+    is_object
+}
+
 /// Tells for which fault a line is refused, by the bytes of the start file.
 fn line_refused(rt: &HostRuntime, start: &[u8], line: &str, fault: LineFault) -> ExitCode {
-    if matches!(fault, LineFault::BadForm) && tell_form(rt, line) {
+    if matches!(fault, LineFault::BadForm) {
+        return tell_bad_form(rt, line);
+    }
+    if matches!(fault, LineFault::UnknownName) && tell_exchanged(rt, start, line) {
         return ExitCode::from(1);
     }
     told(rt, fault_line(rt.alloc(), start, line, fault))

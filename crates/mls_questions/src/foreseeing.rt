@@ -1,5 +1,5 @@
 //! How the questions end what could come about, and where content could flow.
-use crate::acting::unknown_word;
+use crate::acting::{tell_idle, unknown_word};
 use crate::answering::thing_refused;
 use crate::form_meant::asks_no_get;
 use crate::named::Named;
@@ -70,5 +70,10 @@ pub(crate) fn ended_flow<'a>(
     let mut named = named.with_hint(named.hint);
     named.object = unknown_object(seen, words);
     named.subject = unknown_word(seen, words.actors);
-    rows_ended(progress, &named, start, done)
+    let is_never = matches!(&done, Ok(listing) if !listing.is_positive);
+    let status = rows_ended(progress, &named, start, done);
+    if is_never {
+        tell_idle(progress.rt(), seen, words);
+    }
+    status
 }

@@ -11,7 +11,7 @@ use std::alloc::AllocError;
 /// `AllocError` where an allocation failed.
 pub(crate) fn add_what_could(page: &mut Page, seen: &Part<'_>) -> Result<(), AllocError> {
     let found = grid_of(page.alloc(), seen.state(), SHOWN, ACROSS)?;
-    let done = add_futures(page, seen.names(), &found);
+    let done = add_futures(page, seen.names(), seen.state(), &found);
     drop(found);
     done
 }

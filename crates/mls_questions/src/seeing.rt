@@ -8,7 +8,7 @@ use crate::one_state::{OfState, answer_seen};
 use crate::row_answers::{form_of, rows_ended};
 use crate::snapshots::{ended_start, start_of};
 use crate::sources::{Bytes, read_source, start_unread};
-use mls_command_line::Source;
+use mls_command_line::{FlowWords, Source};
 use mls_files::{
     Goal, Hint, Sought, Wanted, open_start, seek, segments_of, start_file, start_hint,
 };
@@ -151,6 +151,29 @@ fn tell_none(rt: &HostRuntime, seen: &Seen, object: &str) {
     }
 }
 
+/// Whether two words name one object.
+fn is_one_object(seen: &Seen, a: &str, b: &str) -> bool {
+    let Ok(first) = named_object(seen.names(), a) else {
+        return false;
+    };
+    let Ok(second) = named_object(seen.names(), b) else {
+        return false;
+    };
+    first.number() == second.number()
+}
+
+/// Tells of each end of a flow that it is no object of the state that is seen, where it is the number of one.
+fn tell_ends(rt: &HostRuntime, seen: &Seen, words: FlowWords<'_>) {
+    tell_none(rt, seen, words.from);
+    let Some(to) = words.to else {
+        return;
+    };
+    let is_object = words.is_object || seen.names().subject(to).is_none();
+    if is_object && !is_one_object(seen, words.from, to) {
+        tell_none(rt, seen, to);
+    }
+}
+
 /// Ends the command in the state that is seen.
 fn end_seen<'a>(
     progress: &mut Progress<'_>,
@@ -176,7 +199,7 @@ fn end_seen<'a>(
     }
     if let OfState::Flow(words) = asked {
         let status = ended_flow(progress, &named, seen, words, done);
-        tell_none(progress.rt(), seen, words.from);
+        tell_ends(progress.rt(), seen, words);
         return status;
     }
     let status = rows_ended(progress, &named, seen.start_file(), done);

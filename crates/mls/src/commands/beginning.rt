@@ -1,6 +1,6 @@
 //! The command that makes a whole start file of a short one.
 use mls_complete::{CompleteFault, complete as completed, short_places};
-use mls_files::{command_refused_so, load_hint, start_file, start_hint};
+use mls_files::{Hint, command_refused_so, load_hint, start_file, start_hint};
 use mls_replay::{CommandFault, START_LIMIT};
 use mls_rows::Form;
 use mls_start_file::LoadFault;
@@ -17,6 +17,13 @@ fn tell_places(rt: &HostRuntime, bytes: &[u8], fault: LoadFault) {
     }
 }
 
+/// Tells which command tells where, of a fault that has no places here.
+fn tell_where(rt: &HostRuntime, short: &str, fault: LoadFault) {
+    if matches!(fault, LoadFault::Json | LoadFault::Members) {
+        let _ = eprintln!(rt; "mls: mls lint {short} tells where");
+    }
+}
+
 /// Tells why a short start file of these bytes isn't completed, and where.
 fn uncompleted(
     progress: &mut Progress<'_>,
@@ -30,8 +37,12 @@ fn uncompleted(
         CompleteFault::Load(fault) => {
             let why = CommandFault::from(fault);
             let hint = load_hint(&why, start_hint(bytes));
+            let is_bare = matches!(&hint, Hint::None);
             let status = command_refused_so(progress.rt(), short, &why, hint);
             tell_places(progress.rt(), bytes, fault);
+            if is_bare {
+                tell_where(progress.rt(), short, fault);
+            }
             status
         }
         CompleteFault::Differs => refused(progress.rt(), "mls: output: differs", 1),
