@@ -27,7 +27,7 @@ alike h e under is stands =
     let within : e.number ≤ length r.entries = omega (arith, inside) in
     let whole : SeesWhole seen = record {
       entries = r.entries;
-      sees = record { text = is.replays.sees.text; legal = is.replays.sees.legal; seen = record { within = within; folded = refl } };
+      sees = record { text = is.replays.sees.text; ranges = is.replays.sees.ranges; legal = is.replays.sees.legal; seen = record { within = within; folded = refl } };
       number = refl;
       next = sym explained.there;
     } in record {

@@ -1,3 +1,4 @@
 mod Cuts
+mod KeptStates
 mod Taken
 mod Whole

@@ -6,11 +6,11 @@ use Rattle.mls_requests.specs.declared.entry.Entry.{Entry}
 use Rattle.mls_requests.specs.contracts.entry.Entry as entry
 use Rattle.mls_state.specs.State.{State, state_code}
 use Rattle.mls_state.specs.Properties.{IsSecure}
-use Rattle.mls_journal.specs.EntryText.{journal_text}
+use Rattle.mls_journal.specs.EntryText.{journal_text, AllHaveRanges}
 use Rattle.mls_monitor.specs.Journal.{fold, IsLegal}
 use Rattle.mls_start_file.specs.Says.{SaysStart}
 use Rattle.mls_replay.specs.Replays.{SeesOver}
-use Rattle.mls_snapshots.specs.Reading.{IsOfStart}
+use Rattle.mls_snapshots.specs.Reading.{IsOver}
 use Rattle.mls_snapshots.specs.States.{state_text}
 
 -- Where a journal is cut: how many entries come before, and the text of the state that was kept there, where one was;
@@ -67,11 +67,11 @@ seen_code =
       next = p.1.1.1.1.1.1;
     }) (λ _. refl)
 
--- A state is the one that was kept: no other secure state of the start has the text. Where none was kept it is that of
--- the start. (own)
+-- A state is the one that was kept: no other secure state over the start has the text. Where none was kept it is that
+-- of the start. (own)
 abbrev pub IsKept : Names → State → Option (List ℕ) → State → Type 0
 IsKept names start None v = v ≡ start
-IsKept names start (Some text) v = (w : State) → IsSecure w → IsOfStart start w → state_text names w ≡ text → v ≡ w
+IsKept names start (Some text) v = (w : State) → IsSecure w → IsOver start w → state_text names w ≡ text → v ≡ w
 
 -- Entries stand before a cut: they are as many as it says, legal from the start, and lead to the state that was kept.
 -- (own)
@@ -91,10 +91,12 @@ IsAt None number = Unit {0}
 IsAt (Some at) number = number ≡ at
 
 -- Behind earlier entries a journal's text is that of entries up to a state, and of the next one where that is known:
--- all are legal behind the earlier ones, and the state is the one that they lead to. (own)
+-- their numbers and labels have their ranges, all are legal behind the earlier ones, and the state is the one that they
+-- lead to. (own)
 pub record SeesBehind (start : State) (earlier : List Entry) (r : Seen) : Type 0 where
   pub entries : List Entry
   pub text : r.files.journal ≡ journal_text (entries ++ list_of r.next)
+  pub ranges : AllHaveRanges (entries ++ list_of r.next)
   pub legal : IsLegal start (earlier ++ (entries ++ list_of r.next))
   pub state : r.state ≡ fold start (earlier ++ entries)
   pub number : r.number ≡ length (earlier ++ entries)

@@ -1,5 +1,5 @@
 -- What is seen of files that were read, whole or from a cut on.
-use Rattle.std.specs.Prelude.{◌≡◌, ℕ, Option, None, Some}
+use Rattle.std.specs.Prelude.{ℕ, Option, None}
 use Rattle.mls_requests.specs.declared.entry.Entry.{Entry}
 use Rattle.mls_journal.specs.EntryText.{journal_text}
 use Rattle.mls_seen.specs.Files.{Seen, place_of}

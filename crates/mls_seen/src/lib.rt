@@ -2,6 +2,7 @@
 #![tactic(auto)]
 
 mod history;
+mod kept;
 mod opened;
 mod seeing;
 mod seen;
@@ -10,6 +11,7 @@ mod taking;
 mod theorems;
 
 pub use history::History;
+pub use kept::is_kept_state;
 pub use opened::Opened;
 pub use seeing::Seeing;
 pub use seen::Seen;

@@ -65,6 +65,13 @@ impl Opened {
         self.loaded.names()
     }
 
+    /// The names and the start.
+    pub(crate) fn loaded(&self) -> &Loaded
+        ensures { result.now ≡ self.now.loaded }
+    {
+        &self.loaded
+    }
+
     /// The start.
     pub fn start(&self) -> &Start
         ensures { result.now ≡ self.now.loaded.start }

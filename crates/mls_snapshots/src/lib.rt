@@ -13,6 +13,7 @@ mod same;
 mod scheme_names;
 mod schemes;
 mod start_text;
+mod state_comparing;
 mod state_line;
 mod state_lines;
 mod state_reading;
@@ -26,6 +27,7 @@ mod theorems;
 
 pub use read_fault::ReadStateFault;
 pub use scheme_names::{category_names, level_names};
+pub use state_comparing::is_text_of;
 pub use state_lines::{push_object_line, push_subject_line};
 pub use state_reading::read_state;
 pub use state_start::{StateStart, StateStartFault, start_of_state};

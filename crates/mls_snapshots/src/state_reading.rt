@@ -1,18 +1,16 @@
 //! States read from their text.
-ghost use Rattle.std.specs.Prelude.{◌≡◌, IsTrue, IfOk, OnOk, string_bytes};
-ghost use Rattle.mls_snapshots.specs.Reading.{IsOfStart, HasLabelsWithin};
+ghost use Rattle.std.specs.Prelude.{◌≡◌, IfOk, OnOk, string_bytes};
+ghost use Rattle.mls_snapshots.specs.Reading.{IsOfStart, IsOver, HasLabelsWithin};
 ghost use Rattle.mls_snapshots.specs.Renumbering.{HasSameSubjects};
 ghost use Rattle.mls_snapshots.specs.States.{state_text};
 ghost use Rattle.mls_state.specs.Properties.{IsSecure};
 
-use crate::labels::has_labels_within;
 use crate::names::is_same_text;
 use crate::read_fault::ReadStateFault;
 use crate::rebuilding::rebuild;
-use crate::same::has_same_kind;
+use crate::state_comparing::is_over;
 use crate::state_rows::StateRows;
 use crate::state_writing::state_text;
-use crate::subjects::has_fixed_subjects;
 use mls_lines::Names;
 use mls_start::{Start, StateRefused};
 use mls_state::State;
@@ -77,17 +75,6 @@ fn read_text(alloc: Global, names: &Names, text: &str) -> Result<State, ReadStat
     }
 }
 
-/// Whether a state is of a start: what no rule changes is as there, and no label is outside the bounds.
-fn is_of_start(alloc: Global, start: &Start, state: &State) -> Result<bool, AllocError>
-    ensures start { IfOk result (λ is. IsTrue is → IsOfStart start.now state.now) }
-    ensures within { IfOk result (λ is. IsTrue is → HasLabelsWithin state.now) }
-{
-    let opening = start.opening(alloc)?;
-    let is = has_same_kind(&opening, state) && has_fixed_subjects(&opening, state);
-    drop(opening);
-    Ok(is && has_labels_within(state))
-}
-
 /// The start that opens with a state.
 ///
 /// # Errors
@@ -122,13 +109,14 @@ pub fn read_state(
     ensures text { IfOk result (λ begun. state_text names.now begun ≡ bytes.now) }
     ensures start { IfOk result (λ begun. IsOfStart start.now begun) }
     ensures within { IfOk result (λ begun. HasLabelsWithin begun) }
+    ensures over { IfOk result (λ begun. IsOver start.now begun) }
     ensures secure { IfOk result (λ begun. IsSecure begun) }
 {
     let Ok(text) = str::from_utf8(bytes) else {
         return Err(ReadStateFault::Line(1));
     };
     let state = read_text(alloc, names, text)?;
-    let is = is_of_start(alloc, start, &state);
+    let is = is_over(alloc, start, &state);
     match is {
         Ok(true) => begin(alloc, state),
         Ok(false) => {
