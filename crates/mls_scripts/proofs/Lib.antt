@@ -1,3 +1,4 @@
+pub mod Accesses
 pub mod HalfSteps
 pub mod Kept
 pub mod LineLemmas

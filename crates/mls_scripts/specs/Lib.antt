@@ -1,3 +1,4 @@
+pub mod Access
 pub mod Asking
 pub mod Feed
 pub mod Halves

@@ -1,14 +1,17 @@
 //! The step of one line of a script: what it asks of the monitor, and what it is answered.
-ghost use Rattle.std.specs.Prelude.{◌≡◌, ◌++◌, ◌∷◌, [], option_map, IfOk, OnOk, OnErr};
+ghost use Rattle.std.specs.Prelude.{◌≡◌, ◌++◌, ◌∷◌, [], List, ℕ, Ok, None, option_map, IfOk, OnOk, OnErr};
 ghost use Rattle.mls_rules.specs.Rules.{reply};
 ghost use Rattle.mls_monitor.specs.Journal.{state_of};
+ghost use Rattle.mls_lines.specs.LineView.{Asks};
 ghost use Rattle.mls_lines.specs.ScriptLine.{line_of};
+ghost use Rattle.mls_scripts.specs.Access.{asked_by};
 ghost use Rattle.mls_scripts.specs.Script.{standing_of, said_to, left_by, vars_after, entry_for};
 
+use crate::access::{Access, Kind, read_access};
 use crate::halves::{bind_reply, make_room};
 use mls_lines::{Line, LineFault, Names, Vars, read_line};
 use mls_monitor::Monitor;
-use mls_requests::{Ask, Reply, Request};
+use mls_requests::{Action, Ask, Reply, Request};
 use std::alloc::{AllocError, Allocator};
 
 /// The answer to a line.
@@ -37,6 +40,62 @@ impl<N: Allocator> Script<'_, N> {
     /// # Errors
     /// `AllocError` where an allocation failed. The variables and the monitor are then as they were.
     pub fn answer<A: Allocator, V: Allocator + Copy>(
+        &self,
+        vars: &mut Vars<V>,
+        monitor: &mut Monitor<A>,
+        line: &[u8],
+    ) -> Result<Answer, AllocError>
+        ensures answer { let before = standing_of vars.old.bound monitor.old in
+            IfOk result (λ a. a ≡ said_to before (line_of self.now.names.now before.vars line.now)) }
+        ensures stands { let before = standing_of vars.old.bound monitor.old in
+            OnOk result (standing_of vars.new.bound monitor.new
+            ≡ left_by self.now.session before (line_of self.now.names.now before.vars line.now)) }
+        ensures err { OnErr result (standing_of vars.new.bound monitor.new ≡ standing_of vars.old.bound monitor.old) }
+        ensures forgotten { monitor.new.forgotten ≡ monitor.old.forgotten }
+    {
+        match read_access(self.names, line) {
+            Some(access) => self.answer_access(monitor, access),
+            None => self.answer_line(vars, monitor, line),
+        }
+    }
+
+    /// Asks what a line asks about an access.
+    ///
+    /// # Errors
+    /// `AllocError` where an allocation failed. The monitor is then as it was.
+    fn answer_access<A: Allocator>(
+        &self,
+        monitor: &mut Monitor<A>,
+        access: Access,
+    ) -> Result<Answer, AllocError>
+        ensures answer { (vars : List (List ℕ × ℕ)) → let before = standing_of vars monitor.old in
+            IfOk result (λ a. a ≡ said_to before (Ok (Asks None (asked_by access)))) }
+        ensures stands { (vars : List (List ℕ × ℕ)) → let before = standing_of vars monitor.old in
+            OnOk result (standing_of vars monitor.new
+            ≡ left_by self.now.session before (Ok (Asks None (asked_by access)))) }
+        ensures err { (vars : List (List ℕ × ℕ))
+            → OnErr result (standing_of vars monitor.new ≡ standing_of vars monitor.old) }
+        ensures forgotten { monitor.new.forgotten ≡ monitor.old.forgotten }
+    {
+        let subject = access.subject;
+        let (mode, object) = (access.mode, access.object);
+        let action = match access.kind {
+            Kind::Check => return Ok(Answer::Held(monitor.check(subject, object, mode))),
+            Kind::Get => Action::Get(mode, object),
+            Kind::Release => Action::Release(mode, object),
+        };
+        let reply = monitor
+            .submit(self.session, Request { subject, action })?
+            .reply;
+        Ok(Answer::Replied(reply))
+    }
+
+    /// Asks what a line asks, of whatever form, and binds its variable.
+    ///
+    /// # Errors
+    /// `AllocError` where an allocation failed. The variables and the monitor are then as they were.
+    #[inline(never)]
+    fn answer_line<A: Allocator, V: Allocator + Copy>(
         &self,
         vars: &mut Vars<V>,
         monitor: &mut Monitor<A>,

@@ -2,6 +2,7 @@
 //! it is fed.
 #![tactic(auto)]
 
+mod access;
 mod answer;
 mod answering;
 mod feed;
