@@ -1,4 +1,5 @@
-/* Tests an office: eight threads, each with the handle of a session of its own, ask side by side.
+/* Tests an office: eight threads, each with the handle of a session of its own, ask side by side. Then one of them gives
+ * and rescinds, and the others keep a yes in a cache by the count of changes.
  *
  *     office START [ROUNDS]
  *
@@ -68,6 +69,88 @@ static void *work(void *at) {
     return NULL;
 }
 
+/* What the first thread is at: odd from when a rescission was answered until the next permission is asked for. */
+static uint64_t step;
+
+static uint64_t step_now(void) { return __atomic_load_n(&step, __ATOMIC_SEQ_CST); }
+
+static void step_to(uint64_t next) { __atomic_store_n(&step, next, __ATOMIC_SEQ_CST); }
+
+/* A yes, with the count of changes that was read before it. */
+typedef struct {
+    uint64_t count;
+    int is_yes;
+} cached;
+
+/* Answers whether ann reads the first object: by the cache while the count is as before, else by a check. */
+static long ask_cache(mls_session *s, cached *kept, int *held) {
+    uint64_t count = 0;
+    long wrong = mls_session_changes(s, &count) != MLS_OK || count < kept->count;
+    if (kept->is_yes && count == kept->count) {
+        *held = 1;
+        return wrong;
+    }
+    wrong += mls_wait_check(s, ANN, MADE, MLS_READ, held) != MLS_OK;
+    kept->count = count;
+    kept->is_yes = *held;
+    return wrong;
+}
+
+/* Asks its cache until the last rescission. A yes is stale if it was asked for, and told, after a rescission. */
+static void *ask_on(void *at) {
+    worker *w = at;
+    cached kept = { 0, 0 };
+    uint64_t before, last = 2 * (uint64_t)rounds + 1;
+    int held;
+    do {
+        before = step_now();
+        w->wrong += ask_cache(w->session, &kept, &held);
+        w->wrong += held && before % 2 && before == step_now();
+    } while (before != last);
+    w->wrong += kept.count != (uint64_t)rounds || held;
+    return NULL;
+}
+
+static long is_not_granted(mls_session *s, uint8_t action, uint16_t subject) {
+    mls_request q = mls_request_of(action, subject, MADE, MLS_READ);
+    mls_answer a;
+    q.other = ANN;
+    return mls_wait_submit(s, &q, &a) != MLS_OK || a.reply != MLS_YES;
+}
+
+/* Permits ann to read the first object, which she then does, and rescinds both; each rescission is one change. */
+static void *give_and_rescind(void *at) {
+    worker *w = at;
+    uint64_t n, count = 0;
+    for (n = 0; n < (uint64_t)rounds; n++) {
+        step_to(2 * n + 2);
+        w->wrong += is_not_granted(w->session, MLS_GIVE, SEC) + is_not_granted(w->session, MLS_GET, ANN);
+        w->wrong += mls_session_changes(w->session, &count) != MLS_OK || count != n;
+        w->wrong += is_not_granted(w->session, MLS_RESCIND, SEC);
+        w->wrong += mls_session_changes(w->session, &count) != MLS_OK || count != n + 1;
+        step_to(2 * n + 3);
+    }
+    return NULL;
+}
+
+/* The first thread takes away what the others have in their caches. */
+static void has_caches(mls_monitor *m, worker *workers) {
+    mls_office office = MLS_OFFICE_INIT;
+    pthread_t threads[THREADS];
+    uint64_t count = 7;
+    int k;
+    CHECK(mls_office_open(&office, m, sessions, THREADS) == MLS_OK);
+    for (k = 0; k < THREADS; k++) {
+        if (pthread_create(&threads[k], NULL, k ? ask_on : give_and_rescind, &workers[k])) exit(2);
+    }
+    for (k = 0; k < THREADS; k++) {
+        pthread_join(threads[k], NULL);
+        CHECK(workers[k].wrong == 0);
+    }
+    CHECK(mls_office_close(&office, sessions, m) == MLS_OK);
+    CHECK(mls_session_changes(&sessions[0], &count) == MLS_ECLOSED && count == 7);
+}
+
 /* An open monitor in which ann may read an object for each thread. */
 static void prepare(mls_monitor *m) {
     mls_fault fault;
@@ -111,6 +194,7 @@ int main(int argc, char **argv) {
     mls_office office = MLS_OFFICE_INIT;
     pthread_t threads[THREADS];
     worker workers[THREADS];
+    uint64_t count = 0;
     int k;
     if (!file) return 2;
     start_len = fread(start, 1, sizeof start, file);
@@ -128,9 +212,13 @@ int main(int argc, char **argv) {
     for (k = 0; k < THREADS; k++) {
         pthread_join(threads[k], NULL);
         CHECK(workers[k].wrong == 0);
+        /* (each thread's releases are changes, and its gets are none) */
+        CHECK(mls_session_changes(&sessions[k], &count) == MLS_OK);
     }
+    CHECK(count == (uint64_t)(THREADS * (rounds / 2)));
     CHECK(mls_office_close(&office, sessions, &m) == MLS_OK && m.held);
     has_all(&m, workers);
+    has_caches(&m, workers);
     for (k = 0; k < THREADS; k++) free(workers[k].numbers);
     mls_close(&m);
     if (!failed) printf("ok\n");

@@ -445,6 +445,15 @@ int mls_session_decide(mls_session *s, const mls_request *request, mls_answer *a
  * MLS_ECLOSED; MLS_EBUSY; MLS_EAGAIN if the journal has fewer entries yet. */
 int mls_session_see(mls_session *s, uint64_t n);
 
+/* Writes how many changes the session's history has since the office was opened: granted requests
+ * that took an access or a permission away (release, rescind, delete) or changed a label. Each is
+ * in the count before its mls_session_submit returns. The count of an office never falls. While it
+ * is as before, no access or permission has gone, and no subject's label has changed: a cache keeps
+ * a yes of a check of this session with the count that it read before it, and asks again once the
+ * count is another. A no may have become a yes. A new office counts from 0: empty the cache. It
+ * reads one word and takes no lock. It adds no entry and doesn't allocate. MLS_ECLOSED. */
+int mls_session_changes(mls_session *s, uint64_t *count);
+
 /* Gives two sessions of one office what either of them has seen: later calls on both answer from a
  * journal with all entries that either knew. No other call works on them. It takes no lock and
  * doesn't allocate. MLS_ECLOSED; MLS_EINVAL if they are of two offices, or the same. */
@@ -453,10 +462,12 @@ int mls_session_meet(mls_session *s, mls_session *other);
 /* Copies out the lines of the journal's entries from number from on, while the office is open:
  * whole lines, as many as fit, none if there is no such entry yet. len is the length of the text,
  * and next the number of the entry after the last line: the texts of calls that begin with 0 and go
- * on at each call's next are the journal's text, whatever other sessions do meanwhile. It tries the
- * lock once. MLS_ECLOSED; MLS_EBUSY; MLS_ENOTFOUND if entry from is forgotten, or from is above the
- * number of entries; MLS_ERANGE if there isn't room for one line, which has less than 4096 bytes;
- * MLS_ENOMEM: then nothing is written. docs/EMBEDDING.md has a store that syncs it. */
+ * on at each call's next are the journal's text, whatever other sessions do meanwhile. After a
+ * resume begin with mls_entries of the monitor's handle, called before the office is opened: later
+ * it returns 0. It tries the lock once. MLS_ECLOSED; MLS_EBUSY; MLS_ENOTFOUND if entry from is
+ * forgotten, or from is above the number of entries; MLS_ERANGE if there isn't room for one line,
+ * which has less than 4096 bytes; MLS_ENOMEM: then nothing is written. docs/EMBEDDING.md has a
+ * store that syncs it. */
 int mls_session_entry_text(mls_session *s, uint64_t from, char *buf, size_t cap, size_t *len,
                            uint64_t *next);
 
@@ -487,7 +498,8 @@ int mls_fault_text(int status, const mls_fault *fault, char *buf, size_t cap, si
 /* The version of the library, as MAJOR.MINOR. */
 const char *mls_version(void);
 
-/* The names of numbers, as the program mls writes them; "?" if a number has none. */
+/* The names of numbers, as the program mls writes them; "?" if a number has none. The word of a
+ * denial is "no": mls_reason_word(mls_reason_of(reply)) has the reason. */
 const char *mls_status_word(int status);
 const char *mls_action_word(int action);
 const char *mls_mode_word(int mode);

@@ -7,7 +7,7 @@ from .requests import Create, Delete, Get, Give, Level, Name, Relabel, Release, 
 from .values import Answer, Label, Mode
 
 
-# None: 0 of a monitor, a client's own.
+# None: 0 of a monitor; the own number of a client and of an office's session, which take no other.
 Session = Optional[int]
 
 

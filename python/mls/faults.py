@@ -85,7 +85,8 @@ class NotYours(Error, PermissionError):
 
 
 class Busy(Error):
-    """The service has a limit, which this line would pass. It wasn't asked."""
+    """The service has a limit, which this line would pass, and it wasn't asked; or a session is at work in an office,
+    which stays open."""
 
 
 class ReplayDiffers(Error, ValueError):

@@ -1,15 +1,17 @@
 """An office: a monitor that threads share, each by a session of its own."""
 from __future__ import annotations
 
+import contextlib
 import itertools
 import threading
 import time
 from ctypes import byref, c_int, c_size_t, c_uint64, create_string_buffer
-from typing import Any, Callable, Optional, Union
+from types import TracebackType
+from typing import Any, Callable, Optional, Type, Union
 
 from . import actions
 from . import library as lib
-from .faults import BadRequest, Busy, NoSuchEntry, UnknownName
+from .faults import BadRequest, Busy, Closed, NoSuchEntry, UnknownName
 from .handle import is_ok
 from .monitor import Monitor
 from .numbering import answer_of, number
@@ -19,8 +21,9 @@ from .values import Answer, Kind, Label, Mode
 
 
 class Office:
-    """A monitor that is open to so many sessions, 1 to 64, whose calls run side by side. The monitor is closed while the
-    office has it; close gives one back, with the journal of all sessions."""
+    """A monitor that is open to so many sessions, 1 to 64, whose calls run side by side: `sessions` is their tuple, one
+    for each thread. The monitor is closed while the office has it; close gives one back, with the journal of all
+    sessions. A `with` block that leaves the office open closes it and its monitor."""
 
     def __init__(self, monitor: Monitor, count: int) -> None:
         if not 1 <= number(count) <= lib.SESSIONS:
@@ -36,8 +39,8 @@ class Office:
         self.sessions = tuple(Session(self, it) for it in range(count))
 
     def close(self) -> Monitor:
-        """The monitor, with the one journal of all sessions, no call of which is at work. Their calls then raise
-        Closed."""
+        """The monitor, with the one journal of all sessions. Their calls then raise Closed. Busy if one is at work: end
+        the threads first. Then nothing is changed."""
         handle = lib.Handle()
         taken = [session for session in self.sessions if session._lock.acquire(blocking=False)]
         try:
@@ -48,6 +51,14 @@ class Office:
             for session in taken:
                 session._lock.release()
         return Monitor._of(self._library, handle)
+
+    def __enter__(self) -> Office:
+        return self
+
+    def __exit__(self, kind: Optional[Type[BaseException]], error: Optional[BaseException],
+                 trace: Optional[TracebackType]) -> None:  # fmt: skip
+        with contextlib.suppress(Closed):
+            self.close().close()
 
     def __del__(self) -> None:
         for session in getattr(self, "_sessions", ()):
@@ -61,7 +72,8 @@ class Office:
 
 class Session(Reading):
     """A session of an office, by its number, which its entries have. Its calls take turns; those of different sessions
-    run side by side. Names are those that the monitor had when the office was opened, and a label is no text."""
+    run side by side. Names are those that the monitor had when the office was opened. A label is a Label, which
+    Monitor.label reads from its text before."""
 
     def __init__(self, office: Office, number: int) -> None:
         self.office, self.number = office, number
@@ -92,11 +104,11 @@ class Session(Reading):
         """A label is its own; its text is read by a monitor."""
         if isinstance(label, Label):
             return label
-        raise BadRequest(f"a session reads no label's text: {label!r}")
+        raise BadRequest(f"a session takes a Label, no text: {label!r}; before the office opens, Monitor.label reads it")
 
     def submit(self, request: Request, session: actions.Session = None) -> Answer:
-        """Answers a request by the rules, changes the state as they say, and adds its entry to the one journal, with the
-        session's number."""
+        """Answers a request by the rules, changes the state as they say, and adds its entry to the one journal. It has
+        the session's number: `session` is that or None."""
         if session not in (None, self.number):
             raise BadRequest(f"session {self.number} asks for itself alone")
         struct, answer = self._struct(request), lib.Answer()
@@ -125,6 +137,15 @@ class Session(Reading):
         is_ok(status)
         return True
 
+    def changes(self) -> int:
+        """How many changes the journal has since the office was opened: granted requests that took an access or a
+        permission away, or changed a label. Each is in the count before its submit returns. While the count is as
+        before, no access or permission has gone: a cache keeps a yes of this session's check with the count that was
+        read before it. A new office counts from 0."""
+        count = c_uint64()
+        is_ok(self._asked("changes", byref(count)))
+        return count.value
+
     def meet(self, other: Session) -> None:
         """Gives both sessions, which are of one office, what either has seen."""
         first, second = sorted((self, other), key=lambda it: it.number)
@@ -136,12 +157,15 @@ class Session(Reading):
 
     def lines(self, first: int = 0, room: int = 1 << 16) -> tuple[bytes, int]:
         """The lines of the journal's entries from one on, while the office is open: whole lines, as many as fit into so
-        many bytes; and the number of the entry after them."""
+        many bytes, none if there is no such entry yet; and the number of the entry after them. NoSuchEntry if the entry
+        is forgotten or above the number of entries; BadRequest if not one line fits: each has less than 4,096 bytes."""
         buffer, length, after = create_string_buffer(room), c_size_t(), c_uint64()
         status = self._asked("entry_text", number(first, 64), buffer, room, byref(length), byref(after))
         if status == lib.NOT_FOUND:
             raise NoSuchEntry(f"no entry {first}")
-        is_ok(status, "no room for a line" if status == lib.TOO_SHORT else "an allocation failed")
+        if status == lib.TOO_SHORT:
+            raise BadRequest(f"no room for the line of entry {first} in {room} bytes")
+        is_ok(status, "an allocation failed")
         return buffer.raw[: length.value], after.value
 
 

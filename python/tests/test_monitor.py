@@ -304,6 +304,18 @@ class Monitors(unittest.TestCase):
             with mls.Monitor.resume(STANDARD, m.journal()) as resumed:
                 self.assertEqual(resumed.entry_count, m.entry_count)
 
+    def test_sessions_count_what_is_taken_away(self):
+        office = mls.Office(self.monitor, 2)
+        first, second = office.sessions
+        first.get("ann", "read", "plans")
+        self.assertEqual((first.changes(), second.changes()), (0, 0))
+        first.release("ann", "read", "plans")
+        self.assertEqual((second.changes(), first.changes()), (1, 1))
+        self.assertFalse(first.submit(mls.Rescind("ann", "read", "ann", "plans")))
+        self.assertEqual(second.changes(), 1)
+        office.close().close()
+        self.assertRaises(mls.Closed, first.changes)
+
     def test_a_session_sees_what_another_did(self):
         office = mls.Office(self.monitor, 2)
         first, second = office.sessions
@@ -339,7 +351,7 @@ class Monitors(unittest.TestCase):
         self.assertEqual(after, 2)
         self.assertEqual(first.lines(0, len(journal)), (journal, 1))
         self.assertRaises(mls.NoSuchEntry, lambda: first.lines(3))
-        self.assertRaises(mls.Error, lambda: first.lines(0, 3))
+        self.assertRaises(mls.BadRequest, lambda: first.lines(0, 3))
         self.assertRaises(mls.UnknownName, lambda: first.subject_info(99))
         self.assertRaises(mls.Undefined, lambda: first.explain(mls.Get("bob", "read", 99)))
         with office.close() as m:
@@ -369,6 +381,22 @@ class Monitors(unittest.TestCase):
         for late in (lambda: second.check("ann", "read", "plans"), office.close):
             with self.assertRaises(mls.Closed):
                 late()
+
+    def test_a_with_block_closes_an_office_and_its_monitor(self):
+        with mls.Office(self.monitor, 2) as office:
+            first, second = office.sessions
+            first.get("ann", "read", "plans")
+        self.assertRaises(mls.Closed, lambda: second.counts())
+        self.assertRaises(mls.Closed, office.close)
+        with mls.Office(mls.Monitor.open(STANDARD), 1) as office:
+            office.sessions[0].get("ann", "read", "plans")
+            m = office.close()
+        with m:
+            self.assertEqual(m.entry_count, 1)
+        with self.assertRaises(ZeroDivisionError):
+            with mls.Office(mls.Monitor.open(STANDARD), 1) as office:
+                1 // 0
+        self.assertRaises(mls.Closed, office.close)
 
     def test_an_office_over_a_start_that_has_all_objects(self):
         start = json.loads(STANDARD)

@@ -10,11 +10,12 @@ use Rattle.mls_explain.specs.declared.condition.Condition.{Condition}
 use Rattle.mls_tails.specs.Tails.{AreMost}
 use Rattle.mls_monitor.specs.Journal.{fold}
 use Rattle.mls_turns.specs.Journals.{Journal}
-use Rattle.mls_sessions.specs.Sessions.{HasSeen, Meets, journal_seen}
+use Rattle.mls_sessions.specs.Changes.{Keeps}
+use Rattle.mls_sessions.specs.Sessions.{HasSeen, Meets, journal_seen, changes_seen}
 use Rattle.mls_c.specs.Conditions.{AreConditions, HasActionRemedy, DefinedStatus, Explains, condition_count}
 use Rattle.mls_c.specs.declared.condition_numbers.ConditionNumbers.{ConditionNumbers}
 use Rattle.mls_c.specs.declared.explaining.RemedyNumbers.{RemedyNumbers}
-use Rattle.mls_c.specs.Offices.{Place, IsSameSession, Looks}
+use Rattle.mls_c.specs.Offices.{Place, IsSameSession, Looks, state_seen}
 use Rattle.mls_c.specs.Texts.{LiesIn, HasLength}
 use Rattle.mls_c.specs.declared.status.TheConstants.{OK, ECLOSED, ENOMEM, EINVAL, ERANGE, ENOTFOUND, EBUSY, EAGAIN}
 
@@ -46,6 +47,23 @@ InSeen handle Holds = IsSomeAnd handle (λ p. Holds (seen_by p))
 -- What seeing a journal of n entries returns: that it is seen, or that the journal isn't that long. (own)
 abbrev pub SeeStatus : ℕ → Journal → ℤ → Type 0
 SeeStatus n j status = ((status ≡ OK) × (n ≤ length j.entries)) ⊎ ((status ≡ EAGAIN) × (length j.entries < n))
+
+-- A session looked how many changes the journal has that it sees, since its office was opened: no fewer than it saw
+-- before, and where they are as many, what it saw of accesses, permissions and current labels stays. (own)
+pub record CountsChanges (p : Place) (count : ℕ) (q : Place) : Type 0 where
+  pub looks : Looks p q
+  pub counts : count ≡ changes_seen q.session.view
+  pub rises : changes_seen p.session.view ≤ count
+  pub keeps : count ≡ changes_seen p.session.view → Keeps (state_seen p) (state_seen q)
+
+-- The sessions of handles looked so. (own)
+abbrev pub CountsIn : Option Place → ℕ → Option Place → Type 0
+CountsIn old count new = IsSomeAnd old (λ p. IsSomeAnd new (λ q. CountsChanges p count q))
+
+-- What counting changes returns: whether the handle is closed. (own)
+abbrev pub changes_status : Option Place → ℤ
+changes_status None = ECLOSED
+changes_status (Some p) = OK
 
 -- The handles are of sessions of one office, where both are open. (own)
 abbrev pub AreOfOneOffice : Option Place → Option Place → Type 0

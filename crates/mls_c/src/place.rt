@@ -6,7 +6,7 @@ ghost use Rattle.std.specs.FinSet as set;
 ghost use Rattle.mls_rules.specs.Rules.{reply};
 ghost use Rattle.mls_sessions.specs.Sessions.{IsOf, Submits, HasSeen, Meets, history, number_of};
 ghost use Rattle.mls_c.specs.Offices.{Looks, IsSameSession, state_seen};
-ghost use Rattle.mls_c.specs.Seen.{seen_by};
+ghost use Rattle.mls_c.specs.Seen.{seen_by, CountsChanges};
 
 use mls_requests::{Entry, Request};
 use mls_sessions::{Busy, Decision, Office, Question, Session, TryFault};
@@ -140,6 +140,13 @@ impl Place {
         let (told, nobody) = self.session.see_quietly(&self.office, n);
         let _ = nobody;
         told
+    }
+
+    /// Sees the present journal, and returns how many changes it has since the office was opened.
+    pub(crate) fn changes(&mut self) -> u64
+        ensures { CountsChanges self.old result self.new }
+    {
+        self.session.changes(&self.office)
     }
 
     /// Gives both sessions the longer of their two histories.

@@ -1,6 +1,7 @@
 //! That a session sees what others did: the entries up to a number, or what another session has seen.
 ghost use Rattle.std.specs.Prelude.{◌≡◌, ◌≢◌, Some};
 ghost use Rattle.mls_c.specs.Seen.{LookStatus, SeeStatus, Reaches, AreOfOneOffice, MeetsIn, meet_status};
+ghost use Rattle.mls_c.specs.Seen.{CountsIn, changes_status};
 ghost use Rattle.mls_c.specs.declared.status.TheConstants.{OK};
 
 use crate::place::Place;
@@ -30,6 +31,23 @@ pub extern "C" fn mls_session_see(s: &mut MlsSession, n: u64) -> i32
         return ECLOSED;
     }
     see_place(s.place.lend(), n)
+}
+
+/// Sees the present journal, and tells how many changes it has since the office was opened: granted requests that took
+/// an access or a permission away, or changed a label. It reads one word, takes no lock, and doesn't allocate.
+#[unsafe(no_mangle)]
+pub extern "C" fn mls_session_changes(s: &mut MlsSession, count: &mut u64) -> i32
+    ensures status { result ≡ changes_status s.old.place.value }
+    ensures counts { result ≡ OK → CountsIn s.old.place.value count.new s.new.place.value }
+    ensures same { result ≢ OK → s.new.place.value ≡ s.old.place.value }
+    ensures silent { result ≢ OK → count.new ≡ count.old }
+{
+    if s.held == 0 {
+        return ECLOSED;
+    }
+    let changes = s.place.lend().changes();
+    *count = changes;
+    OK
 }
 
 /// Gives the sessions of two handles the longer of their two histories. It takes no lock and doesn't allocate. The

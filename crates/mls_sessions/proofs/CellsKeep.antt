@@ -1,5 +1,5 @@
 -- Reading a word of accesses with no lock, and writing one, keep the gate's rule.
-use Rattle.std.proofs.Common.{◌≡◌, ◌≢◌, ℕ, zero, suc, ◌+◌, ◌-◌, ◌<◌, ◌≤◌, List, [], ◌∷◌, ◌++◌, get_or, set, refl, sym, ap, ◌∙◌, subst, inr, arith, append-nil, length, length-append, length-set, get_or-set_same, get_or-set_other, Option, Some, None}
+use Rattle.std.proofs.Common.{◌≡◌, ◌≢◌, ℕ, zero, suc, ◌+◌, ◌-◌, ◌%◌, ◌^◌, ◌<◌, ◌≤◌, List, [], ◌∷◌, ◌++◌, get_or, set, refl, sym, ap, ◌∙◌, subst, inr, arith, append-nil, length, length-append, length-set, get_or-set_same, get_or-set_other, Option, Some, None}
 use mathlib.Core.Logic.{dite}
 use mathlib.Core.Option.{some, some-injective}
 use mathlib.Core.Option as maybe
@@ -14,17 +14,19 @@ use Rattle.mls_requests.specs.declared.entry.Entry.{Entry}
 use Rattle.mls_monitor.specs.Journal.{fold}
 use Rattle.mls_monitor.specs.Entries.{of_session, AllBelow, AllOf}
 use Rattle.mls_sessions.specs.Cells.{Tells, OneWord, Agrees, Quiet, note}
+use Rattle.mls_sessions.specs.Changes.{changes}
 use Rattle.mls_sessions.specs.declared.gate_table.Note.{Note}
-use Rattle.mls_sessions.specs.declared.limits.TheConstants.{FIRST}
+use Rattle.mls_sessions.specs.declared.limits.TheConstants.{CHANGES, FIRST}
 use Rattle.mls_sessions.specs.Journals.{Charter}
 use Rattle.mls_turns.specs.Journals.{Stands, Journal}
 use Rattle.mls_sessions.specs.Rule.{member, base, begun, present, news, Names, IsMember, Knows, Running, Gated}
-use Rattle.mls_sessions.specs.Steps.{Seat, Glimpsed, glanced, read, noted_view, published, published_view, blanked, updated}
+use Rattle.mls_sessions.specs.Steps.{Seat, Glimpsed, glanced, Tallied, tallied, read, noted_view, published, published_view, blanked, updated}
 use Rattle.mls_sessions.specs.declared.counts.Counts.{Counts}
 use Rattle.mls_sessions.specs.declared.gate_table.Member.{Member}
 use Rattle.mls_sessions.specs.declared.gate_table.View.{View}
 use Rattle.mls_sessions.specs.declared.gate_table.View.TheVariants.{Sessions, Holding}
-use Rattle.mls_sessions.specs.Sessions.{member_of, taken_of, notes_of, seated, holding, noting, Holds, Sees, history, own, number_of, IsCounted}
+use Rattle.mls_sessions.specs.Sessions.{member_of, taken_of, notes_of, seated, holding, noting, Holds, Sees, history, own, number_of, IsCounted, changes_seen}
+use Rattle.mls_sessions.proofs.Lasting.{changes-append, changes_few}
 use Rattle.mls_sessions.proofs.OwnEntries.{prefix_refl, below-append, below-all, own-none, prefix_after}
 use Rattle.mls_sessions.proofs.StepsKeep.{St, tag, updates, running, others, at_here, names_some, as_seen, knows_moves, holds_word}
 
@@ -66,6 +68,7 @@ module _ (key : Charter) where
         (λ j v ne kn. kn);
     tells = r.tells;
     noted = r.noted;
+    counted = r.counted;
   }
 
   -- a word is read with no lock
@@ -95,6 +98,20 @@ module _ (key : Charter) where
   pub glances_at : (slots id i : ℕ) (me : Seat) → me ≡ seated key (member_of me.0) → i < key.cells → Allows (Gated key) slots id me (i + FIRST) (λ x. x) (glanced (step slots (i + FIRST) 0 0 maybe.none) me)
   glances_at slots id i me is within = subst (λ (m : Seat). Allows (Gated key) slots id m (i + FIRST) (λ x. x) (glanced (step slots (i + FIRST) 0 0 maybe.none) m)) (sym is) (glances slots id i (member_of me.0) within)
 
+  -- the count of changes is read with no lock
+  tallies : (slots id : ℕ) (m : Member) → Allows (Gated key) slots id (Sessions key (m ∷ []), []) CHANGES (λ x. x) (tallied (step slots CHANGES 0 0 maybe.none) (Sessions key (m ∷ []), []))
+  tallies slots id m s g deep at small = let v : View = Sessions key (m ∷ []) in let r = running key s g id v at (omega arith) in let mine = (r.each_seat id v at).1.0 in
+      let found : ℕ = get_or s.words CHANGES 0 in let same : set s.words CHANGES found ≡ s.words = set-get_or s.words CHANGES 0 in let w : View = Sessions key (member m.number r.later ∷ []) in (
+        w,
+        keeps,
+        tt,
+        subst (λ (ws : List ℕ). Gated key (record { words = ws; homes = s.homes; views = set s.views id w })) (sym same) (inr (inr (sees_all s r id m at))),
+        λ c x e. as_seen key (λ c x. Tallied c x found (w, [])) m (r.later, refl, mine.front, sym mine.own, r.legal, r.counted) c x e,
+      )
+
+  pub tallies_at : (slots id : ℕ) (me : Seat) → me ≡ seated key (member_of me.0) → Allows (Gated key) slots id me CHANGES (λ x. x) (tallied (step slots CHANGES 0 0 maybe.none) me)
+  tallies_at slots id me is = subst (λ (m : Seat). Allows (Gated key) slots id m CHANGES (λ x. x) (tallied (step slots CHANGES 0 0 maybe.none) m)) (sym is) (tallies slots id (member_of me.0))
+
   -- a step of the holder that frees nothing
   holder_steps : (s : St) (r : Running key s) (id : ℕ) (i : Member) (t added : List Entry) (b b' : List Note) (ws : List ℕ) → get_elem? s.views id ≡ some (Holding key i t b)
       → length ws ≡ key.cells + FIRST → get_or ws 0 0 ≡ get_or s.words 0 0
@@ -102,8 +119,9 @@ module _ (key : Charter) where
       → (j : Member) → j.number ≡ i.number → IsMember key (r.later ++ added) r.owner id j
       → ((p : ℕ) → p < key.cells → Tells (now (r.later ++ added)) p (get_or ws (p + FIRST) 0))
       → ((p : ℕ) → p < key.cells → Agrees b' p (get_or ws (p + FIRST) 0))
+      → get_or ws CHANGES 0 ≡ changes (r.later ++ added)
       → Running key (record { words = ws; homes = s.homes; views = set s.views id (Holding key j (r.later ++ added) b') })
-  holder_steps s r id i t added b b' ws here wide first mine_only few legal j number ok tells noted = let es : List Entry = r.later ++ added in let w : View = Holding key j es b' in let mine = r.each_seat id (Holding key i t b) here in
+  holder_steps s r id i t added b b' ws here wide first mine_only few legal j number ok tells noted counted = let es : List Entry = r.later ++ added in let w : View = Holding key j es b' in let mine = r.each_seat id (Holding key i t b) here in
       let named : Names (get_or ws 0 0) j.number = subst (λ (z : ℕ × ℕ). Names z.0 z.1) (λ k. (sym first k, sym number k)) mine.1 in let some_one = names_some (get_or ws 0 0) j.number named in record {
         later = es;
         owner = r.owner;
@@ -122,6 +140,7 @@ module _ (key : Charter) where
             r.holder (get_or s.words 0 0) r.holder (get_or ws 0 0) v (λ five. ne ((holds_word key r.later r.owner j r.holder (get_or s.words 0 0) v k five).1 ∙ sym mine.2)) k);
         tells = tells;
         noted = noted;
+        counted = counted;
       }
 
   -- the same where no entry is made
@@ -129,13 +148,14 @@ module _ (key : Charter) where
       → length ws ≡ key.cells + FIRST → get_or ws 0 0 ≡ get_or s.words 0 0
       → ((p : ℕ) → p < key.cells → Tells (now t) p (get_or ws (p + FIRST) 0))
       → ((p : ℕ) → p < key.cells → Agrees b' p (get_or ws (p + FIRST) 0))
+      → get_or ws CHANGES 0 ≡ get_or s.words CHANGES 0
       → Running key (record { words = ws; homes = s.homes; views = set s.views id (Holding key i t b') })
-  holder_stays s r id i t b b' ws here wide first tells noted = let mine = r.each_seat id (Holding key i t b) here in
+  holder_stays s r id i t b b' ws here wide first tells noted count = let mine = r.each_seat id (Holding key i t b) here in
       let whole : r.later ++ [] ≡ t = append-nil r.later ∙ sym mine.3 in
       subst (λ (es : List Entry). Running key (record { words = ws; homes = s.homes; views = set s.views id (Holding key i es b') })) whole
       (holder_steps s r id i t [] b b' ws here wide first (λ k ne. refl) tt (subst (λ es. Stands (begun key) (base key ++ es)) (sym (append-nil r.later)) r.legal) i refl
       (subst (λ es. IsMember key es r.owner id i) (sym (append-nil r.later)) mine.4)
-      (λ p small. subst (λ es. Tells (now es) p (get_or ws (p + FIRST) 0)) (sym whole) (tells p small)) noted)
+      (λ p small. subst (λ es. Tells (now es) p (get_or ws (p + FIRST) 0)) (sym whole) (tells p small)) noted (count ∙ (r.counted ∙ ap changes (sym (append-nil r.later)))))
 
   -- what the rule says of the words, by the holder's own view
   tells_now : (s : St) (r : Running key s) (id : ℕ) (i : Member) (t : List Entry) (b : List Note) → get_elem? s.views id ≡ some (Holding key i t b) → (p : ℕ) → p < key.cells → Tells (now t) p (get_or s.words (p + FIRST) 0)
@@ -165,7 +185,7 @@ module _ (key : Charter) where
           tt,
           subst (λ (ws : List ℕ). Gated key (record { words = ws; homes = s.homes; views = set s.views id w })) (sym same)
               (inr (inr (holder_stays s r id i t b (note at found ∷ b) s.words here r.wide refl (tells_now s r id i t b here)
-              (λ p few. ((λ (e : p ≡ at). ap (λ (q : ℕ). get_or s.words (q + FIRST) 0) e), λ ne. noted_now s r id i t b here p few))))),
+              (λ p few. ((λ (e : p ≡ at). ap (λ (q : ℕ). get_or s.words (q + FIRST) 0) e), λ ne. noted_now s r id i t b here p few)) refl))),
           (
             named_as at found,
             λ c m taken k e. subst (λ (z : Charter × List Entry × List Note). Tells (fold (begun z.0) (base z.0 ++ z.1)) ((at + FIRST) - FIRST) found × Agrees z.2 ((at + FIRST) - FIRST) found) (λ j. (charter_held (e j), taken_of (e j), notes_of (e j)))
@@ -187,7 +207,8 @@ module _ (key : Charter) where
               (λ p few. (
                 (λ (e : p ≡ at). ap (λ (q : ℕ). get_or ws (q + FIRST) 0) e ∙ is),
                 λ ne. subst (Agrees b p) (sym (get_or-set_other s.words (at + FIRST) (p + FIRST) 0 0 (λ e. ne (omega arith)))) (noted_now s r id i t b here p few),
-              )))),
+              ))
+              (get_or-set_other s.words (at + FIRST) CHANGES 0 0 (λ e. absurd (omega arith))))),
           named_as at 0,
         )
 
@@ -201,37 +222,63 @@ module _ (key : Charter) where
 
     -- the entries are in the journal, with these words
     publish : (s : St) (r : Running key s) → get_elem? s.views id ≡ some held → (ws : List ℕ) → length ws ≡ key.cells + FIRST → get_or ws 0 0 ≡ get_or s.words 0 0
-        → ((p : ℕ) → p < key.cells → Tells (now (t ++ added)) p (get_or ws (p + FIRST) 0)) → Gated key (record { words = ws; homes = s.homes; views = set s.views id (published_view held laid) })
-    publish s r here ws wide first tells = let mine = r.each_seat id held here in let es : List Entry = r.later ++ added in let grown : t ++ added ≡ es = ap (λ xs. xs ++ added) mine.3 in
+        → ((p : ℕ) → p < key.cells → Tells (now (t ++ added)) p (get_or ws (p + FIRST) 0)) → get_or ws CHANGES 0 ≡ changes (t ++ added)
+        → Gated key (record { words = ws; homes = s.homes; views = set s.views id (published_view held laid) })
+    publish s r here ws wide first tells count = let mine = r.each_seat id held here in let es : List Entry = r.later ++ added in let grown : t ++ added ≡ es = ap (λ xs. xs ++ added) mine.3 in
         let is' : m ≡ present key es = is ∙ ap (present key) grown in
         let seen : news key m ≡ es = ap (news key) is' ∙ drop-append_seam (base key) es in
         let done = holder_steps s r id i t added b [] ws here wide first mine_only (few mine.4.known) (subst (λ (x : Journal). Stands x.start x.entries) is' legal) (member i.number es) refl
         record { known = mine.4.known; here = mine.4.here; front = prefix_refl es; own = refl }
-        (λ p small. subst (λ xs. Tells (now xs) p (get_or ws (p + FIRST) 0)) grown (tells p small)) (λ p few. tt) in
+        (λ p small. subst (λ xs. Tells (now xs) p (get_or ws (p + FIRST) 0)) grown (tells p small)) (λ p few. tt) (count ∙ ap changes grown) in
         subst (λ (xs : List Entry). Gated key (record { words = ws; homes = s.homes; views = set s.views id (Holding key (member i.number xs) xs []) })) (sym seen) (inr (inr done))
 
+    -- what the rule says of the count, by the holder's own view
+    count_now : (s : St) (r : Running key s) → get_elem? s.views id ≡ some held → get_or s.words CHANGES 0 ≡ changes t
+    count_now s r here = let mine = r.each_seat id held here in r.counted ∙ ap changes (sym mine.3)
+
+    -- entries that are no changes leave it
+    count_stays : changes added ≡ 0 → changes t ≡ changes (t ++ added)
+    count_stays none = let both = changes-append t added in omega arith
+
     -- by the store of the one word that they change
-    stores : (at word : ℕ) → at < key.cells → OneWord (begun key) (base key ++ t) (base key ++ (t ++ added)) b key.cells at word
+    stores : (at word : ℕ) → at < key.cells → OneWord (begun key) (base key ++ t) (base key ++ (t ++ added)) b key.cells at word → changes added ≡ 0
         → Allows (Gated key) slots id (held, laid) (at + FIRST) (λ _. word) (λ _. published (step slots (at + FIRST) word 0 maybe.none) (held, laid) word)
-    stores at word within one s g deep here small = let r = running key s g id held here (omega arith) in let ws : List ℕ = set s.words (at + FIRST) word in let wide = r.wide in (
+    stores at word within one none s g deep here small = let r = running key s g id held here (omega arith) in let ws : List ℕ = set s.words (at + FIRST) word in let wide = r.wide in (
       published_view held laid,
       keeps,
       tt,
       publish s r here ws (length-set s.words (at + FIRST) word ∙ wide) (get_or-set_other s.words (at + FIRST) 0 word 0 (λ e. absurd (omega arith)))
           (λ p small. dite (ℕ_discrete p at)
           (λ (e : p ≡ at). subst (λ (q : ℕ). Tells (now (t ++ added)) q (get_or ws (q + FIRST) 0)) (sym e) (subst (λ (q : ℕ). Tells (now (t ++ added)) at q) (sym (get_or-set_same s.words (at + FIRST) word 0 (omega arith))) one.now))
-          (λ ne. subst (λ (q : ℕ). Tells (now (t ++ added)) p q) (sym (get_or-set_other s.words (at + FIRST) (p + FIRST) word 0 (λ e. ne (omega arith)))) (one.others p (get_or s.words (p + FIRST) 0) ne small (noted_now s r id i t b here p small) (tells_now s r id i t b here p small)))),
+          (λ ne. subst (λ (q : ℕ). Tells (now (t ++ added)) p q) (sym (get_or-set_other s.words (at + FIRST) (p + FIRST) word 0 (λ e. ne (omega arith)))) (one.others p (get_or s.words (p + FIRST) 0) ne small (noted_now s r id i t b here p small) (tells_now s r id i t b here p small))))
+          (get_or-set_other s.words (at + FIRST) CHANGES word 0 (λ e. absurd (omega arith)) ∙ (count_now s r here ∙ count_stays none)),
       refl,
     )
 
+    -- by the step that counts the one change among them, where no word has to tell of them
+    counts : Quiet (begun key) (base key ++ t) (base key ++ (t ++ added)) b key.cells → changes added ≡ 1 → changes (t ++ added) < 2 ^ 64
+        → Allows (Gated key) slots id (held, laid) CHANGES (λ x. (x + 1) % 2 ^ 64) (published (step slots CHANGES 1 0 maybe.none) (held, laid))
+    counts quiet one fits s g deep here small = let r = running key s g id held here (omega arith) in let was : ℕ = get_or s.words CHANGES 0 in let up : ℕ = (was + 1) % 2 ^ 64 in let ws : List ℕ = set s.words CHANGES up in
+        let wide = r.wide in let now_is = count_now s r here in let both = changes-append t added in let up_is : up ≡ changes (t ++ added) = omega arith in (
+          published_view held laid,
+          keeps,
+          tt,
+          publish s r here ws (length-set s.words CHANGES up ∙ wide) (get_or-set_other s.words CHANGES 0 up 0 (λ e. absurd (omega arith)))
+              (λ p few. subst (λ (q : ℕ). Tells (now (t ++ added)) p q) (sym (get_or-set_other s.words CHANGES (p + FIRST) up 0 (λ e. absurd (omega arith))))
+              (quiet p (get_or s.words (p + FIRST) 0) few (noted_now s r id i t b here p few) (tells_now s r id i t b here p few)))
+              (get_or-set_same s.words CHANGES up 0 (omega arith) ∙ up_is),
+          refl,
+        )
+
     -- by the swap that frees the gate, where no word has to tell of them
-    homes : Quiet (begun key) (base key ++ t) (base key ++ (t ++ added)) b key.cells → Allows (Gated key) slots id (held, laid) 0 (λ _. 0) (λ _. updated (step slots 0 0 0 maybe.none) (held, laid) 0)
-    homes quiet s g deep here small = let r = running key s g id held here (omega arith) in let mine = r.each_seat id held here in let es : List Entry = r.later ++ added in let grown : t ++ added ≡ es = ap (λ xs. xs ++ added) mine.3 in
+    homes : Quiet (begun key) (base key ++ t) (base key ++ (t ++ added)) b key.cells → changes added ≡ 0 → Allows (Gated key) slots id (held, laid) 0 (λ _. 0) (λ _. updated (step slots 0 0 0 maybe.none) (held, laid) 0)
+    homes quiet none s g deep here small = let r = running key s g id held here (omega arith) in let mine = r.each_seat id held here in let es : List Entry = r.later ++ added in let grown : t ++ added ≡ es = ap (λ xs. xs ++ added) mine.3 in
         let is' : m ≡ present key es = is ∙ ap (present key) grown in let j : Member = member i.number es in let w : View = Holding key j es [] in
         let mid : St = record { words = s.words; homes = s.homes; views = set s.views id w } in
         let there : Running key mid = holder_steps s r id i t added b [] s.words here r.wide refl mine_only (few mine.4.known) (subst (λ (x : Journal). Stands x.start x.entries) is' legal) j refl
         record { known = mine.4.known; here = mine.4.here; front = prefix_refl es; own = refl }
-        (λ p fits. subst (λ xs. Tells (now xs) p (get_or s.words (p + FIRST) 0)) grown (quiet p (get_or s.words (p + FIRST) 0) fits (noted_now s r id i t b here p fits) (tells_now s r id i t b here p fits))) (λ p fits. tt) in
+        (λ p fits. subst (λ xs. Tells (now xs) p (get_or s.words (p + FIRST) 0)) grown (quiet p (get_or s.words (p + FIRST) 0) fits (noted_now s r id i t b here p fits) (tells_now s r id i t b here p fits))) (λ p fits. tt)
+        (count_now s r here ∙ (count_stays none ∙ ap changes grown)) in
         let did = updates key slots id j es m is' mid (inr (inr there)) deep (at_here s.views id held w here) small in (
           did.0,
           did.1,
@@ -249,14 +296,20 @@ module _ (key : Charter) where
     t = taken_of v
 
     module _ (m : Journal) (legal : Stands m.start m.entries) (added : List Entry) (adds : m ≡ present key (t ++ added)) (mine : AllOf i.number added) where
-      pub stores_at : (at word : ℕ) → at < key.cells → OneWord (begun key) (base key ++ t) (base key ++ (t ++ added)) b key.cells at word
+      pub stores_at : (at word : ℕ) → at < key.cells → OneWord (begun key) (base key ++ t) (base key ++ (t ++ added)) b key.cells at word → changes added ≡ 0
           → Allows (Gated key) slots id (v, (0, Some m) ∷ []) (at + FIRST) (λ _. word) (λ _. published (step slots (at + FIRST) word 0 maybe.none) (v, (0, Some m) ∷ []) word)
-      stores_at at word within one = subst (λ (w : View). Allows (Gated key) slots id (w, (0, Some m) ∷ []) (at + FIRST) (λ _. word) (λ _. published (step slots (at + FIRST) word 0 maybe.none) (w, (0, Some m) ∷ []) word)) (sym is)
-          (stores slots id i t added b m legal adds (λ k other. own-none i.number k added mine other) (λ known. below-all n i.number added known mine) at word within one)
+      stores_at at word within one none = subst (λ (w : View). Allows (Gated key) slots id (w, (0, Some m) ∷ []) (at + FIRST) (λ _. word) (λ _. published (step slots (at + FIRST) word 0 maybe.none) (w, (0, Some m) ∷ []) word)) (sym is)
+          (stores slots id i t added b m legal adds (λ k other. own-none i.number k added mine other) (λ known. below-all n i.number added known mine) at word within one none)
 
-      pub homes_at : Quiet (begun key) (base key ++ t) (base key ++ (t ++ added)) b key.cells → Allows (Gated key) slots id (v, (0, Some m) ∷ []) 0 (λ _. 0) (λ _. updated (step slots 0 0 0 maybe.none) (v, (0, Some m) ∷ []) 0)
-      homes_at quiet = subst (λ (w : View). Allows (Gated key) slots id (w, (0, Some m) ∷ []) 0 (λ _. 0) (λ _. updated (step slots 0 0 0 maybe.none) (w, (0, Some m) ∷ []) 0)) (sym is)
-          (homes slots id i t added b m legal adds (λ k other. own-none i.number k added mine other) (λ known. below-all n i.number added known mine) quiet)
+      pub homes_at : Quiet (begun key) (base key ++ t) (base key ++ (t ++ added)) b key.cells → changes added ≡ 0 → Allows (Gated key) slots id (v, (0, Some m) ∷ []) 0 (λ _. 0) (λ _. updated (step slots 0 0 0 maybe.none) (v, (0, Some m) ∷ []) 0)
+      homes_at quiet none = subst (λ (w : View). Allows (Gated key) slots id (w, (0, Some m) ∷ []) 0 (λ _. 0) (λ _. updated (step slots 0 0 0 maybe.none) (w, (0, Some m) ∷ []) 0)) (sym is)
+          (homes slots id i t added b m legal adds (λ k other. own-none i.number k added mine other) (λ known. below-all n i.number added known mine) quiet none)
+
+      pub counts_at : Quiet (begun key) (base key ++ t) (base key ++ (t ++ added)) b key.cells → changes added ≡ 1 → length m.entries < 2 ^ 64
+          → Allows (Gated key) slots id (v, (0, Some m) ∷ []) CHANGES (λ x. (x + 1) % 2 ^ 64) (published (step slots CHANGES 1 0 maybe.none) (v, (0, Some m) ∷ []))
+      counts_at quiet one small = let long = ap (λ (x : Journal). length x.entries) adds in let whole = length-append (base key) (t ++ added) in let few = changes_few (t ++ added) in
+          subst (λ (w : View). Allows (Gated key) slots id (w, (0, Some m) ∷ []) CHANGES (λ x. (x + 1) % 2 ^ 64) (published (step slots CHANGES 1 0 maybe.none) (w, (0, Some m) ∷ []))) (sym is)
+          (counts slots id i t added b m legal adds (λ k other. own-none i.number k added mine other) (λ known. below-all n i.number added known mine) quiet one (omega arith))
 
     -- what the view is once the entries of m are published
     module _ (m : Journal) (added : List Entry) (adds : m ≡ present key (t ++ added)) where
@@ -335,3 +388,27 @@ module _ (key : Charter) (slots i found : ℕ) (me me' : Seat) (is : me ≡ seat
 
   pub glanced_counts : (c : Counts) → IsCounted c me.0 → IsCounted c me'.0
   glanced_counts c was = dite (ℕ_discrete found 0) (λ none. subst (λ (z : Seat). IsCounted c z.0) (sym (glanced_blank none)) was) (λ word. sees_counts key me.0 me'.0 c (glanced_sees word) was)
+
+-- what a read of the count of changes tells the session
+module _ (key : Charter) (slots found : ℕ) (me me' : Seat) (is : me ≡ seated key (member_of me.0)) (told : tallied (step slots CHANGES 0 0 maybe.none) me found me') where
+  seated_as : me.0 ≡ Sessions key (member_of me.0 ∷ [])
+  seated_as = ap (λ (z : Seat). z.0) is
+
+  tally : Tallied key (member_of me.0) found me'
+  tally = told key (member_of me.0) seated_as
+
+  -- it has seen as much as one that read a blank word
+  caught : Glimpsed key (member_of me.0) 0 0 me'
+  caught = (tally.0, tally.1, tally.2, tally.3, tally.4, λ some. absurd (some refl))
+
+  pub tallied_session : (me' ≡ seated key (member_of me'.0)) × (number_of me'.0 ≡ number_of me.0)
+  tallied_session = (glimpsed_seat key (member_of me.0) 0 0 me' caught, glimpsed_number key (member_of me.0) 0 0 me' caught)
+
+  pub tallied_sees : Sees key me.0 me'.0
+  tallied_sees = glimpsed_sees key (member_of me.0) 0 0 me' caught me.0 seated_as
+
+  pub tallied_changes : found ≡ changes_seen me'.0
+  tallied_changes = tally.5 ∙ sym (ap (λ (z : Seat). changes_seen z.0) tally.1)
+
+  pub tallied_counts : (c : Counts) → IsCounted c me.0 → IsCounted c me'.0
+  tallied_counts c was = sees_counts key me.0 me'.0 c tallied_sees was

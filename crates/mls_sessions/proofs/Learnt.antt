@@ -23,7 +23,7 @@ history_is o s is = ap history is.1
 
 -- of what a session saw more, its own part is what it made
 module _ (o : Office) (s t : Session) (s_is : IsOf o s) (t_is : IsOf o t) (same : number_of t.view ≡ number_of s.view) where
-  later_grew : (since : List Entry) → history t.view ≡ history s.view ++ since → (member_of t.view).later ≡ (member_of s.view).later ++ since
+  pub later_grew : (since : List Entry) → history t.view ≡ history s.view ++ since → (member_of t.view).later ≡ (member_of s.view).later ++ since
   later_grew since grew =
       append_cancel_left (base o.charter) _ _ (sym (history_is o t t_is) ∙ grew ∙ ap (λ es. es ++ since) (history_is o s s_is) ∙ append_assoc (base o.charter) (member_of s.view).later since)
 

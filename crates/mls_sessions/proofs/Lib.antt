@@ -1,6 +1,7 @@
 mod OwnEntries
 mod Exchanges
 mod Learnt
+mod Lasting
 mod Bits
 mod Touching
 mod StepsKeep
@@ -10,6 +11,7 @@ mod Turns
 mod SeatsKeep
 mod Meetings
 mod Recency
+mod Counting
 mod Lists
 pub mod Laws
 mod Runs

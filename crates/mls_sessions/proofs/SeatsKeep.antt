@@ -72,6 +72,7 @@ module _ (key : Charter) where
     notes = r.notes;
     tells = r.tells;
     noted = r.noted;
+    counted = r.counted;
     at_home = r.at_home;
     away = λ held. let h = r.away held in
         let ne : r.holder ≢ id = λ e. idle (ap tag (some-injective _ _ (sym at ∙ (ap (λ (j : ℕ). get_elem? s.views j) (sym e) ∙ h.1)))) in
@@ -146,6 +147,7 @@ module _ (key : Charter) where
         notes = r.notes;
         tells = r.tells;
         noted = r.noted;
+        counted = r.counted;
         at_home = r.at_home;
         away = λ held. let h = r.away held in let seen : View → ℕ = tag in
             let a : r.holder ≢ id = λ e. (let z = ap tag (some-injective _ _ (sym at ∙ (ap (λ (j : ℕ). get_elem? s.views j) (sym e) ∙ h.1))) in absurd (omega arith)) in

@@ -17,7 +17,8 @@ use Rattle.mls_monitor.specs.Entries.{of_session}
 use Rattle.std.proofs.lemmas.List.{length-replicate, get_or-replicate}
 use Rattle.mls_monitor.specs.Journal.{fold}
 use Rattle.mls_sessions.specs.Cells.{Tells, Agrees}
-use Rattle.mls_sessions.specs.declared.limits.TheConstants.{FIRST}
+use Rattle.mls_sessions.specs.Changes.{changes}
+use Rattle.mls_sessions.specs.declared.limits.TheConstants.{CHANGES, FIRST}
 use Rattle.mls_sessions.specs.Rule.{member, word_of, Names, base, present, IsMember, Fits, IsUnused, Knows, Running, IsEmpty, IsFilling, Gated, news, begun}
 use Rattle.mls_sessions.specs.Steps.{Seat, filled, settled, Taken, won, kept_view, kept, marked, updated_view, updated}
 use Rattle.mls_sessions.specs.declared.gate_table.Member.{Member}
@@ -79,6 +80,10 @@ at_here (x ∷ vs) (suc id) v w e = at_here vs id v w e
 -- a step on the gate's word leaves the words of accesses
 pub still : (P : ℕ → ℕ → Type 0) (ws : List ℕ) (x m : ℕ) → ((i : ℕ) → i < m → P i (get_or ws (i + FIRST) 0)) → (i : ℕ) → i < m → P i (get_or (set ws 0 x) (i + FIRST) 0)
 still P ws x m all i small = subst (P i) (sym (get_or-set_other ws 0 (i + FIRST) x 0 (λ e. absurd (omega arith)))) (all i small)
+
+-- and the count of changes
+pub still_count : (ws : List ℕ) (x m : ℕ) → get_or ws CHANGES 0 ≡ m → get_or (set ws 0 x) CHANGES 0 ≡ m
+still_count ws x m is = get_or-set_other ws 0 CHANGES x 0 (λ e. absurd (omega arith)) ∙ is
 
 -- a step that changes nothing
 pub same_state : (s : St) (id : ℕ) (c : List (ℕ × Option Journal)) (v : View) → get_elem? s.views id ≡ some v → stepped s 0 (get_or s.words 0 0) id c v keeps ≡ s
@@ -184,6 +189,7 @@ module _ (key : Charter) where
         notes = r.notes;
         tells = still (Tells (fold (begun key) (base key ++ r.later))) s.words x key.cells r.tells;
         noted = still (λ i w. Agrees r.notes i w) s.words x key.cells r.noted;
+        counted = still_count s.words x (changes r.later) r.counted;
       })
 
   pub marks : (slots id y x : ℕ) (i : Member) → y ≢ 0 → y % 2 ≡ 0 → x ≡ y + 1
@@ -223,6 +229,7 @@ module _ (key : Charter) where
     notes = [];
     tells = still (Tells (fold (begun key) (base key ++ r.later))) s.words x key.cells r.tells;
     noted = λ i small. tt;
+    counted = still_count s.words x (changes r.later) r.counted;
   }
 
   pub wins : (slots id x : ℕ) (i : Member) → Names x i.number
@@ -264,6 +271,7 @@ module _ (key : Charter) where
         notes = [];
         tells = still (Tells (fold (begun key) (base key ++ r.later))) s.words 0 key.cells r.tells;
         noted = λ i small. tt;
+        counted = still_count s.words 0 (changes r.later) r.counted;
       }
 
   module _ (slots id : ℕ) (i : Member) (t : List Entry) (m : Journal) (is : m ≡ present key t) where
@@ -345,6 +353,8 @@ module _ (key : Charter) where
         tells = λ i small known. let zeros : List ℕ = 0 ∷ replicate (key.cells + (FIRST - 1)) 0 in let up : suc (i + (FIRST - 1)) ≡ i + FIRST = omega arith in
             absurd (known (subst (λ (k : ℕ). get_or zeros k 0 ≡ 0) up (get_or-replicate {A = ℕ} (key.cells + (FIRST - 1)) (i + (FIRST - 1)) 0 0 (omega arith))));
         noted = λ i small. tt;
+        counted = let zeros : List ℕ = 0 ∷ replicate (key.cells + (FIRST - 1)) 0 in let up : suc (CHANGES - 1) ≡ CHANGES = omega arith in
+            subst (λ (k : ℕ). get_or zeros k 0 ≡ 0) up (get_or-replicate {A = ℕ} (key.cells + (FIRST - 1)) (CHANGES - 1) 0 0 (omega arith));
       }
 
       abbrev Settles : ℕ → St → Type 0

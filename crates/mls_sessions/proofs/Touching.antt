@@ -20,7 +20,7 @@ use Rattle.mls_requests.specs.declared.reply.Reply.TheVariants.{Yes, Created, No
 use Rattle.mls_requests.specs.declared.entry.Entry.{Entry}
 use Rattle.mls_rules.specs.Rules.{reply, change, after, after_reply}
 use Rattle.mls_monitor.specs.Journal.{fold}
-use Rattle.mls_sessions.specs.Cells.{place, bit_of, has_bit, Tells, note, Quiet, OneWord, OfActive}
+use Rattle.mls_sessions.specs.Cells.{place, bit_of, has_bit, Tells, note, Agrees, Quiet, OneWord, OfActive}
 use Rattle.mls_sessions.specs.Touches.{touch_asked, touch_by, touch_of, may_change, makes_access}
 use Rattle.mls_sessions.specs.declared.touch.Touch.{Touch}
 use Rattle.mls_sessions.specs.declared.touch.Touch.TheVariants.{Nothing, One, Many}
@@ -76,7 +76,7 @@ entry_else start old e t said ne = let v = fold start old in let r = e.request i
     ap (λ (z : State). set.contains z.accesses t) (fold-snoc start old e ∙ ap (λ (a : Reply). after_reply a v (change v r.subject r.action)) (sym said))
     ∙ reply_else e.reply v (change v r.subject r.action) (touch_asked r.subject r.action) t ne (change_else v r.subject r.action t)
 
-abbrev tag : Touch → ℕ
+abbrev pub tag : Touch → ℕ
 tag Nothing = 0
 tag (One s o x) = 1
 tag Many = 2
@@ -106,7 +106,7 @@ reply_at (No reason) v w touch p q x made is so = (let z = ap tag is in absurd (
 reply_at Undefined v w touch p q x made is so = (let z = ap tag is in absurd (omega arith))
 
 -- the state after an entry, by its reply
-after_entry : (start : State) (old : List Entry) (e : Entry) → e.reply ≡ reply (fold start old) e.request → fold start (old ++ e ∷ []) ≡ after_reply e.reply (fold start old) (change (fold start old) e.request.subject e.request.action)
+pub after_entry : (start : State) (old : List Entry) (e : Entry) → e.reply ≡ reply (fold start old) e.request → fold start (old ++ e ∷ []) ≡ after_reply e.reply (fold start old) (change (fold start old) e.request.subject e.request.action)
 after_entry start old e said = let v = fold start old in let r = e.request in fold-snoc start old e ∙ ap (λ (a : Reply). after_reply a v (change v r.subject r.action)) (sym said)
 
 passed : {X : Type 0} (b : Bool) (e : Option X) → is_some (cond b e None) ≡ true → b ≡ true
@@ -229,6 +229,10 @@ module _ (start : State) (bs t : List Entry) (e : Entry) (said : e.reply ≡ rep
     -- the word is stored
     pub one_word : (notes : List Note) (cells w : ℕ) → Tells (fold start new) (place s o) w → OneWord start old new notes cells (place s o) w
     one_word notes cells w tells = record { now = tells; others = λ i u ne few agrees was. others_tell i u ne was }
+
+    -- the word is blank
+    pub quiet_blank : (notes : List Note) (cells : ℕ) → ((w : ℕ) → Agrees notes (place s o) w → w ≡ 0) → Quiet start old new notes cells
+    quiet_blank notes cells blank i u few agrees was = dite (ℕ_discrete i (place s o)) (λ (e : i ≡ place s o). λ some. absurd (some (blank u (subst (λ (p : ℕ). Agrees notes p u) e agrees)))) (λ ne. others_tell i u ne was)
 
     -- the word stays as it was read
     pub quiet_word : (notes : List Note) (cells w : ℕ) → Tells (fold start new) (place s o) w → Quiet start old new (note (place s o) w ∷ notes) cells

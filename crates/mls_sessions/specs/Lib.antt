@@ -1,6 +1,7 @@
 pub mod Journals
 pub mod Cells
 pub mod Touches
+pub mod Changes
 pub mod Rule
 pub mod Steps
 pub mod Sessions

@@ -13,8 +13,9 @@ use Rattle.mls_turns.specs.Journals.{Journal, journal, Stands}
 use Rattle.mls_monitor.specs.Entries.{of_session, AllBelow}
 use Rattle.mls_monitor.specs.Journal.{fold}
 use Rattle.mls_sessions.specs.Cells.{Tells, Agrees}
+use Rattle.mls_sessions.specs.Changes.{changes}
 use Rattle.mls_sessions.specs.declared.gate_table.Note.{Note}
-use Rattle.mls_sessions.specs.declared.limits.TheConstants.{FIRST}
+use Rattle.mls_sessions.specs.declared.limits.TheConstants.{CHANGES, FIRST}
 use Rattle.mls_sessions.specs.declared.gate_table.Member.{Member}
 use Rattle.mls_sessions.specs.declared.gate_table.View.{View}
 use Rattle.mls_sessions.specs.declared.gate_table.View.TheVariants.{Spent, Starting, Filling, Giving, Sessions, Holding}
@@ -92,7 +93,8 @@ module _ (key : Charter) (later : List Entry) (owner : ℕ → ℕ) (seat : ℕ)
 -- one seat holds, and the word names its session. Clause 2: the present journal is legal from the office's start,
 -- begins with the journal when the office was opened, and its later entries have session numbers less than n. Clauses 3
 -- to 5 are what each seat knows. Clause 6: each word of accesses is blank or tells of the state that the present
--- journal leads to, and is what the holder noted of it. (own)
+-- journal leads to, and is what the holder noted of it. Clause 7: the count of changes is that of the later entries.
+-- (own)
 pub record Running (key : Charter) (s : TableState (Option Journal) View) : Type 0 where
   pub later : List Entry
   pub owner : ℕ → ℕ
@@ -109,6 +111,7 @@ pub record Running (key : Charter) (s : TableState (Option Journal) View) : Type
       → Knows key later owner j holder (slice_index s.words 0) v
   pub tells : (i : ℕ) → i < key.cells → Tells (fold (begun key) (base key ++ later)) i (slice_index s.words (i + FIRST))
   pub noted : (i : ℕ) → i < key.cells → Agrees notes i (slice_index s.words (i + FIRST))
+  pub counted : slice_index s.words CHANGES ≡ changes later
 
 -- Before the monitor was put in: the gate is free, the slot empty, and all words of accesses are blank. (own)
 abbrev pub IsEmpty : Charter → TableState (Option Journal) View → Type 0

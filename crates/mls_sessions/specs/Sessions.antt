@@ -14,6 +14,7 @@ use Rattle.mls_monitor.specs.Journal.{fold}
 use Rattle.mls_sessions.specs.Rule.{begun, base, present, news, member}
 use Rattle.mls_sessions.specs.Steps.{Seat}
 use Rattle.mls_sessions.specs.Cells.{Quiet}
+use Rattle.mls_sessions.specs.Changes.{changes}
 use Rattle.mls_sessions.specs.declared.gate_table.Note.{Note}
 use Rattle.mls_sessions.specs.declared.gate_table.Member.{Member}
 use Rattle.mls_sessions.specs.declared.counts.Counts.{Counts}
@@ -85,10 +86,24 @@ pub record HasMore (key : Charter) (me : Seat) (added : List Entry) (j : Journal
   pub grown : j ≡ present key (taken_of me.0 ++ added)
   pub mine : AllOf (number_of me.0) added
 
--- These entries more than the present journal has change nothing that a word tells, by what the holder noted. (own)
-abbrev pub IsQuiet : Charter → Seat → List Entry → Type 0
-IsQuiet key me added = Quiet (begun key) (base key ++ taken_of me.0) (base key ++ (taken_of me.0 ++ added))
+-- These entries more than the present journal has change nothing that a word of accesses tells, by what the holder
+-- noted. (own)
+abbrev pub LeavesWords : Charter → Seat → List Entry → Type 0
+LeavesWords key me added = Quiet (begun key) (base key ++ taken_of me.0) (base key ++ (taken_of me.0 ++ added))
     (notes_of me.0) key.cells
+
+-- They change nothing that any word tells: no word of accesses, nor the count of changes. (own)
+pub record IsQuiet (key : Charter) (me : Seat) (added : List Entry) : Type 0 where
+  pub words : LeavesWords key me added
+  pub count : changes added ≡ 0
+
+-- The monitor in hand has entries more than the present journal: just one of them is a change, and they change nothing
+-- that a word of accesses tells. (own)
+pub record HasChange (key : Charter) (me : Seat) (j : Journal) : Type 0 where
+  pub added : List Entry
+  pub more : HasMore key me added j
+  pub words : LeavesWords key me added
+  pub count : changes added ≡ 1
 
 -- The seat holds the gate, and the monitor in hand has entries more than the present journal that change nothing which
 -- a word tells: it may be put home as it is. (own)
@@ -129,6 +144,10 @@ HasSeen n v = n ≤ length (history v)
 -- The later of two histories has at least as many entries: what had seen a journal of n entries still has. (own)
 abbrev pub NoShorter : View → View → Type 0
 NoShorter old new = length (history old) ≤ length (history new)
+
+-- How many changes a session has seen: those of its history since the office was opened. (own)
+abbrev pub changes_seen : View → ℕ
+changes_seen v = changes (member_of v).later
 
 -- The own part of a session's history: those of its entries that the session made since the office was opened. (own)
 abbrev pub own : View → List Entry

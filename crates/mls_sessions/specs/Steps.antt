@@ -6,6 +6,7 @@ use Rattle.atomic_table.specs.Table.{Me, Step}
 use Rattle.mls_requests.specs.declared.entry.Entry.{Entry}
 use Rattle.mls_monitor.specs.Journal.{fold}
 use Rattle.mls_sessions.specs.Cells.{Tells, Agrees, note}
+use Rattle.mls_sessions.specs.Changes.{changes}
 use Rattle.mls_sessions.specs.declared.gate_table.Note.{Note}
 use Rattle.mls_sessions.specs.declared.limits.TheConstants.{FIRST}
 use Rattle.mls_sessions.specs.Journals.{Charter}
@@ -90,6 +91,17 @@ Glimpsed c m i word me = (later : List Entry) × (me ≡ (Sessions c (member m.n
 abbrev pub glanced : OnWord → Seat → ℕ → Seat → Type 0
 glanced st me found me' = (c : Charter) (m : Member) → me.0 ≡ Sessions c (m ∷ []) → (found ≡ 0 → me' ≡ me)
     × (found ≢ 0 → Glimpsed c m (st.word - FIRST) found me')
+
+-- A session that doesn't hold the gate has read the count of changes: its history is now the present journal, whose later
+-- entries have just so many. (own)
+abbrev pub Tallied : Charter → Member → ℕ → Seat → Type 0
+Tallied c m count me = (later : List Entry) × (me ≡ (Sessions c (member m.number later ∷ []), []))
+    × IsPrefix m.later later × (of_session m.number later ≡ of_session m.number m.later)
+    × Stands (begun c) (base c ++ later) × (count ≡ changes later)
+
+-- The count of changes is read with no lock: the session has seen the present journal. (own)
+abbrev pub tallied : OnWord → Seat → ℕ → Seat → Type 0
+tallied st me found me' = (c : Charter) (m : Member) → me.0 ≡ Sessions c (m ∷ []) → Tallied c m found me'
 
 -- The holder's view once it noted a word. (own)
 abbrev pub noted_view : View → ℕ → ℕ → View

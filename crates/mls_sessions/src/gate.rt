@@ -5,15 +5,15 @@ ghost use mathlib.Core.Option as maybe;
 ghost use Rattle.atomic_table.specs.Table.{step, Allows};
 ghost use Rattle.mls_turns.specs.Journals.{Stands};
 ghost use Rattle.mls_sessions.specs.Rule.{Gated, Names, word_of, begun};
-ghost use Rattle.mls_sessions.specs.Sessions.{member_of, seated, TookOut, Sees, IsCounted, history, number_of};
+ghost use Rattle.mls_sessions.specs.Sessions.{member_of, seated, TookOut, Sees, IsCounted, history, number_of, changes_seen};
 ghost use Rattle.mls_sessions.specs.declared.counts.Counts.{Counts};
 ghost use Rattle.mls_monitor.specs.Journal.{fold};
 ghost use Rattle.mls_sessions.specs.Cells.{Tells};
 ghost use Rattle.mls_sessions.specs.Steps.{kept_view};
 
 use crate::gate_table::{Gate, GateSeat, View};
-use crate::limits::FIRST;
-use crate::steps::{Glance, Mark, Win};
+use crate::limits::{CHANGES, FIRST};
+use crate::steps::{Glance, Mark, Tally, Win};
 use atomic_table::Play;
 use mls_turns::BoxedMonitor;
 use std::hint::spin_loop;
@@ -89,6 +89,20 @@ pub(crate) fn glance(gate: &Gate, seat: &mut GateSeat, place: u32) -> u64
     ensures counts { (c : Counts) → IsCounted c seat.old.me.0 → IsCounted c seat.new.me.0 }
 {
     gate.load::<Glance>(seat, place as usize + FIRST)
+}
+
+/// Reads the count of changes by one load. The session has now seen the present journal, whose count it is.
+pub(crate) fn tally(gate: &Gate, seat: &mut GateSeat) -> u64
+    requires office { (seat.old.table_id ≡ gate.now.table_id) × (gate.now.table_id.words ≡ gate.now.key.cells + FIRST) }
+    requires session { seat.old.me ≡ seated gate.now.key (member_of seat.old.me.0) }
+    ensures seat { (seat.new.table_id ≡ seat.old.table_id) × (seat.new.id ≡ seat.old.id) }
+    ensures session { (seat.new.me ≡ seated gate.now.key (member_of seat.new.me.0))
+        × (number_of seat.new.me.0 ≡ number_of seat.old.me.0) }
+    ensures seen { Sees gate.now.key seat.old.me.0 seat.new.me.0 }
+    ensures changes { result ≡ changes_seen seat.new.me.0 }
+    ensures counts { (c : Counts) → IsCounted c seat.old.me.0 → IsCounted c seat.new.me.0 }
+{
+    gate.load::<Tally>(seat, CHANGES)
 }
 
 /// Takes the monitor out where the gate is free, and leaves this word in it, which names the session. Or else it

@@ -3,9 +3,12 @@
 /// The most sessions of an office. Their numbers are below this.
 pub const MAX_SESSIONS: u16 = 64;
 
-/// The place of the first word of accesses in the table. It is so far from the gate's word that the two never stand in
-/// one line of a cache, nor in two that are fetched together.
-pub const FIRST: usize = 16;
+/// The place of the count of changes in the table. It is so far from the gate's word, and from the words of accesses,
+/// that no two of them stand in one line of a cache, nor in two that are fetched together.
+pub const CHANGES: usize = 16;
+
+/// The place of the first word of accesses in the table.
+pub const FIRST: usize = 32;
 
 /// How often a session looks at a held gate before it naps or sleeps, for each ask of its turn. Each look takes the
 /// gate's word from the processor of whoever holds it, so that more looks cost more where many threads wait. Who asks

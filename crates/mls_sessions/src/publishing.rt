@@ -1,20 +1,21 @@
 //! How the session that holds the gate lets an entry into the present journal, and fills the words of accesses.
-ghost use Rattle.std.specs.Prelude.{◌≡◌, ◌+◌};
+ghost use Rattle.std.specs.Prelude.{◌≡◌, ◌+◌, true, false};
 ghost use Rattle.mls_sessions.specs.Sessions.{member_of, taken_of, notes_of, number_of, noting, Holds, Leads, IsNext};
 ghost use Rattle.mls_sessions.specs.Touches.{touch_of};
+ghost use Rattle.mls_sessions.specs.Changes.{is_change};
 ghost use Rattle.mls_sessions.specs.declared.touch.Touch.TheVariants.{One};
 
-use crate::cells::{cell_of, word_after, word_of};
+use crate::cells::{BLANK, cell_of, word_after, word_of};
 use crate::gate_table::{Gate, GateSeat};
-use crate::holding::{blank_deleted, read, store_word};
+use crate::holding::{blank_deleted, count_change, hide, read, store_word};
 use crate::limits::FIRST;
-use crate::touch::{Touch, makes_access, touch_of};
+use crate::touch::{Touch, is_change, makes_access, touch_of};
 use mls_requests::Entry;
 use mls_tables::{Mode, ObjectId, SubjectId};
 use mls_turns::BoxedMonitor;
 
 /// Leaves an entry to the swap that puts the monitor home, or lets it into the present journal by the store of a word.
-/// It may change whether this triple is a current access, and nothing else.
+/// It may change whether this triple is a current access, and is no change.
 fn publish_one(
     gate: &Gate,
     seat: &mut GateSeat,
@@ -30,7 +31,7 @@ fn publish_one(
     requires holds { seat.old.me
         ≡ noting gate.now.key (member_of seat.old.me.0) (taken_of seat.old.me.0) (notes_of seat.old.me.0) }
     requires entry { IsNext gate.now.key seat.old.me entry.now monitor }
-    requires touch { touch_of entry.now ≡ One s o x }
+    requires touch { (touch_of entry.now ≡ One s o x) × (is_change entry.now ≡ false) }
     ensures seat { (seat.new.table_id ≡ seat.old.table_id) × (seat.new.id ≡ seat.old.id) }
     ensures leads { Leads gate.now.key result seat.new.me × (number_of seat.new.me.0 ≡ number_of seat.old.me.0) }
     ensures same { result ≡ monitor }
@@ -46,8 +47,42 @@ fn publish_one(
     store_word(gate, seat, monitor, at, word)
 }
 
-/// Lets the entry that was just made into the present journal where it changes what a word tells. Else the entry is
-/// left to the next store, or to the swap that puts the monitor home.
+/// Lets a change into the present journal by the step that counts it: the word of this triple, which it may end, is
+/// blank meanwhile.
+fn publish_change(
+    gate: &Gate,
+    seat: &mut GateSeat,
+    cells: u32,
+    monitor: BoxedMonitor,
+    entry: &Entry,
+    s: SubjectId,
+    o: ObjectId,
+    x: Mode,
+) -> BoxedMonitor
+    requires office { (seat.old.table_id ≡ gate.now.table_id) × (gate.now.table_id.words ≡ gate.now.key.cells + FIRST)
+        × (cells ≡ gate.now.key.cells) }
+    requires holds { seat.old.me
+        ≡ noting gate.now.key (member_of seat.old.me.0) (taken_of seat.old.me.0) (notes_of seat.old.me.0) }
+    requires entry { IsNext gate.now.key seat.old.me entry.now monitor }
+    requires touch { (touch_of entry.now ≡ One s o x) × (is_change entry.now ≡ true) }
+    ensures seat { (seat.new.table_id ≡ seat.old.table_id) × (seat.new.id ≡ seat.old.id) }
+    ensures holds { Holds gate.now.key result seat.new.me × (number_of seat.new.me.0 ≡ number_of seat.old.me.0) }
+    ensures same { result ≡ monitor }
+{
+    let Some(at) = cell_of(s, o, cells) else {
+        return count_change(gate, seat, monitor);
+    };
+    let old = hide(gate, seat, at);
+    let monitor = count_change(gate, seat, monitor);
+    if old == BLANK {
+        return monitor;
+    }
+    let word = word_after(old, s, x, makes_access(entry));
+    store_word(gate, seat, monitor, at, word)
+}
+
+/// Lets the entry that was just made into the present journal where it changes what a word tells, the count of changes
+/// among them. Else the entry is left to the next such step, or to the swap that puts the monitor home.
 pub(crate) fn publish(
     gate: &Gate,
     seat: &mut GateSeat,
@@ -64,12 +99,25 @@ pub(crate) fn publish(
     ensures leads { Leads gate.now.key result seat.new.me × (number_of seat.new.me.0 ≡ number_of seat.old.me.0) }
     ensures same { result ≡ monitor }
 {
+    let is_change = is_change(entry);
     match touch_of(entry) {
-        Touch::Nothing => monitor,
-        Touch::One(s, o, x) => publish_one(gate, seat, cells, monitor, entry, s, o, x),
+        Touch::Nothing => {
+            if is_change {
+                count_change(gate, seat, monitor)
+            } else {
+                monitor
+            }
+        }
+        Touch::One(s, o, x) => {
+            if is_change {
+                publish_change(gate, seat, cells, monitor, entry, s, o, x)
+            } else {
+                publish_one(gate, seat, cells, monitor, entry, s, o, x)
+            }
+        }
         Touch::Many => {
             blank_deleted(gate, seat, cells, &monitor);
-            monitor
+            count_change(gate, seat, monitor)
         }
     }
 }

@@ -5,6 +5,7 @@ ghost use Rattle.mls_sessions.specs.Rule.{member, base_length};
 ghost use Rattle.mls_sessions.specs.Sessions.{session_at, seated, IsOf, Meets, history, own, number_of};
 
 mod asking;
+mod changing;
 mod checking;
 mod deciding;
 mod seeing;

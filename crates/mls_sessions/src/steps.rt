@@ -1,6 +1,6 @@
 //! The kinds of atomic step, each with what it tells the seat that makes it.
 ghost use Rattle.mls_sessions.specs.Steps.{filled, settled, won, marked, kept, updated, looked, left_of, right_of};
-ghost use Rattle.mls_sessions.specs.Steps.{both_of, first_of_two, second_of_two, glanced, read, published, blanked};
+ghost use Rattle.mls_sessions.specs.Steps.{both_of, first_of_two, second_of_two, glanced, tallied, read, published, blanked};
 ghost use Rattle.mls_sessions.specs.declared.gate_table.View.TheVariants.{Spent};
 
 use crate::gate_table::View;
@@ -54,6 +54,13 @@ pub struct Glance;
 
 impl Play<Option<BoxedMonitor>, View> for Glance {
     ghost then = { glanced };
+}
+
+/// A session reads the count of changes with no lock.
+pub struct Tally;
+
+impl Play<Option<BoxedMonitor>, View> for Tally {
+    ghost then = { tallied };
 }
 
 /// The holder reads a word of accesses, and notes it.

@@ -1,6 +1,7 @@
 //! Which current accesses an entry may change.
 ghost use Rattle.std.specs.Prelude.{◌≡◌};
 ghost use Rattle.mls_sessions.specs.Touches.{touch_asked, touch_of, makes_access};
+ghost use Rattle.mls_sessions.specs.Changes.{withdraws, is_change};
 
 use mls_requests::{Action, Entry, Reply, Request};
 use mls_tables::{Mode, ObjectId, SubjectId};
@@ -45,4 +46,28 @@ pub(crate) fn makes_access(entry: &Entry) -> bool
     ensures { result ≡ makes_access entry.now.request.action }
 {
     matches!(entry.request.action, Action::Get(_, _))
+}
+
+/// Whether an action, where it is granted, takes an access or a permission away, or changes a label.
+fn withdraws(action: &Action) -> bool
+    ensures { result ≡ withdraws action.now }
+{
+    match action {
+        Action::Release(_, _)
+        | Action::Rescind(_, _, _)
+        | Action::Delete(_)
+        | Action::SubjectLevel(_)
+        | Action::ObjectLevel(_, _) => true,
+        Action::Get(_, _) | Action::Give(_, _, _) | Action::Create(_, _, _) => false,
+    }
+}
+
+/// Whether an entry is a change: its request was granted, and takes away or changes a label.
+pub(crate) fn is_change(entry: &Entry) -> bool
+    ensures { result ≡ is_change entry.now }
+{
+    match entry.reply {
+        Reply::Yes | Reply::Created(_) => withdraws(&entry.request.action),
+        Reply::No(_) | Reply::Undefined => false,
+    }
 }

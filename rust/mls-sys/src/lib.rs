@@ -377,6 +377,7 @@ extern "C" {
     pub fn mls_session_check(s: *mut mls_session, subject: u16, object: u16, mode: u8, held: *mut c_int) -> c_int;
     pub fn mls_session_decide(s: *mut mls_session, request: *const mls_request, answer: *mut mls_answer) -> c_int;
     pub fn mls_session_see(s: *mut mls_session, n: u64) -> c_int;
+    pub fn mls_session_changes(s: *mut mls_session, count: *mut u64) -> c_int;
     pub fn mls_session_meet(s: *mut mls_session, other: *mut mls_session) -> c_int;
     pub fn mls_session_entry_text(
         s: *mut mls_session,

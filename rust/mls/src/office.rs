@@ -120,6 +120,19 @@ impl Session {
         }
     }
 
+    /// How many changes the journal has since the office was opened: granted requests that took an access or a
+    /// permission away, or changed a label. It reads one word, and takes no lock.
+    ///
+    /// Each is in the count before its [`submit`](Session::submit) returns. While the count is as before, no access or
+    /// permission has gone: a cache keeps a yes of this session's check with the count that was read before it. A new
+    /// office counts from 0.
+    pub fn changes(&mut self) -> u64 {
+        match self.handle.changes() {
+            Ok(count) => count,
+            Err(status) => unknown("mls_session_changes", status),
+        }
+    }
+
     /// Gives both sessions what either has seen.
     ///
     /// # Panics

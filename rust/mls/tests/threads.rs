@@ -99,7 +99,9 @@ fn a_session_sees_and_reads_what_another_did() {
     assert_eq!(std::iter::successors(Some(Object(0)), next).skip(1).collect::<Vec<_>>(), children);
     assert_eq!(other.lines(0, 1 << 16).unwrap(), (journal.clone(), 1));
     assert_eq!(other.lines(1, 0).unwrap(), (String::new(), 1));
+    assert_eq!((one.changes(), other.changes()), (0, 0));
     let number = one.release(ann, plans, Mode::Read).unwrap().number;
+    assert_eq!((other.changes(), one.changes()), (1, 1));
     assert!(other.see(number + 1) && !other.see(number + 2));
     assert!(!other.check(ann, plans, Mode::Read));
     let (line, after) = other.lines(1, 1 << 16).unwrap();

@@ -97,6 +97,14 @@ impl SessionHandle {
         }
     }
 
+    /// The count that `mls_session_changes` writes, or its status.
+    pub fn changes(&mut self) -> Result<u64, c_int> {
+        let mut count = 0;
+        // SAFETY: `self` is borrowed by nobody else, and the number is new.
+        let status = unsafe { mls_session_changes(&mut self.0, &mut count) };
+        told(status, count)
+    }
+
     /// Has two sessions meet, or the status of `mls_session_meet`.
     pub fn meet(&mut self, other: &mut SessionHandle) -> Result<(), c_int> {
         // SAFETY: both are borrowed by nobody else, so they are two.

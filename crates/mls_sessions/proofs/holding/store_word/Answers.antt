@@ -6,7 +6,7 @@ use Rattle.mls_sessions.proofs.holding.store_word.Goals as goal
 
 pub store_with-requires-clause-rule : goal.store_with-requires-clause-rule
 store_with-requires-clause-rule c = let e = c.requires.entries in λ legal.
-    stores_at c.args.gate.now.key _ _ _ _ (ap (λ m. m.0) c.requires.holds) _ legal e.0 e.1.grown e.1.mine _ _ c.requires.place e.2
+    stores_at c.args.gate.now.key _ _ _ _ (ap (λ m. m.0) c.requires.holds) _ legal e.0 e.1.grown e.1.mine _ _ c.requires.place e.2 e.3
 
 pub returns-clause-holds : goal.returns-clause-holds
 returns-clause-holds c = let key = c.args.gate.now.key in let e = c.requires.entries in let me = c.store_with.new.seat.me in
