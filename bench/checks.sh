@@ -3,7 +3,7 @@
 # and in plain Rust with the same tables of bits behind a reader/writer lock and behind an atomic pointer (RCU that frees nothing, and copies the table at every 64th write). Prints
 # millions of checks a second by the clock, what a run of few checks takes taken off: the best of five runs of each kind, by turns. Those
 # who submit make as many entries as the checkers make checks, divided by 20, so that they are busy for most of a run. These checks are asked
-# by feeds of a run; last comes what a check takes that a session is asked directly.
+# by feeds of a run; last comes what a check takes that a session is asked directly, and instructions a check of both, by callgrind.
 set -u
 export LC_ALL=C
 cd "$(dirname -- "$0")/.." || exit 1
@@ -46,4 +46,16 @@ for threads in (1, 2, 4, 8):
         print(f"| {threads} | {writers} |", " | ".join(f"{rate:.1f}" for rate in rates), "|", flush=True)
 many, few = (min(spent([program, "alone", 1, 0, 0, 0, each]) for _ in range(5)) for each in (5 * CHECKS, FEW))
 print(f"a session that calls check itself, alone: {(many - few) * 1e9 / (5 * CHECKS - FEW):.1f} nanoseconds a check")
+
+
+def instructions(words):
+    """What callgrind counts of a program's run."""
+    call = ["valgrind", "--tool=callgrind", "--callgrind-out-file=/dev/null", *map(str, words)]
+    said = subprocess.run(call, check=True, stdout=subprocess.DEVNULL, stderr=subprocess.PIPE, text=True).stderr
+    return int(said.rpartition(" Collected : ")[2].split()[0])
+
+
+for name, words in (("a feed asks for", ["gate", 0, 0, 0, 1]), ("a session is asked directly", ["alone", 1, 0, 0, 0])):
+    each = (instructions([program, *words, 60_000]) - instructions([program, *words, 20_000])) / 40_000
+    print(f"a check that {name}: {each:.0f} instructions")
 TIMES

@@ -1,5 +1,6 @@
-/* Calls the library many times: `embed START WHAT COUNT`, where WHAT is check, decide, dominates, label (decided by
- * labels), labels (the same in batches of 1,000 rows: COUNT and the time are of rows), explain, denied, held (a get of
+/* Calls the library many times: `embed START WHAT COUNT`, where WHAT is open, check, decide, dominates, label (reads that
+ * are decided by labels; executes, appends and writes: those; wide: reads of labels with a category above the first 64),
+ * labels (the same as label in batches of 1,000 rows: COUNT and the time are of rows), explain, denied, held (a get of
  * what is held already), granted (a get of what isn't, and its release, in turn), delete, or with no monitor: cells,
  * which looks up packed cells of four modes, and plain, which decides the get of decide by the same conditions. Prints
  * nanoseconds a call. `delete` is for the start of bench/rules.sh in which subject 0 writes object 1, and below this
@@ -13,7 +14,7 @@
 #include <string.h>
 #include <time.h>
 
-enum { BATCH = 1000 };
+enum { BATCH = 1000, MOST = 1 << 28 };
 
 static double now(void) {
     struct timespec t;
@@ -88,7 +89,7 @@ static void get_all(mls_t *m) {
 }
 
 int main(int argc, char **argv) {
-    static uint8_t start[1 << 21];
+    uint8_t *start = malloc(MOST), mode = MLS_READ;
     mls_t m = MLS_INIT;
     mls_fault_t fault;
     mls_answer_t a;
@@ -98,14 +99,15 @@ int main(int argc, char **argv) {
     static uint16_t replies[BATCH];
     mls_condition conditions[MLS_CONDITIONS];
     mls_remedy remedy;
-    size_t rows;
+    size_t rows, len;
     uint16_t reply;
     FILE *file = argc == 4 ? fopen(argv[1], "rb") : NULL;
     unsigned long sum = 0;
     long n, count;
     double begun;
-    if (!file) return 2;
-    if (mls_open(&m, start, fread(start, 1, sizeof start, file), &fault)) return 2;
+    if (!file || !start) return 2;
+    len = fread(start, 1, MOST, file);
+    if (mls_open(&m, start, len, &fault)) return 2;
     fclose(file);
     count = atol(argv[3]);
     memset(&get, 0, sizeof get);
@@ -116,6 +118,11 @@ int main(int argc, char **argv) {
     denied.subject = 1;
     for (n = 0; n < BATCH; n++) batch[n].security = labels[n & 3], batch[n].integrity = low;
     if (!strcmp(argv[2], "delete")) get_all(&m);
+    if (!strcmp(argv[2], "executes")) mode = MLS_EXECUTE;
+    if (!strcmp(argv[2], "appends")) mode = MLS_APPEND;
+    if (!strcmp(argv[2], "writes")) mode = MLS_WRITE;
+    if (!strcmp(argv[2], "wide"))
+        for (n = 0; n < 4; n++) labels[n].categories[1] = 1;
     begun = now();
     if (!strcmp(argv[2], "check"))
         for (n = 0; n < count; n++) sum += (unsigned)mls_check(&m, n & 3, n >> 2 & 3, MLS_READ);
@@ -130,8 +137,10 @@ int main(int argc, char **argv) {
         for (n = 0; n < count; n++) sum += (unsigned)mls_decide(&m, &get, &a);
     else if (!strcmp(argv[2], "dominates"))
         for (n = 0; n < count; n++) sum += (unsigned)mls_dominates(&labels[n & 3], &labels[n >> 2 & 3]);
-    else if (!strcmp(argv[2], "label"))
-        for (n = 0; n < count; n++) sum += (unsigned)mls_decide_label(&m, n & 3, MLS_READ, &labels[n >> 2 & 3], &low, &reply) + reply;
+    else if (!strcmp(argv[2], "open"))
+        for (n = 0; n < count; n++) mls_close(&m), sum += (unsigned)mls_open(&m, start, len, &fault);
+    else if (mode != MLS_READ || !strcmp(argv[2], "label") || !strcmp(argv[2], "wide"))
+        for (n = 0; n < count; n++) sum += (unsigned)mls_decide_label(&m, n & 3, mode, &labels[n >> 2 & 3], &low, &reply) + reply;
     else if (!strcmp(argv[2], "labels"))
         for (n = 0; n < count / BATCH; n++) sum += (unsigned)mls_decide_labels(&m, n & 3, MLS_READ, batch, BATCH, replies) + replies[0];
     else if (!strcmp(argv[2], "explain"))

@@ -1,5 +1,6 @@
-"""What bench/questions.sh prints: the program, a start file, a folder with the start file `large`, and the entries of a journal are its
-words."""
+"""What bench/questions.sh prints: the program, a start file, a folder with the start files `large`, `largest`, `faulty` and `otherwise`,
+and the entries of a journal are its words."""
+import json
 import os
 import random
 import subprocess
@@ -18,13 +19,15 @@ def path(name):
 
 
 def large_lines():
-    """Requests over the large start: gets and releases by chance, half of them of what nobody permits."""
+    """Requests over the large start: gets and releases by chance, half of them of what its cells permit."""
     rnd = random.Random(3)
+    with open(path("large"), encoding="ascii") as start:
+        cells = [(cell["subject"], cell["object"], cell["modes"][0]) for cell in json.load(start)["matrix"]]
     modes = ("read", "append", "write", "execute")
-    for _ in range(2_000):
-        subject, thing, mode = f"s{rnd.randrange(256)}", f"o{rnd.randrange(4_096)}", rnd.choice(modes)
-        yield f"{subject} get-{mode} {thing}"
-        yield f"{subject} release {mode} {thing}"
+    for _ in range(1_000):
+        other = f"s{rnd.randrange(256)}", f"o{rnd.randrange(4_096)}", rnd.choice(modes)
+        for subject, thing, mode in (rnd.choice(cells), other):
+            yield from (f"{subject} get-{mode} {thing}", f"{subject} release {mode} {thing}")
 
 
 def journal_of(start, lines, name, seed):
@@ -44,35 +47,57 @@ def journal_of(start, lines, name, seed):
 
 
 def taken(words):
-    """The processor seconds and the most kilobytes of a run of the program."""
+    """The processor seconds and the most kilobytes of a run of the program, and the lines that it prints."""
     with open(path("output"), "wb") as output:
         run = subprocess.Popen([PROGRAM, *words], stdin=subprocess.DEVNULL, stdout=output, stderr=subprocess.PIPE)
         said = run.stderr.read()
         _, status, used = os.wait4(run.pid, 0)
     status = os.waitstatus_to_exitcode(status)
-    assert status in (0, 4), f"{words}: status {status}: {said}"
-    return used.ru_utime + used.ru_stime, used.ru_maxrss
+    assert status in (0, 1, 4), f"{words}: status {status}: {said}"
+    with open(path("output"), "rb") as output:
+        lines = sum(part.count(b"\n") for part in iter(lambda: output.read(1 << 20), b""))
+    return used.ru_utime + used.ru_stime, used.ru_maxrss, lines
 
 
 def measure(title, ways):
-    """Prints what each way takes, the first of which is a replay."""
+    """Prints what each way takes, and how many times the first."""
     found = {name: [] for name in ways}
     for _ in range(RUNS):
         for name, words in ways.items():
             found[name].append(taken(words))
     seconds = {name: min(it[0] for it in runs) for name, runs in found.items()}
     memory = {name: min(it[1] for it in runs) for name, runs in found.items()}
-    replay = next(iter(ways))
-    print(f"{title}, {ENTRIES} entries, the least of {RUNS}:")
+    lines = {name: runs[0][2] for name, runs in found.items()}
+    first = next(iter(ways))
+    print(f"{title}, the least of {RUNS}:")
     for name in ways:
-        print(f"  {name + ':':30} {seconds[name]:.2f} s, {seconds[name] / seconds[replay]:.2f} times; "
-              f"{memory[name]} KiB, {memory[name] / memory[replay]:.2f} times")
+        print(f"  {name + ':':30} {seconds[name]:.2f} s, {seconds[name] / seconds[first]:.2f} times; "
+              f"{memory[name]} KiB, {memory[name] / memory[first]:.2f} times; {lines[name]} lines", flush=True)
+
+
+def measure_start():
+    largest = path("largest")
+    measure("a start of 8,388,608 bytes", {
+        "check": ["check", largest],
+        "lint": ["lint", largest],
+        "lint of two faults": ["lint", path("faulty")],
+        "who": ["who", largest, "o7"],
+        "explain": ["explain", largest, "s20 get-read o7"],
+        "lattice": ["lattice", largest],
+        "compare with itself": ["compare", largest, largest],
+        "state --start": ["state", "--start", largest, os.devnull],
+        "who --could": ["who", "--could", "--all", largest, "o7"],
+        "could": ["could", "--all", largest, "s20 get-read o7"],
+        "flow": ["flow", "--all", largest, "o0"],
+        "flow to one place": ["flow", "--all", largest, "o0", "o77"],
+    })
 
 
 def main():
+    measure_start()
     journal, middle = journal_of(STANDARD, STANDARD_LINES, "journal", 1), str(ENTRIES // 2)
     over = ["--journal", journal]
-    measure("the standard start", {
+    measure(f"the standard start, {ENTRIES} entries", {
         "replay": ["replay", STANDARD, journal],
         "journal": ["journal", STANDARD, journal],
         "journal --summary": ["journal", "--summary", STANDARD, journal],
@@ -88,12 +113,13 @@ def main():
         "state": ["state", STANDARD, journal],
         "state --start": ["state", "--start", STANDARD, journal],
         "compare": ["compare", STANDARD, STANDARD, journal],
+        "compare, with other replies": ["compare", STANDARD, path("otherwise"), journal],
         "held --json": ["held", "--json", STANDARD, journal],
         "report": ["report", STANDARD, journal],
     })
     large = path("large")
     journal = journal_of(large, [*large_lines()], "large.journal", 2)
-    measure("256 subjects", {
+    measure(f"256 subjects, {ENTRIES} entries", {
         "replay": ["replay", large, journal],
         "held": ["held", large, journal],
         "usage": ["usage", large, journal],

@@ -1,14 +1,10 @@
 #!/usr/bin/env bash
-# The cost of a replay: has mls replay journals over the standard start, the same each time, and prints instructions an entry (by
-# callgrind, where valgrind is there, the start's reading taken off), and of a million and of ten million entries seconds and the most
+# The cost of a replay: has mls replay journals over the standard start, the same each time, and plain Rust do the same, and prints
+# instructions an entry (the start's reading taken off), and of a million and of ten million entries processor seconds and the most
 # memory an entry.
 set -u
-export LC_ALL=C
 cd "$(dirname -- "$0")/.." || exit 1
-bin/prove || exit 1
-program=$PWD/crates/mls/out/proved/mls
-folder=$(mktemp -d) || exit 1
-trap 'rm -r "$folder"' EXIT
+. bench/shared.sh
 start=examples/standard.json
 
 # A script of so many lines, none of whose answers depends on the order but for the first.
@@ -31,13 +27,12 @@ mapfile -t twenty < <(yes "$folder/script" | head -n 20)
 entries=$(wc -l <"$folder/short")
 echo "journal: $(wc -c <"$folder/short") bytes, $entries entries"
 
-instructions() {
-  valgrind --tool=callgrind --callgrind-out-file=/dev/null "$program" replay "$start" "$1" 2>&1 >/dev/null |
-    awk '/ Collected : / { print $4 }'
-}
-if command -v valgrind >/dev/null; then
-  echo "instructions an entry: $((($(instructions "$folder/short") - $(instructions "$folder/none")) / entries))"
-fi
+none=$(instructions "$plain" replay "$start" "$folder/none")
+of_plain=$(by $(($(instructions "$plain" replay "$start" "$folder/short") - none)) "$entries")
+none=$(instructions "$program" replay "$start" "$folder/none")
+mv "$folder/calls" "$folder/before"
+row "instructions an entry" "$of_plain" "$(by $(($(instructions "$program" replay "$start" "$folder/short") - none)) "$entries")"
+functions "$folder/before" "$entries"
 
 # Ten million entries in a file that just fits: ann reads a plan and releases it, and bob stays where he is in between.
 awk -v entries=10000000 'BEGIN {
@@ -46,13 +41,9 @@ awk -v entries=10000000 'BEGIN {
 }' >"$folder/longest"
 
 for journal in long longest; do
-  python3 -c 'import resource, subprocess, sys, time
-program, start, journal = sys.argv[1:]
-begun = time.monotonic()
-done = subprocess.run([program, "replay", start, journal], check=True, capture_output=True)
-seconds = time.monotonic() - begun
-entries = int(done.stdout.split()[1])
-most = resource.getrusage(resource.RUSAGE_CHILDREN).ru_maxrss
-print(f"{entries} entries: {seconds:.2f} s, {most} KiB at the most, {most * 1024 // entries} bytes an entry")' \
-    "$program" "$start" "$folder/$journal"
+  entries=$(wc -l <"$folder/$journal")
+  echo "$entries entries, $(wc -c <"$folder/$journal") bytes:"
+  of_plain=("$plain" replay "$start" "$folder/$journal") of_mls=("$program" replay "$start" "$folder/$journal")
+  row "processor microseconds, the least of 5" "$(least "${of_plain[@]}")" "$(least "${of_mls[@]}")"
+  row "bytes an entry at the most" "$(by $(($(memory "${of_plain[@]}") * 1024)) "$entries")" "$(by $(($(memory "${of_mls[@]}") * 1024)) "$entries")"
 done

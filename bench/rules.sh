@@ -1,15 +1,10 @@
 #!/usr/bin/env bash
-# What single rules cost where much is held, in instructions (by callgrind): over starts that are the same each time, a script
-# that gets everything ready is run, and then the same script with the lines to be measured at its end. The difference, taken
-# by the number of those lines, is printed.
+# What single rules cost where much is held, in instructions, beside plain Rust: over starts that are the same each time, a
+# script that gets everything ready is run, and then the same script with the lines to be measured at its end. The
+# difference, taken by the number of those lines, is printed.
 set -u
-export LC_ALL=C
 cd "$(dirname -- "$0")/.." || exit 1
-bin/prove || exit 1
-command -v valgrind >/dev/null || { echo "bench/rules.sh: valgrind isn't there" >&2; exit 1; }
-program=$PWD/crates/mls/out/proved/mls
-folder=$(mktemp -d) || exit 1
-trap 'rm -r "$folder"' EXIT
+. bench/shared.sh
 
 # A start of s0 to s255, of which the last is trusted, and of so many objects, all at one label. Each has the parent that a row of
 # standard input says, and the cells that follow there: `parent OBJECT PARENT`, and `cell SUBJECT OBJECT MODE`.
@@ -31,19 +26,28 @@ start() {
     }'
 }
 
-instructions() {
-  valgrind --tool=callgrind --callgrind-out-file=/dev/null "$program" run --serial "$1" "$2" 2>&1 >"$folder/answers" |
-    awk '/ Collected : / { print $4 }'
+# Sets `more`: the instructions that the lines behind the first ones take in a command's run.
+take_more() {
+  local before
+  before=$(instructions "$@" "$folder/ready")
+  mv "$folder/calls" "$folder/before"
+  more=$(($(instructions "$@" "$folder/both") - before))
 }
 
-# measured WHAT START: the lines of $folder/lines after those of $folder/ready. Each of them must be granted.
+# measured WHAT START [UNIT]: the lines of $folder/lines after those of $folder/ready, by their number or by a unit. Plain Rust must
+# answer the same.
 measured() {
-  local before after lines
+  local lines of_plain
   lines=$(wc -l <"$folder/lines")
   cat "$folder/ready" "$folder/lines" >"$folder/both"
-  before=$(instructions "$2" "$folder/ready")
-  after=$(instructions "$2" "$folder/both")
-  echo "$1: $(((after - before) / lines)); $(tail -n +2 "$folder/answers" | tail -n "$((lines + 2))" | head -n "$lines" | grep -cE '^(yes|created)') of $lines granted"
+  take_more "$plain" run "$2"
+  of_plain=$more
+  mv "$folder/answers" "$folder/of-plain"
+  take_more "$program" run --serial "$2"
+  cmp "$folder/answers" "$folder/of-plain" || exit 1
+  row "$1" "$(by "$of_plain" "${3:-$lines}")" "$(by "$more" "${3:-$lines}")"
+  functions "$folder/before" "${3:-$lines}"
+  [ -n "${3-}" ] || tail -n "$((lines + 2))" "$folder/answers" | head -n "$lines" | grep -vE '^(yes|created)' | sort | uniq -c
 }
 
 # An object that 255 subjects read is relabelled.
@@ -64,8 +68,21 @@ awk 'BEGIN { for (s = 0; s < 200; s++) for (o = 1; o <= 240; o++) print "s" s " 
 awk 'BEGIN { for (s = 0; s < 200; s++) print "s" s " get-read o241" }' >"$folder/lines"
 measured "get that is new, with 240 held" "$folder/start"
 
-# Ten times, an object with 60 below it, each read by 16 subjects, is deleted: by calls from C, since a run ends with an audit,
-# which is shorter after deletions by more than they take.
+# Objects are created up to the last number.
+echo "cell 0 0 write" | start 96 >"$folder/start"
+echo "s0 get-write o0" >"$folder/ready"
+seq 4000 | awk '{ print "s0 create o0 C hi" }' >"$folder/lines"
+measured "create up to number 4,095" "$folder/start"
+
+# Over the standard start, objects are created, given, got and checked, and then deleted, as many as there are numbers.
+echo "sec get-write root" >"$folder/ready"
+awk 'BEGIN { for (n = 4; n < 4096; n++) print "$x" n % 200 " = sec create root U hi\nsec give read sec $x" n % 200 "\nsec get-read $x" n % 200 "\nsec check read $x" n % 200 }' >"$folder/lines"
+measured "4,092 creates, gives, gets and checks, millions in all" examples/standard.json 1000000
+awk 'BEGIN { for (n = 4; n < 4096; n++) print "$o" n " = sec create root U hi\nsec give read sec $o" n "\nsec get-read $o" n; for (n = 4; n < 4096; n++) print "sec delete $o" n }' >"$folder/lines"
+measured "4,092 creates, gives, gets and deletes, millions in all" examples/standard.json 1000000
+
+# Ten times, an object with 60 below it, each read by 16 subjects, is deleted: by calls from C, and in plain Rust as a service, since a
+# run ends with an audit, which is shorter after deletions by more than they take.
 awk 'BEGIN {
   print "cell 0 1 write"
   for (k = 0; k < 10; k++) {
@@ -77,30 +94,24 @@ awk 'BEGIN {
     }
   }
 }' | start 612 >"$folder/start"
-calling() {
-  valgrind --tool=callgrind --callgrind-out-file=/dev/null "$folder/embed" "$folder/start" "$1" "$2" 2>&1 >"$folder/answers" |
-    awk '/ Collected : / { print $4 }'
-}
-bin/build-c "$folder" && cc -O2 -I"$folder/include" bench/embed.c "$folder/lib/libmls.a" -o "$folder/embed" || exit 1
-gets=$(calling delete 0)
-echo "delete of 61 objects with 960 accesses, a call from C: $((($(calling delete 10) - gets) / 10))"
-echo "get that is new, of 9,601, a call from C: $(((gets - $(calling check 0)) / 9601))"
-
-# Objects are created up to the last number.
-echo "cell 0 0 write" | start 96 >"$folder/start"
-echo "s0 get-write o0" >"$folder/ready"
-seq 4000 | awk '{ print "s0 create o0 C hi" }' >"$folder/lines"
-measured "create up to number 4,095" "$folder/start"
-
-# Over the standard start, objects are created, given, got and checked, and then deleted, as many as there are numbers.
-echo "sec get-write root" >"$folder/ready"
-standard=$(instructions examples/standard.json "$folder/ready")
-awk 'BEGIN { for (n = 4; n < 4096; n++) print "$x" n % 200 " = sec create root U hi\nsec give read sec $x" n % 200 "\nsec get-read $x" n % 200 "\nsec check read $x" n % 200 }' >"$folder/lines"
-cat "$folder/ready" "$folder/lines" >"$folder/both"
-echo "4,092 creates, gives, gets and checks: $((($(instructions examples/standard.json "$folder/both") - standard) / 1000)) thousand in all"
-awk 'BEGIN { for (n = 4; n < 4096; n++) print "$o" n " = sec create root U hi\nsec give read sec $o" n "\nsec get-read $o" n; for (n = 4; n < 4096; n++) print "sec delete $o" n }' >"$folder/lines"
-cat "$folder/ready" "$folder/lines" >"$folder/both"
-echo "4,092 creates, gives, gets and deletes: $((($(instructions examples/standard.json "$folder/both") - standard) / 1000)) thousand in all"
+calling() { instructions "$folder/embed" "$folder/start" "$1" "$2"; }
+serving() { instructions "$plain" serve --journal "$folder/journal" "$folder/start" <"$1"; }
+{
+  echo "s0 get-write o1"
+  awk 'BEGIN { for (o = 12; o < 612; o++) for (s = 1; s <= 16; s++) print "s" s " get-read o" o }'
+} >"$folder/ready"
+{ cat "$folder/ready"; seq 2 11 | sed 's/^/s0 delete o/'; } >"$folder/both"
+none=$(serving /dev/null) plain_gets=$(serving "$folder/ready") plain_both=$(serving "$folder/both")
+[ "$(grep -cx yes "$folder/answers")" = 9611 ] || exit 1
+if [ -n "${MLS_PROGRAM-}" ] && ! bin/built file library >/dev/null; then
+  echo "delete of 61 objects with 960 accesses: plain Rust $(((plain_both - plain_gets) / 10)); the library for C isn't built"
+else
+  bin/build-c "$folder" && cc -O2 -I"$folder/include" bench/embed.c "$folder/lib/libmls.a" -o "$folder/embed" || exit 1
+  gets=$(calling delete 0)
+  row "delete of 61 objects with 960 accesses" "$(((plain_both - plain_gets) / 10))" "$((($(calling delete 10) - gets) / 10))"
+  row "get that is new, of 9,601; plain Rust with its line and its entry" "$(((plain_gets - none) / 9601))" \
+    "$(((gets - $(calling check 0)) / 9601))"
+fi
 
 # Bytes that a run still holds when its last answer is written, as valgrind tells of each allocation.
 held() {

@@ -1,14 +1,10 @@
 #!/usr/bin/env bash
-# The cost of a run: has mls run scripts over a start of 256 subjects and 4,096 objects, the same each time, and prints
-# instructions a line of one script (by callgrind, where valgrind is there, the start's reading taken off), instructions an entry
-# for the journal's text, and of 64 scripts of requests alone, with their journal, seconds and the most memory an entry.
+# The cost of a run: has mls run scripts over a start of 256 subjects and 4,096 objects, the same each time, and plain Rust do the same,
+# and prints instructions a line of one script (the start's reading taken off), instructions an entry for the journal's text, and of 64
+# scripts of requests alone, with their journal, processor seconds and the most memory an entry.
 set -u
-export LC_ALL=C
 cd "$(dirname -- "$0")/.." || exit 1
-bin/prove || exit 1
-program=$PWD/crates/mls/out/proved/mls
-folder=$(mktemp -d) || exit 1
-trap 'rm -r "$folder"' EXIT
+. bench/shared.sh
 start=$folder/start.json
 bench/large-start 2097152 >"$start"
 
@@ -31,27 +27,34 @@ for n in {1..64}; do script "$n" 0 >"$folder/$n"; done
 script 1 6 >"$folder/mixed"
 : >"$folder/empty"
 lines=$(wc -l <"$folder/mixed")
-"$program" run --serial --journal "$folder/journal" "$start" "$folder/mixed" >"$folder/answers" || exit 1
+"$program" run --serial --journal "$folder/journal" "$start" "$folder/mixed" >"$folder/of-mls" || exit 1
+"$plain" run --journal "$folder/plain.journal" "$start" "$folder/mixed" | cmp - "$folder/of-mls" || exit 1
+cmp "$folder/plain.journal" "$folder/journal" || exit 1
 entries=$(wc -l <"$folder/journal")
-echo "script: $(wc -c <"$folder/mixed") bytes, $lines lines, $entries entries; $(grep -cxE 'yes|held' "$folder/answers") lines answered yes or held"
+echo "script: $(wc -c <"$folder/mixed") bytes, $lines lines, $entries entries; $(grep -cxE 'yes|held' "$folder/of-mls") lines answered yes or held"
 
-instructions() {
-  valgrind --tool=callgrind --callgrind-out-file=/dev/null "$program" run --serial "$@" 2>&1 >/dev/null |
-    awk '/ Collected : / { print $4 }'
+# Sets `line` and `entry`: what a command's run takes for each.
+costs() {
+  local empty whole
+  empty=$(instructions "$@" "$start" "$folder/empty")
+  mv "$folder/calls" "$folder/before"
+  whole=$(instructions "$@" "$start" "$folder/mixed")
+  line=$(by $((whole - empty)) "$lines")
+  mv "$folder/calls" "$folder/whole"
+  entry=$(by $(($(instructions "$@" --journal "$folder/journal" "$start" "$folder/mixed") - whole)) "$entries")
 }
-if command -v valgrind >/dev/null; then
-  plain=$(instructions "$start" "$folder/mixed")
-  echo "instructions a line: $(((plain - $(instructions "$start" "$folder/empty")) / lines))"
-  echo "instructions an entry for the journal: $((($(instructions --journal "$folder/journal" "$start" "$folder/mixed") - plain) / entries))"
-fi
+costs "$plain" run
+plain_line=$line plain_entry=$entry
+costs "$program" run --serial
+row "instructions a line" "$plain_line" "$line"
+mv "$folder/whole" "$folder/calls" && functions "$folder/before" "$lines"
+row "instructions an entry for the journal" "$plain_entry" "$entry"
 
 mapfile -t scripts < <(printf "$folder/%s\n" {1..64})
-python3 -c 'import resource, subprocess, sys, time
-program, start, journal, *scripts = sys.argv[1:]
-begun = time.monotonic()
-done = subprocess.run([program, "run", "--serial", "--journal", journal, start, *scripts], check=True, capture_output=True)
-seconds = time.monotonic() - begun
-entries = int(done.stdout.splitlines()[-2].split()[1])
-most = resource.getrusage(resource.RUSAGE_CHILDREN).ru_maxrss
-print(f"64 scripts with their journal: {entries} entries, {seconds:.1f} s, {most} KiB at the most, {most * 1024 // entries} bytes an entry")' \
-  "$program" "$start" "$folder/journal" "${scripts[@]}"
+entries=$("$program" run --serial --journal "$folder/journal" "$start" "${scripts[@]}" | awk '$1 == "entries" { print $2 }')
+echo "64 scripts with their journal: $entries entries"
+of_plain=("$plain" run --journal "$folder/journal" "$start" "${scripts[@]}")
+of_mls=("$program" run --serial --journal "$folder/journal" "$start" "${scripts[@]}")
+row "processor microseconds, the least of 5" "$(least "${of_plain[@]}")" "$(least "${of_mls[@]}")"
+row "bytes an entry at the most, of which the scripts take $((64 * 1048576 / entries))" \
+  "$(($(memory "${of_plain[@]}") * 1024 / entries))" "$(($(memory "${of_mls[@]}") * 1024 / entries))"

@@ -1,14 +1,10 @@
 #!/usr/bin/env bash
 # The cost of a line of a script: runs mls over a script of just under a megabyte, which is the same each time, from a
 # file and through a pipe, and prints nanoseconds a line (the least and the middle of 21 runs, the start of the program
-# included), instructions a line by callgrind where valgrind is there, and the memory beside the journal.
+# included), instructions a line beside plain Rust, and the memory beside the journal.
 set -u
-export LC_ALL=C
 cd "$(dirname -- "$0")/.." || exit 1
-bin/prove || exit 1
-program=crates/mls/out/proved/mls
-folder=$(mktemp -d) || exit 1
-trap 'rm -r "$folder"' EXIT
+. bench/shared.sh
 script=$folder/script
 
 # Gets, releases and checks over the standard start. But for the first line, which makes the held access, no answer
@@ -27,8 +23,9 @@ awk -v limit=1048576 'BEGIN {
 }' >"$script"
 lines=$(wc -l <"$script")
 checks=$(grep -c ' check ' "$script")
-"$program" <"$script" >"$folder/answers" || exit 1
-granted=$(grep -cxE 'yes|held' "$folder/answers")
+"$program" <"$script" >"$folder/of-mls" || exit 1
+"$plain" run examples/standard.json "$script" | sed '1d; /^entries/,$d' | cmp - "$folder/of-mls" || exit 1
+granted=$(grep -cxE 'yes|held' "$folder/of-mls")
 echo "script: $(wc -c <"$script") bytes, $lines lines, $((lines - checks)) requests; $granted lines answered yes or held"
 
 # Nanoseconds a line, of 21 runs of a command that runs the program over the script.
@@ -47,15 +44,15 @@ echo "nanoseconds a line from a file: $(times from_file)"
 echo "nanoseconds a line through a pipe: $(times through_pipe)"
 
 # Instructions of one run over what is given.
-instructions() {
-  valgrind --tool=callgrind --callgrind-out-file="$folder/calls" "$program" <"$1" 2>&1 >/dev/null |
-    awk '/ Collected : / { print $4 }'
+answering() {
+  valgrind --tool=callgrind --callgrind-out-file="$folder/calls" "$program" <"$1" 2>&1 >/dev/null | awk '/ Collected : / { print $4 }'
 }
-if command -v valgrind >/dev/null; then
-  echo "instructions a line: $((($(instructions "$script") - $(instructions /dev/null)) / lines))"
-else
-  echo "instructions a line: valgrind isn't there"
-fi
+none=$(instructions "$plain" run examples/standard.json /dev/null)
+of_plain=$(by $(($(instructions "$plain" run examples/standard.json "$script") - none)) "$lines")
+none=$(answering /dev/null)
+mv "$folder/calls" "$folder/before"
+row "instructions a line" "$of_plain" "$(by $(($(answering "$script") - none)) "$lines")"
+functions "$folder/before" "$lines"
 
 # The most memory that a run held, in KiB, as the system tells it when all is answered and the input is still open.
 most() {
@@ -71,7 +68,7 @@ with open(sys.argv[2] + ".answers", "wb") as answers:
         print(next(it.split()[1] for it in open(f"/proc/{run.pid}/status") if it.startswith("VmHWM")))' "$program" "$1" "$2"
 }
 : >"$folder/empty"
-held=$(most "$script" "$(wc -c <"$folder/answers")")
+held=$(most "$script" "$(wc -c <"$folder/of-mls")")
 empty=$(most "$folder/empty" 0)
 entries=$((lines - checks))
 echo "memory: $held KiB at the most, $empty KiB for an empty script; $entries entries take the rest, $(((held - empty) * 1024 / entries)) bytes each"

@@ -1,12 +1,13 @@
 #!/usr/bin/env bash
 # The cost of threads: has mls run 1, 4, 16 and 64 scripts of just under a megabyte over a start of 256 subjects and 4,096 objects, the
 # same each time, each in a thread of its own and then one after the other, and prints for both the seconds by the clock and of processor
-# time (the middle of nine runs each, in turn), and how threads stand to serial. Of ten lines some six are checks, the others releases and gets.
+# time (the middle of nine runs each, in turn), and how threads stand to serial; and of 4 scripts millions of instructions. Of ten lines
+# some six are checks, the others releases and gets. It measures the proved program, or the one that MLS_PROGRAM names.
 set -u
 export LC_ALL=C
 cd "$(dirname -- "$0")/.." || exit 1
-bin/prove || exit 1
-program=$PWD/crates/mls/out/proved/mls
+[ -n "${MLS_PROGRAM-}" ] || bin/prove || exit 1
+program=${MLS_PROGRAM:-$PWD/crates/mls/out/proved/mls}
 folder=$(mktemp -d) || exit 1
 trap 'rm -r "$folder"' EXIT
 bench/large-start 2097152 >"$folder/start.json"
@@ -51,3 +52,11 @@ for count in (1, 4, 16, 64):
     print(f"| {count} | {clock:.2f}, {work:.2f} | {serial_clock:.2f}, {serial_work:.2f} "
           f"| {clock / serial_clock:.2f} | {work / serial_work:.2f} |", flush=True)
 TIMES
+
+# Millions of instructions of a run.
+millions() {
+  valgrind --tool=callgrind --callgrind-out-file=/dev/null "$program" run "$@" 2>&1 >/dev/null | awk '/ Collected : / { print int($4 / 1000000) }'
+}
+none=$(millions --serial "$folder/start.json" /dev/null)
+echo "4 scripts, millions of instructions without the start's: in threads $(($(millions "$folder/start.json" "$folder"/{1..4}) - none))," \
+  "serial $(($(millions --serial "$folder/start.json" "$folder"/{1..4}) - none))"
