@@ -45,6 +45,9 @@ CHECKS = [Check("library", (".ci/check-c", ), PROOF, 900), Check("refusals", (".
           Check("quotations", (".ci/check-quotes", ), FILES, 1)]
 COUNTS = re.compile(r"(\d+) passed, (\d+) failed(?:, (\d+) skipped)?")
 SKIPPED = re.compile(r"^.*: skipped: .*\n", re.M)
+FAILED = re.compile(r"^.*(?:: (?:FAILED|failed|NOT BUILT)\b|\bNOT PROVED\b).*$", re.M)
+# The lines that say what failed, which are printed once more at the end.
+FAULTS = []
 
 
 class Counts:
@@ -94,10 +97,18 @@ def ran(check):
 def tell(name, said, counts, is_whole):
     """Prints what a check came to, and before that what it said where that is wanted or something failed, or else what
     it skipped."""
+    if counts.failed:
+        FAULTS.extend(FAILED.findall(said) or [f"{name}: {said.rstrip()[-300:]}"])
     front, newline, last = said.rstrip("\n").rpartition("\n")
     front = front + newline if COUNTS.fullmatch(last) else said
     print(front if is_whole or counts.failed else "".join(SKIPPED.findall(front)), end="")
     print(f"{name}: {counts}", flush=True)
+
+
+def tell_faults():
+    """Prints once more what failed, so that it stands at the end of a long output."""
+    for it in FAULTS:
+        print(f"what failed: {it[:600]}")
 
 
 class Bar:

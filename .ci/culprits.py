@@ -54,9 +54,11 @@ def told(data, line):
     """What is told of a line that has its form; nothing where it has no fault."""
     subject, action, *operands = line.split()
     parts = [("s", subject), *zip(OPERANDS[action], operands)]
-    for kind, word in parts:
+    for place, (kind, word) in enumerate(parts):
         if kind in "so" and not word.startswith("#") and word not in names_of(data, kind):
-            return f"mls: line: bad name: {word}{meant(word, names_of(data, kind))}\n"
+            is_object = place == 0 and word in names_of(data, "o")
+            more = ": it is an object: mls about" if is_object else meant(word, names_of(data, kind))
+            return f"mls: line: bad name: {word}{more}\n"
     for kind, word in parts:
         if kind in "ci" and not is_label(word, scheme_of(data, kind)):
             return f"mls: line: bad label: {word}{label_meant(word, scheme_of(data, kind))}\n"

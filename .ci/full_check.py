@@ -15,7 +15,7 @@ import tempfile
 import time
 
 sys.dont_write_bytecode = True
-from checks import CHECKS, FILES, MINUTES, TOP, Counts, counts_of, ended, run_all
+from checks import CHECKS, FAILED, FAULTS, FILES, MINUTES, TOP, Counts, counts_of, ended, run_all, tell_faults
 from rooms import below, built, compile_static, lanes, listed, minutes
 
 PROGRAM = f"{TOP}/crates/mls/out/mls"
@@ -32,6 +32,7 @@ def proofs(told):
         for line in tool.stdout:
             print(last, end="", flush=True)
             last = line
+            FAULTS.extend(FAILED.findall(line))
             told(line)
     counts = counts_of(last, tool.returncode)
     print(f"the proofs: {last}", end="", flush=True)
@@ -104,6 +105,7 @@ def main():
         counts.add(run_all([it for it in CHECKS if it.needs in (FILES, MINUTES)], is_whole=True))
     if counts.skipped:
         print(f"{counts.skipped} skipped, as the lines above say")
+    tell_faults()
     print(took(begun))
     print(f"{counts.passed} passed, {counts.failed} failed")
     return 1 if counts.failed else 0

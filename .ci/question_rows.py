@@ -285,12 +285,21 @@ LINTED = [(STANDARD,
 answered, refused, not_understood = asks()
 
 
+def pieces_of(terminal):
+    """What a terminal has shown, whose other end is closed: it comes in pieces, and then nothing can be read."""
+    while True:
+        try:
+            yield os.read(terminal, 65536)
+        except OSError:
+            return
+
+
 def on_terminal(words):
     """The status, and what the program writes where its standard error is a terminal."""
     ours, theirs = pty.openpty()
     done = subprocess.run([PROGRAM, *words], timeout=SECONDS, stdin=subprocess.DEVNULL, stdout=subprocess.DEVNULL, stderr=theirs)
     os.close(theirs)
-    told = os.read(ours, 65536).decode()
+    told = b"".join(pieces_of(ours)).decode()
     os.close(ours)
     return done.returncode, told
 
