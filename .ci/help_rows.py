@@ -7,7 +7,7 @@ import subprocess
 import time
 
 from asking import GONE, HELD, OPENED, STANDARD, asks, documents
-from outside import EXAMPLES, PROGRAM, SECONDS, TOP, example, in_its_folder, put, ran_program, same
+from outside import EXAMPLES, PROGRAM, SECONDS, TOP, example, in_its_folder, put, ran_program, same, shown_by
 
 answered, refused, not_understood = asks()
 # The commands under their headings.
@@ -121,13 +121,7 @@ def told_at_a_terminal(words):
     ours, theirs = pty.openpty()
     done = subprocess.run([PROGRAM, *words], timeout=SECONDS, stdin=subprocess.DEVNULL, stdout=subprocess.DEVNULL, stderr=theirs)
     os.close(theirs)
-    try:
-        told = os.read(ours, 65536).decode().replace("\r\n", "\n")
-    except OSError:
-        # (nothing was written, and the other end is closed)
-        told = ""
-    os.close(ours)
-    return done.returncode, told
+    return done.returncode, shown_by(ours).replace("\r\n", "\n")
 
 
 def put_files():

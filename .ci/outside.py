@@ -89,6 +89,17 @@ def example(name):
         return file.read()
 
 
+def shown_by(terminal):
+    """What a terminal has shown, whose other end is closed: it comes in pieces, and then nothing more can be read."""
+    told = b""
+    while True:
+        try:
+            told += os.read(terminal, 65536)
+        except OSError:
+            os.close(terminal)
+            return told.decode()
+
+
 def rounds(count):
     """How often a check does again what chance decides: over a trial, which takes ten times as long, a tenth as
     often."""

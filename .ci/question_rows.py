@@ -5,7 +5,7 @@ import pty
 import subprocess
 
 from asking import GONE, HELD, NO_REPLY, OFFICE, STANDARD, asks, put_faulty
-from outside import PROGRAM, SECONDS, example, put, ran_program, same
+from outside import PROGRAM, SECONDS, example, put, ran_program, same, shown_by
 
 # The journal of examples/standard.script.
 MEMO = b"0 0 0 get-read 1 yes\n1 0 1 get-read 2 no star\n2 0 0 release read 1 yes\n"
@@ -285,23 +285,12 @@ LINTED = [(STANDARD,
 answered, refused, not_understood = asks()
 
 
-def pieces_of(terminal):
-    """What a terminal has shown, whose other end is closed: it comes in pieces, and then nothing can be read."""
-    while True:
-        try:
-            yield os.read(terminal, 65536)
-        except OSError:
-            return
-
-
 def on_terminal(words):
     """The status, and what the program writes where its standard error is a terminal."""
     ours, theirs = pty.openpty()
     done = subprocess.run([PROGRAM, *words], timeout=SECONDS, stdin=subprocess.DEVNULL, stdout=subprocess.DEVNULL, stderr=theirs)
     os.close(theirs)
-    told = b"".join(pieces_of(ours)).decode()
-    os.close(ours)
-    return done.returncode, told
+    return done.returncode, shown_by(ours)
 
 
 def lines_that_are_asked():
