@@ -133,6 +133,57 @@ static void *give_and_rescind(void *at) {
     return NULL;
 }
 
+/* The first thread copies out what the others add and forgets it, as a store does; the others get and release. */
+static void *copy_and_forget(void *at) {
+    static char lines[1 << 12];
+    worker *w = at;
+    uint64_t next = 0, all = (uint64_t)(THREADS - 1) * (uint64_t)rounds + w->numbers[0], n;
+    size_t len;
+    for (n = w->numbers[0]; n < all; n = next) {
+        w->wrong += mls_wait_entry_text(w->session, n, lines, sizeof lines, &len, &next) != MLS_OK || next < n;
+        w->wrong += mls_wait_forget(w->session, next) != MLS_OK;
+        /* (what was forgotten before stays so, and what isn't is there) */
+        w->wrong += mls_wait_forget(w->session, n) != MLS_OK;
+        if (next > 0) w->wrong += mls_wait_entry_text(w->session, next - 1, lines, sizeof lines, &len, &n) != MLS_ENOTFOUND;
+        w->wrong += mls_wait_entry_text(w->session, next, lines, sizeof lines, &len, &n) != MLS_OK;
+    }
+    w->numbers[0] = next;
+    return NULL;
+}
+
+/* Entries are forgotten while other threads ask, and the monitor comes back without them. */
+static void forgets(mls_monitor *m, worker *workers) {
+    mls_office office = MLS_OFFICE_INIT;
+    pthread_t threads[THREADS];
+    uint64_t before = mls_entries(m), all = before + (uint64_t)((THREADS - 1) * rounds);
+    static char lines[1 << 12];
+    mls_journal_entry e;
+    uint64_t next = 7;
+    size_t len = 7;
+    int k;
+    CHECK(mls_forget(m, 3) == MLS_OK && mls_forgotten(m) == 3);
+    CHECK(mls_office_open(&office, m, sessions, THREADS) == MLS_OK);
+    CHECK(mls_wait_entry_text(&sessions[1], 2, lines, sizeof lines, &len, &next) == MLS_ENOTFOUND && next == 7);
+    CHECK(mls_wait_entry_text(&sessions[1], 3, lines, sizeof lines, &len, &next) == MLS_OK && next > 3);
+    workers[0].numbers[0] = before;
+    for (k = 0; k < THREADS; k++) {
+        if (pthread_create(&threads[k], NULL, k ? work : copy_and_forget, &workers[k])) exit(2);
+    }
+    for (k = 0; k < THREADS; k++) {
+        pthread_join(threads[k], NULL);
+        CHECK(workers[k].wrong == 0);
+    }
+    /* no session finds them, and no entry that isn't there is forgotten */
+    CHECK(workers[0].numbers[0] == all);
+    CHECK(mls_wait_entry_text(&sessions[1], all - 1, lines, sizeof lines, &len, &next) == MLS_ENOTFOUND);
+    CHECK(mls_wait_entry_text(&sessions[1], all, lines, sizeof lines, &len, &next) == MLS_OK && len == 0 && next == all);
+    CHECK(mls_session_forget(&sessions[2], UINT64_MAX) == MLS_OK);
+    CHECK(mls_wait_entry_text(&sessions[1], all, lines, sizeof lines, &len, &next) == MLS_OK && len == 0 && next == all);
+    CHECK(mls_office_close(&office, sessions, m) == MLS_OK);
+    CHECK(mls_session_forget(&sessions[2], 1) == MLS_ECLOSED);
+    CHECK(mls_entries(m) == all && mls_forgotten(m) == all && mls_entry(m, all - 1, &e) == MLS_ENOTFOUND);
+}
+
 /* The first thread takes away what the others have in their caches. */
 static void has_caches(mls_monitor *m, worker *workers) {
     mls_office office = MLS_OFFICE_INIT;
@@ -219,6 +270,7 @@ int main(int argc, char **argv) {
     CHECK(mls_office_close(&office, sessions, &m) == MLS_OK && m.held);
     has_all(&m, workers);
     has_caches(&m, workers);
+    forgets(&m, workers);
     for (k = 0; k < THREADS; k++) free(workers[k].numbers);
     mls_close(&m);
     if (!failed) printf("ok\n");

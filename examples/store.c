@@ -1,6 +1,6 @@
 /* A store with threads that loses no answer: eight threads ask, and one writes the journal and syncs it, for all that
- * asked meanwhile at once. A thread acts on an answer once its entry is synced: here it prints the entry's line, as it
- * knows it from its request and its answer.
+ * asked meanwhile at once, and then forgets it, so that memory doesn't grow. A thread acts on an answer once its entry
+ * is synced: here it prints the entry's line, as it knows it from its request and its answer.
  *
  *     cc -IFOLDER/include examples/store.c FOLDER/lib/libmls.a -pthread -o store
  *     store START JOURNAL
@@ -33,7 +33,7 @@ static void die(const char *what, int status) {
 }
 
 /* The thread that writes has a session of its own. It sleeps until a thread waits for an entry, copies out what all
- * sessions added, and writes and syncs it. If that lacks the entry, it copies out again. */
+ * sessions added, and writes and syncs it. If that lacks the entry, it copies out again. What is synced it forgets. */
 static void *write_entries(void *at) {
     static char lines[ROOM];
     uint64_t next;
@@ -48,6 +48,7 @@ static void *write_entries(void *at) {
         synced = next;
         pthread_cond_broadcast(&grown);
         pthread_mutex_unlock(&mutex);
+        if (mls_wait_forget(at, next)) die("entries can't be forgotten", 1);
     }
     return NULL;
 }

@@ -1,5 +1,6 @@
 """A store with threads that loses no answer, as examples/store.c: threads ask, and one writes the journal and syncs it,
-for all that asked meanwhile at once. A thread acts on an answer once its entry is synced: here it prints its line.
+for all that asked meanwhile at once, and then forgets it, so that memory doesn't grow. A thread acts on an answer once
+its entry is synced: here it prints its line.
 
     MLS_LIBRARY=FOLDER/lib/libmls.so PYTHONPATH=python python3 examples/store.py START JOURNAL
 
@@ -38,17 +39,19 @@ class Store:
         self.more, self.grown = threading.Condition(self.lock), threading.Condition(self.lock)
 
     def write_entries(self):
-        """Sleeps until a thread waits for an entry, then writes and syncs what all sessions added."""
+        """Sleeps until a thread waits for an entry, then writes and syncs what all sessions added, and forgets it."""
+        session = self.office.sessions[THREADS]
         while True:
             with self.more:
                 self.more.wait_for(lambda: self.asked > self.synced)
-            lines, after = self.office.sessions[THREADS].lines(self.synced, ROOM)
+            lines, after = session.lines(self.synced, ROOM)
             if self.file.write(lines) != len(lines):
                 raise OSError("a short write")
             os.fsync(self.file)
             with self.lock:
                 self.synced = after
                 self.grown.notify_all()
+            session.forget(after)
 
     def wait_synced(self, entries):
         """Waits until so many entries are on the disk."""

@@ -471,6 +471,13 @@ int mls_session_meet(mls_session *s, mls_session *other);
 int mls_session_entry_text(mls_session *s, uint64_t from, char *buf, size_t cap, size_t *len,
                            uint64_t *next);
 
+/* Forgets the entries with numbers below n, as far as they are there: no session can read them any
+ * more, and their memory is used again, as by mls_forget. All else stays: the state, and the
+ * numbers of later entries. It tries the lock once, adds no entry, and can't fail for want of
+ * memory.
+ * MLS_ECLOSED; MLS_EBUSY: ask again, as mls_wait_forget does; nothing is then forgotten. */
+int mls_session_forget(mls_session *s, uint64_t n);
+
 /* As the calls of a monitor that have their names, of the state to which the journal leads that the
  * session sees. They try the lock once: MLS_EBUSY besides, and nothing is then written.
  * mls_session_decide_labels decides all rows in one such state, and holds the lock no longer than

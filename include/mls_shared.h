@@ -236,16 +236,16 @@ MLS_INLINE void mls_shared_destroy(mls_shared *s) {
     if (pthread_mutex_destroy(&s->mutex)) abort();
 }
 
-/* How a session that got MLS_EBUSY pauses before it asks again: twice as long each round, and
- * from round MLS_ROUNDS on it gives its time slice to other threads. */
-enum { MLS_ROUNDS = 7 };
+/* How a session that got MLS_EBUSY pauses before it asks again: twice as long each round up to
+ * round MLS_LONGEST, which takes 5 to 50 microseconds. From round MLS_ROUNDS on it first gives its
+ * time slice to other threads. Meanwhile the monitor stays in the cache of the processor that has
+ * it: a thread that asks more often takes turns from the others, and each turn costs more. */
+enum { MLS_ROUNDS = 7, MLS_LONGEST = 10 };
 
 MLS_INLINE void mls_pause(unsigned round) {
     unsigned left;
-    if (round >= MLS_ROUNDS) {
-        sched_yield();
-        return;
-    }
+    if (round >= MLS_ROUNDS) sched_yield();
+    if (round > MLS_LONGEST) round = MLS_LONGEST;
     for (left = 1u << round; left; left--) {
 #if defined(__GNUC__) && (defined(__x86_64__) || defined(__i386__))
         __builtin_ia32_pause();
@@ -293,6 +293,13 @@ MLS_INLINE int mls_wait_entry_text(mls_session *s, uint64_t from, char *buf, siz
     int status;
     while ((status = mls_session_entry_text(s, from, buf, cap, len, next)) == MLS_EBUSY)
         mls_pause(round++);
+    return status;
+}
+
+MLS_INLINE int mls_wait_forget(mls_session *s, uint64_t n) {
+    unsigned round = 0;
+    int status;
+    while ((status = mls_session_forget(s, n)) == MLS_EBUSY) mls_pause(round++);
     return status;
 }
 

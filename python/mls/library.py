@@ -138,6 +138,7 @@ CALLS = {
     "mls_session_changes": (c_int, [SESSION, POINTER(c_uint64)]),
     "mls_session_meet": (c_int, [SESSION, SESSION]),
     "mls_session_entry_text": (c_int, [SESSION, c_uint64, c_char_p, c_size_t, LENGTH, POINTER(c_uint64)]),
+    "mls_session_forget": (c_int, [SESSION, c_uint64]),
     "mls_session_decide_label": (c_int, [SESSION, c_uint16, c_uint8, POINTER(Label), POINTER(Label), POINTER(c_uint16)]),
     "mls_session_decide_labels": (c_int, [SESSION, c_uint16, c_uint8, POINTER(Labels), c_size_t, POINTER(c_uint16)]),
     "mls_session_explain": (c_int, [SESSION, POINTER(Request), POINTER(Condition), c_size_t, LENGTH, POINTER(Remedy)]),

@@ -168,6 +168,11 @@ class Session(Reading):
         is_ok(status, "an allocation failed")
         return buffer.raw[: length.value], after.value
 
+    def forget(self, n: int) -> None:
+        """Forgets the entries below n, as far as they are there, so that memory doesn't grow: no session can read them any
+        more. All else stays: the state, and the numbers of later entries."""
+        is_ok(self._asked("forget", number(n, 64)))
+
 
 def _numbers(name_of: Callable[[int], Optional[str]]) -> dict[str, int]:
     """The names that a start has, each with its number: those have no gaps."""

@@ -332,6 +332,24 @@ class Monitors(unittest.TestCase):
         self.assertRaises(mls.Closed, lambda: first.see(0))
         self.assertRaises(mls.Closed, lambda: first.meet(second))
 
+    def test_a_session_forgets_while_the_office_is_open(self):
+        office = mls.Office(self.monitor, 2)
+        first, second = office.sessions
+        first.get("ann", "read", "plans")
+        second.get("bob", "read", "memo")
+        last, _ = second.lines(1)
+        first.forget(1)
+        self.assertRaises(mls.NoSuchEntry, second.lines)
+        self.assertEqual(second.lines(1), (last, 2))
+        second.forget(0)
+        self.assertEqual(first.lines(1), (last, 2))
+        for wrong in (lambda: first.forget(-1), lambda: first.forget(2**64)):
+            self.assertRaises(mls.BadRequest, wrong)
+        with office.close() as m:
+            self.assertEqual((m.forgotten, m.entry_count, m.journal(1)), (1, 2, last))
+            self.assertTrue(m.check("ann", "read", "plans"))
+        self.assertRaises(mls.Closed, lambda: first.forget(0))
+
     def test_a_session_reads_while_the_office_is_open(self):
         m = self.monitor
         told = lambda it: (it.subject_info("ann"), it.object_info("memo"), it.pair("ann", "plans"), it.counts(),

@@ -60,41 +60,6 @@ pub makes_entry : (p q : Place) (request : Option Request) (r : Request) (e : En
     → MakesEntry (Some p) request (Some q) answer
 makes_entry p q request r e answer is same number made told = subst (λ (x : Option Request). MakesEntry (Some p) x (Some q) answer) (sym is) ((same, number), (e, made, told))
 
--- sessions that made nothing leave the journal as it was
-has_back : (o : Office) (j : Journal) (xs ys : List Session) → HasAll o j (xs ++ ys) → HasAll o j ys
-has_back o j [] ys all = all
-has_back o j (x ∷ xs) ys all = has_back o j xs ys all.2
-
-has_front : (o : Office) (j : Journal) (xs ys : List Session) → HasAll o j (xs ++ ys) → HasAll o j xs
-has_front o j [] ys all = tt
-has_front o j (x ∷ xs) ys all = (all.0, all.1, has_front o j xs ys all.2)
-
-none_left : (n : ℕ) (es : List Entry) → AllBelow n es → ((k : ℕ) → k < n → of_session k es ≡ []) → es ≡ []
-none_left n [] b none = refl
-none_left n (e ∷ es) b none = absurd (cons≢nil (sym (ap (λ (x : Bool). if x then e ∷ of_session e.session es else of_session e.session es) (eq-eqb e.session e.session refl)) ∙ none e.session b.0))
-
-none_of : (o : Office) (j : Journal) (k m : ℕ) → HasAll o j (newcomers o (suc m)) → k ≡ m → of_session k (news o.charter j) ≡ []
-none_of o j k m all is = subst (λ (n : ℕ). of_session n (news o.charter j) ≡ []) (sym is) (has_back o j (newcomers o m) _ all).1
-
-own_none : (o : Office) (j : Journal) (n k : ℕ) → k < n → HasAll o j (newcomers o n) → of_session k (news o.charter j) ≡ []
-own_none o j zero k lt all = absurd (omega arith)
-own_none o j (suc m) k lt all = let le : k ≤ m = omega arith in
-    ⊎_elim (λ (is : k ≡ m). none_of o j k m all is) (λ (low : k < m). own_none o j m k low (has_front o j (newcomers o m) _ all)) (eq-or-lt_of_le le)
-
-no_news : (o : Office) (n : ℕ) (j : Journal) → o.charter.count ≡ n → Leaves o (newcomers o n) j → news o.charter j ≡ []
-no_news o n j is left = none_left o.charter.count (news o.charter j) left.below (λ k lt. own_none o j n k (subst (λ (c : ℕ). k < c) is lt) left.all)
-
-as_before : (o : Office) (n : ℕ) (j : Journal) → o.charter.count ≡ n → Leaves o (newcomers o n) j → j.entries ≡ base o.charter
-as_before o n j is left = let p = left.begins in
-    let rest : p.0 ≡ [] = sym (drop-append_seam (base o.charter) p.0) ∙ ap (λ (es : List Entry). drop (length (base o.charter)) es) p.1 ∙ no_news o n j is left in
-    sym p.1 ∙ ap (λ (es : List Entry). base o.charter ++ es) rest ∙ append-nil (base o.charter)
-
-pub leaves_as_opened : (o : Office) (m : Monitor) (n : ℕ) (home : List Session) (j : Journal) → begun o.charter ≡ m.start → base o.charter ≡ m.entries → o.charter.forgotten ≡ m.forgotten → o.charter.count ≡ n → home ≡ newcomers o n → Leaves o home j
-    → j ≡ journal_of m
-leaves_as_opened o m n home j start entries forgotten count all left =
-    let now : Leaves o (newcomers o n) j = subst (λ (ss : List Session). Leaves o ss j) all left in
-    let a = now.start ∙ start in let b = now.forgotten ∙ forgotten in let c = as_before o n j count now ∙ entries in λ k. journal (a k) (b k) (c k)
-
 -- an open monitor with the journal that it had is as it was
 pub restored : (o now : Opened) (m : Monitor) (j : Journal) → j ≡ journal_of m → m.start ≡ o.start → m.entries ≡ o.entries → m.forgotten ≡ o.forgotten → now ≡ with_journal o.names j → now ≡ o
 restored o now m j same start entries forgotten is = is ∙ ap (with_journal o.names) same ∙ (λ k. record { names = o.names; start = start k; entries = entries k; forgotten = forgotten k })

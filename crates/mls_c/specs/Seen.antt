@@ -11,7 +11,7 @@ use Rattle.mls_tails.specs.Tails.{AreMost}
 use Rattle.mls_monitor.specs.Journal.{fold}
 use Rattle.mls_turns.specs.Journals.{Journal}
 use Rattle.mls_sessions.specs.Changes.{Keeps}
-use Rattle.mls_sessions.specs.Sessions.{HasSeen, Meets, journal_seen, changes_seen}
+use Rattle.mls_sessions.specs.Sessions.{HasSeen, Forgets, Meets, journal_seen, changes_seen}
 use Rattle.mls_c.specs.Conditions.{AreConditions, HasActionRemedy, DefinedStatus, Explains, condition_count}
 use Rattle.mls_c.specs.declared.condition_numbers.ConditionNumbers.{ConditionNumbers}
 use Rattle.mls_c.specs.declared.explaining.RemedyNumbers.{RemedyNumbers}
@@ -47,6 +47,15 @@ InSeen handle Holds = IsSomeAnd handle (λ p. Holds (seen_by p))
 -- What seeing a journal of n entries returns: that it is seen, or that the journal isn't that long. (own)
 abbrev pub SeeStatus : ℕ → Journal → ℤ → Type 0
 SeeStatus n j status = ((status ≡ OK) × (n ≤ length j.entries)) ⊎ ((status ≡ EAGAIN) × (length j.entries < n))
+
+-- What a look returns that is done. (own)
+abbrev pub Done : Journal → ℤ → Type 0
+Done j status = status ≡ OK
+
+-- The session of a handle had the entries below a number forgotten: those that are there, of the journal that it then
+-- has seen. (own)
+abbrev pub ForgetsIn : ℕ → Option Place → Option Place → Type 0
+ForgetsIn n old new = IsSomeAnd old (λ p. IsSomeAnd new (λ q. Forgets n p.session.view q.session.view))
 
 -- A session looked how many changes the journal has that it sees, since its office was opened: no fewer than it saw
 -- before, and where they are as many, what it saw of accesses, permissions and current labels stays. (own)

@@ -91,7 +91,9 @@ pub use session_handle::{MlsSession, mls_session_drop};
 pub use session_infos::{mls_session_read_object, mls_session_read_subject};
 pub use session_labels::mls_session_decide_label;
 pub use session_lines::mls_session_entry_bytes;
-pub use session_seeing::{mls_session_changes, mls_session_meet_other, mls_session_see};
+pub use session_seeing::{
+    mls_session_changes, mls_session_forget, mls_session_meet_other, mls_session_see,
+};
 pub use state_opening::mls_open_state_bytes;
 pub use state_start::mls_state_start_bytes;
 pub use state_text::mls_state_text_bytes;

@@ -1,10 +1,10 @@
 //! What a thread has of an office: a session, with the office that it shares with others.
-ghost use Rattle.std.specs.Prelude.{◌≡◌, ◌≢◌, length, IfOk, IsOk, OnOk, OnErr, IfErr};
+ghost use Rattle.std.specs.Prelude.{◌≡◌, ◌≢◌, false, length, IfOk, IsOk, OnOk, OnErr, IfErr};
 ghost use Rattle.std.specs.Arc.{arc_value};
 ghost use Rattle.std.specs.Bool.{Decides};
 ghost use Rattle.std.specs.FinSet as set;
 ghost use Rattle.mls_rules.specs.Rules.{reply};
-ghost use Rattle.mls_sessions.specs.Sessions.{IsOf, Submits, HasSeen, Meets, history, number_of};
+ghost use Rattle.mls_sessions.specs.Sessions.{IsOf, Submits, HasSeen, Forgets, Meets, history, number_of};
 ghost use Rattle.mls_c.specs.Offices.{Looks, IsSameSession, state_seen};
 ghost use Rattle.mls_c.specs.Seen.{seen_by, CountsChanges};
 
@@ -23,6 +23,7 @@ pub struct Place {
 }
 
 impl Model for Place {
+    ghost use Rattle.std.specs.Prelude.{◌≡◌, false};
     ghost use Rattle.std.specs.Arc.{arc_value};
     ghost use Rattle.mls_sessions.specs.Sessions.{IsOf};
     ghost use Rattle.mls_c.specs.Offices.{Place, place_code};
@@ -33,13 +34,13 @@ impl Model for Place {
 
     ghost view = { λ p. record { office = arc_value p.office; session = p.session } };
 
-    ghost invariant = { λ p. IsOf (arc_value p.office) p.session };
+    ghost invariant = { λ p. IsOf (arc_value p.office) p.session × ((arc_value p.office).charter.lasts ≡ false) };
 }
 
 impl Place {
-    /// A session of this office.
+    /// A session of this office, which may have entries forgotten.
     pub(crate) fn of(office: Arc<Office, Global>, session: Session) -> Place
-        requires { IsOf (arc_value office) session }
+        requires { IsOf (arc_value office) session × ((arc_value office).charter.lasts ≡ false) }
         ensures { result ≡ record { office = arc_value office; session = session } }
     {
         Place { office, session }
@@ -140,6 +141,21 @@ impl Place {
         let (told, nobody) = self.session.see_quietly(&self.office, n);
         let _ = nobody;
         told
+    }
+
+    /// Has the entries with numbers below `n` forgotten.
+    ///
+    /// # Errors
+    /// `Busy` where another session is at the monitor; all is then as before.
+    pub(crate) fn forget(&mut self, n: u64) -> Result<(), Busy>
+        ensures seen { OnOk result (Looks self.old self.new) }
+        ensures forgets { OnOk result (Forgets n self.old.session.view self.new.session.view) }
+        ensures busy { OnErr result (self.new ≡ self.old) }
+        ensures alone { OnErr result (self.old.office.charter.count ≢ 1) }
+    {
+        let (forgot, nobody) = self.session.forget_quietly(&self.office, n);
+        let _ = nobody;
+        forgot
     }
 
     /// Sees the present journal, and returns how many changes it has since the office was opened.

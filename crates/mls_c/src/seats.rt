@@ -8,7 +8,7 @@ ghost use Rattle.mls_c.specs.Offices.{NumbersBelow};
 
 use crate::place::Place;
 use mls_monitor::Monitor;
-use mls_sessions::{Office, OfficeFault, OfficeFaultKind, Session};
+use mls_sessions::{Office, OfficeFault, Session};
 use std::alloc::Global;
 use std::marker::Model;
 use std::sync::Arc;
@@ -23,7 +23,7 @@ pub struct Seats {
 }
 
 impl Model for Seats {
-    ghost use Rattle.std.specs.Prelude.{◌≡◌, ◌≤◌, vec_capacity};
+    ghost use Rattle.std.specs.Prelude.{◌≡◌, ◌≤◌, false, vec_capacity};
     ghost use Rattle.std.specs.Arc.{arc_value};
     ghost use Rattle.mls_sessions.specs.Sessions.{Ascending};
     ghost use Rattle.mls_c.specs.Offices.{Seats, seats_code};
@@ -35,7 +35,8 @@ impl Model for Seats {
     ghost view = { λ t. record { office = arc_value t.office; home = t.home.items } };
 
     ghost invariant = { λ t. Ascending (arc_value t.office) 0 t.home.items
-        × ((arc_value t.office).charter.count ≡ t.count) × (t.count ≤ vec_capacity t.home) };
+        × ((arc_value t.office).charter.count ≡ t.count) × (t.count ≤ vec_capacity t.home)
+        × ((arc_value t.office).charter.lasts ≡ false) };
 }
 
 /// Why a session isn't handed out.
@@ -52,7 +53,6 @@ impl Seats {
     ///
     /// # Errors
     /// `Memory` where an allocation failed, with the monitor: its start and journal are as they were.
-    #[tactic(auto, using(crate::proofs::Offices::leaves_as_opened))]
     pub(crate) fn open(alloc: Global, monitor: Monitor, count: u16) -> Result<Seats, OfficeFault>
         requires { IsTrue (is_count count) }
         ensures start { IfOk result (λ t. begun t.office.charter ≡ monitor.start) }
@@ -62,21 +62,12 @@ impl Seats {
         ensures home { IfOk result (λ t. t.home ≡ newcomers t.office count) }
         ensures err { IfErr result (λ fault. journal_of fault.monitor ≡ journal_of monitor) }
     {
-        let (office, home) = Office::open(alloc, monitor, count)?;
-        match Arc::new(alloc, office) {
-            Ok(office) => Ok(Seats {
-                office,
-                home,
-                count,
-            }),
-            Err(refused) => match refused.value.close(home) {
-                Ok(monitor) => Err(OfficeFault {
-                    kind: OfficeFaultKind::Memory,
-                    monitor,
-                }),
-                Err(_) => unreachable!(),
-            },
-        }
+        let (office, home) = Office::open_shared(alloc, monitor, count)?;
+        Ok(Seats {
+            office,
+            home,
+            count,
+        })
     }
 
     /// Hands out the last of the sessions at home.

@@ -1,7 +1,7 @@
 //! That a session sees what others did: the entries up to a number, or what another session has seen.
 ghost use Rattle.std.specs.Prelude.{◌≡◌, ◌≢◌, Some};
 ghost use Rattle.mls_c.specs.Seen.{LookStatus, SeeStatus, Reaches, AreOfOneOffice, MeetsIn, meet_status};
-ghost use Rattle.mls_c.specs.Seen.{CountsIn, changes_status};
+ghost use Rattle.mls_c.specs.Seen.{CountsIn, changes_status, Done, ForgetsIn};
 ghost use Rattle.mls_c.specs.declared.status.TheConstants.{OK};
 
 use crate::place::Place;
@@ -31,6 +31,31 @@ pub extern "C" fn mls_session_see(s: &mut MlsSession, n: u64) -> i32
         return ECLOSED;
     }
     see_place(s.place.lend(), n)
+}
+
+/// Has the entries with numbers below a number forgotten.
+fn forget_through(place: &mut Place, n: u64) -> i32
+    ensures status { LookStatus (Some place.old) Done (Some place.new) result }
+    ensures forgets { result ≡ OK → ForgetsIn n (Some place.old) (Some place.new) }
+{
+    match place.forget(n) {
+        Ok(()) => OK,
+        Err(_) => EBUSY,
+    }
+}
+
+/// Forgets the entries with numbers below `n`, as far as they are there: no session can read them any more. All else
+/// stays: the state, and the numbers of entries that come. It tries the lock once, adds no entry, and can't fail for
+/// want of memory.
+#[unsafe(no_mangle)]
+pub extern "C" fn mls_session_forget(s: &mut MlsSession, n: u64) -> i32
+    ensures status { LookStatus s.old.place.value Done s.new.place.value result }
+    ensures forgets { result ≡ OK → ForgetsIn n s.old.place.value s.new.place.value }
+{
+    if s.held == 0 {
+        return ECLOSED;
+    }
+    forget_through(s.place.lend(), n)
 }
 
 /// Sees the present journal, and tells how many changes it has since the office was opened: granted requests that took

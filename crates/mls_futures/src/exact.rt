@@ -12,7 +12,7 @@ ghost use Rattle.mls_futures.specs.Closure.{CouldGet};
 ghost use Rattle.mls_futures.specs.Futures.{HasLabelsWithin, CouldCome};
 ghost use Rattle.mls_futures.specs.Scripts.{BringsAbout};
 
-/// The labels of each start's objects are within the bounds, and no journal brings one past them.
+/// The security labels of each start's objects are within the bounds, and no journal brings one past them.
 pub fn labels_stay_within_the_bounds()
     ensures opening { (rows : Rows) → start_fault rows ≡ None → HasLabelsWithin (opening rows) }
     ensures journals { (v : State) (entries : List Entry) → HasLabelsWithin v → HasLabelsWithin (fold v entries) }

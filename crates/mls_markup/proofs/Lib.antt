@@ -1,3 +1,5 @@
+pub mod Drafts
 pub mod Joined
-pub mod Wholes
+pub mod Laws
 pub mod Parts
+pub mod Wholes

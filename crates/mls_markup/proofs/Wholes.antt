@@ -7,7 +7,7 @@ use Rattle.std.proofs.lemmas.List.Folds.{list_all-append}
 use Rattle.mls_markup.specs.Reading.{Place, Text, Tag, Value, after, after_all}
 use Rattle.mls_markup.specs.Escaping.{written, escaped, is_delimiter}
 use Rattle.mls_markup.specs.Words.{tag_word, attribute_word}
-use Rattle.mls_markup.specs.Trees.{Forest, End, Words, Line, Element, Named, attribute_text, begun, ended, written_of}
+use Rattle.mls_markup.specs.Trees.{Forest, End, Words, Line, Element, Both, Named, attribute_text, begun, ended, written_of}
 use Rattle.mls_markup.specs.declared.tag.Tag.{Tag as Kind}
 use Rattle.mls_markup.specs.declared.tag.Tag.TheVariants as tag
 use Rattle.mls_markup.specs.declared.attribute.Attribute.{Attribute}
@@ -136,14 +136,8 @@ ended_in_text t = rw (after_both Text (60 ∷ 47 ∷ tag_word t) (62 ∷ []), wo
 -- and so behind all that is written of a tree
 pub written_whole : (f : Forest) → after_all Text (written_of f) ≡ Text
 written_whole End = refl
-written_whole (Words text rest) = rw (after_both Text (escaped text) (written_of rest), escaped_in_text text) (written_whole rest)
-written_whole (Line rest) = written_whole rest
-written_whole (Element t xs inner rest) =
-    rw (
-      after_both Text (begun t xs ++ written_of inner ++ ended t) (written_of rest),
-      after_both Text (begun t xs ++ written_of inner) (ended t),
-      after_both Text (begun t xs) (written_of inner),
-      begun_in_text t xs,
-      written_whole inner,
-      ended_in_text t,
-    ) (written_whole rest)
+written_whole (Words text) = escaped_in_text text
+written_whole Line = refl
+written_whole (Element t xs inner) =
+    rw (after_both Text (begun t xs ++ written_of inner) (ended t), after_both Text (begun t xs) (written_of inner), begun_in_text t xs, written_whole inner) (ended_in_text t)
+written_whole (Both first second) = rw (after_both Text (written_of first) (written_of second), written_whole first) (written_whole second)

@@ -1,4 +1,5 @@
 pub mod Documents
+pub mod Drafts
 pub mod Escaping
 pub mod Pages
 pub mod Reading

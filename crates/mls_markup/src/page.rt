@@ -1,10 +1,10 @@
 //! A page that is written.
 ghost use Rattle.std.specs.Prelude.{◌≡◌, ◌++◌, ◌∷◌, [], map, OnOk, IfOk};
 ghost use Rattle.std.specs.Fmt.{decimal};
-ghost use Rattle.mls_markup.specs.Escaping.{escaped};
 ghost use Rattle.mls_markup.specs.Documents.{bottom_text, top_text};
-ghost use Rattle.mls_markup.specs.Pages.{Ends, IsPage};
-ghost use Rattle.mls_markup.specs.Trees.{begun, named};
+ghost use Rattle.mls_markup.specs.Drafts.{added, blank, closed, lined, opened, told};
+ghost use Rattle.mls_markup.specs.Pages.{Adds, IsPage};
+ghost use Rattle.mls_markup.specs.Trees.{Words, classed, named, plain};
 ghost use Rattle.mls_markup.specs.declared.attribute.Attribute.TheVariants.{Class};
 
 use crate::attribute::Attribute;
@@ -24,17 +24,20 @@ pub struct Page {
     tags: Vec<Tag>,
     /// Whether a call failed, which may have left a front of what it appends.
     is_torn: bool,
+    /// Whether it is a page with its top, and not a sheet.
+    is_whole: bool,
 }
 
 impl Model for Page {
-    ghost use Rattle.std.specs.Prelude.{◌≡◌, List, ℕ, false};
+    ghost use Rattle.std.specs.Prelude.{◌≡◌, false, reverse};
+    ghost use Rattle.mls_markup.specs.Drafts.{Draft};
     ghost use Rattle.mls_markup.specs.Pages.{IsPart};
 
-    ghost Value = { List ℕ };
+    ghost Value = { Draft };
 
-    ghost view = { λ p. p.html.items };
+    ghost view = { λ p. record { bytes = p.html.items; tags = reverse p.tags.items } };
 
-    ghost invariant = { λ p. p.is_torn ≡ false → IsPart p.html.items p.tags.items };
+    ghost invariant = { λ p. p.is_torn ≡ false → IsPart p.is_whole p.html.items (reverse p.tags.items) };
 }
 
 /// The top of a page of this title.
@@ -54,32 +57,45 @@ impl Page {
     /// # Errors
     /// `AllocError` where an allocation failed.
     pub fn new(alloc: Global, title: &str) -> Result<Page, AllocError>
-        ensures { IfOk result (λ page. page ≡ top_text title.now) }
+        ensures { IfOk result (λ page. page ≡ blank title.now) }
     {
         let html = top_of(alloc, title)?;
         Ok(Page {
             html,
             tags: Vec::new(alloc),
             is_torn: false,
+            is_whole: true,
         })
+    }
+
+    /// A sheet of its own, without anything: what is drawn on it can be added to a page.
+    #[tactic(auto, using(crate::proofs::Parts::sheet_first))]
+    pub fn sheet(alloc: Global) -> Page {
+        Page {
+            html: Vec::new(alloc),
+            tags: Vec::new(alloc),
+            is_torn: false,
+            is_whole: false,
+        }
     }
 
     /// The page's bytes, with its end: what is written of a tree.
     ///
     /// # Errors
-    /// `AllocError` where an allocation failed, a call that appends failed, or an element isn't ended.
+    /// `AllocError` where an allocation failed, a call that appends failed, an element isn't ended, or it is a sheet.
     pub fn into_html(self) -> Result<Vec<u8>, AllocError>
-        ensures bytes { IfOk result (λ html. html.items ≡ self ++ bottom_text) }
+        ensures bytes { IfOk result (λ html. html.items ≡ self.bytes ++ bottom_text) }
         ensures page { IfOk result (λ html. IsPage html.items) }
     {
         let Page {
             mut html,
             tags,
             is_torn,
+            is_whole,
         } = self;
         let count = tags.len();
         drop(tags);
-        if is_torn || count > 0 {
+        if is_torn || !is_whole || count > 0 {
             drop(html);
             return Err(AllocError);
         }
@@ -96,9 +112,9 @@ impl Page {
     ///
     /// # Errors
     /// `AllocError` where an allocation failed. The page may then have a part of it. So in what follows.
-    #[tactic(auto, using(crate::proofs::Parts::part_begun))]
+    #[tactic(auto, using(crate::proofs::Parts::part_begun, crate::proofs::Parts::draft_begun))]
     pub fn open_all(&mut self, tag: Tag, attributes: &[(Attribute, &str)]) -> Result<(), AllocError>
-        ensures { OnOk result (self.new ≡ self.old ++ begun tag (map named attributes.now)) }
+        ensures { OnOk result (self.new ≡ opened self.old tag (map named attributes.now)) }
     {
         let torn = self.is_torn;
         self.is_torn = true;
@@ -110,7 +126,7 @@ impl Page {
 
     /// Begins an element without attributes.
     pub fn open(&mut self, tag: Tag) -> Result<(), AllocError>
-        ensures { OnOk result (self.new ≡ self.old ++ begun tag []) }
+        ensures { OnOk result (self.new ≡ opened self.old tag []) }
     {
         self.open_all(tag, &[])
     }
@@ -122,14 +138,14 @@ impl Page {
         attribute: Attribute,
         value: &str,
     ) -> Result<(), AllocError>
-        ensures { OnOk result (self.new ≡ self.old ++ begun tag ((attribute, value.now) ∷ [])) }
+        ensures { OnOk result (self.new ≡ opened self.old tag ((attribute, value.now) ∷ [])) }
     {
         self.open_all(tag, &[(attribute, value)])
     }
 
     /// Begins an element of a class.
     pub fn open_as(&mut self, tag: Tag, class: &str) -> Result<(), AllocError>
-        ensures { OnOk result (self.new ≡ self.old ++ begun tag ((Class, class.now) ∷ [])) }
+        ensures { OnOk result (self.new ≡ opened self.old tag ((Class, class.now) ∷ [])) }
     {
         self.open_with(tag, Attribute::Class, class)
     }
@@ -138,9 +154,9 @@ impl Page {
     ///
     /// # Errors
     /// Also where none is begun.
-    #[tactic(auto, using(crate::proofs::Parts::part_ended, crate::proofs::Parts::ends_with))]
+    #[tactic(auto, using(crate::proofs::Parts::part_ended, crate::proofs::Parts::draft_ended))]
     pub fn close(&mut self) -> Result<(), AllocError>
-        ensures { OnOk result (Ends self.old self.new) }
+        ensures { OnOk result (self.new ≡ closed self.old) }
     {
         let torn = self.is_torn;
         self.is_torn = true;
@@ -153,9 +169,9 @@ impl Page {
     }
 
     /// Appends a text.
-    #[tactic(auto, using(crate::proofs::Parts::part_text))]
+    #[tactic(auto, using(crate::proofs::Parts::part_text, crate::proofs::Parts::draft_told))]
     pub fn text(&mut self, text: &str) -> Result<(), AllocError>
-        ensures { OnOk result (self.new ≡ self.old ++ escaped text.now) }
+        ensures { OnOk result (self.new ≡ told self.old text.now) }
     {
         let torn = self.is_torn;
         self.is_torn = true;
@@ -164,10 +180,38 @@ impl Page {
         Ok(())
     }
 
+    /// Appends what is on a sheet: some tree.
+    ///
+    /// # Errors
+    /// Also where a call on the sheet failed, an element of it isn't ended, or it is a page.
+    pub fn add_sheet(&mut self, sheet: Page) -> Result<(), AllocError>
+        ensures { OnOk result (Adds self.old self.new) }
+    {
+        let Page {
+            html,
+            tags,
+            is_torn,
+            is_whole,
+        } = sheet;
+        let count = tags.len();
+        drop(tags);
+        if is_torn || is_whole || count > 0 {
+            drop(html);
+            return Err(AllocError);
+        }
+        let torn = self.is_torn;
+        self.is_torn = true;
+        let done = self.html.extend_from_slice(&html);
+        drop(html);
+        done?;
+        self.is_torn = torn;
+        Ok(())
+    }
+
     /// Appends a new line.
-    #[tactic(auto, using(crate::proofs::Parts::part_line))]
+    #[tactic(auto, using(crate::proofs::Parts::part_line, crate::proofs::Parts::draft_lined))]
     pub fn line(&mut self) -> Result<(), AllocError>
-        ensures { OnOk result (self.new ≡ self.old ++ 10 ∷ []) }
+        ensures { OnOk result (self.new ≡ lined self.old) }
     {
         let torn = self.is_torn;
         self.is_torn = true;
@@ -178,21 +222,25 @@ impl Page {
 
     /// Appends a number.
     pub fn number(&mut self, number: u64) -> Result<(), AllocError>
-        ensures { OnOk result (self.new ≡ self.old ++ escaped (decimal number)) }
+        ensures { OnOk result (self.new ≡ told self.old (decimal number)) }
     {
         let mut buffer = Buffer::new();
         self.text(buffer.format(number))
     }
 
     /// Appends an element with a text.
-    pub fn leaf(&mut self, tag: Tag, text: &str) -> Result<(), AllocError> {
+    pub fn leaf(&mut self, tag: Tag, text: &str) -> Result<(), AllocError>
+        ensures { OnOk result (self.new ≡ added self.old (plain tag (Words text.now))) }
+    {
         self.open(tag)?;
         self.text(text)?;
         self.close()
     }
 
     /// Appends an element of a class with a text.
-    pub fn leaf_as(&mut self, tag: Tag, class: &str, text: &str) -> Result<(), AllocError> {
+    pub fn leaf_as(&mut self, tag: Tag, class: &str, text: &str) -> Result<(), AllocError>
+        ensures { OnOk result (self.new ≡ added self.old (classed tag class.now (Words text.now))) }
+    {
         self.open_as(tag, class)?;
         self.text(text)?;
         self.close()

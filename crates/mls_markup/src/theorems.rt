@@ -2,7 +2,8 @@
 ghost use Rattle.std.specs.Prelude.{◌≡◌, ℕ, List, not, IsTrue};
 ghost use Rattle.std.specs.List.{list_all};
 ghost use Rattle.mls_markup.specs.Escaping.{escaped, is_delimiter};
-ghost use Rattle.std.specs.Prelude.{◌++◌};
+ghost use Rattle.std.specs.Prelude.{◌++◌, ◌∷◌};
+ghost use Rattle.mls_markup.specs.Drafts.{Draft, added};
 ghost use Rattle.mls_markup.specs.Reading.{Text, Value, after_all};
 ghost use Rattle.mls_markup.specs.Trees.{Forest, joined, written_of};
 
@@ -24,5 +25,13 @@ pub fn what_is_written_is_whole()
 /// Trees that stand one after the other are written so.
 #[tactic(auto, using(crate::proofs::Joined::written_joined))]
 pub fn trees_are_written_in_turn()
-    ensures { (f g : Forest) → written_of (joined f g) ≡ written_of f ++ written_of g }
+    ensures { (f : Forest) (rest : List Forest)
+        → written_of (joined (f ∷ rest)) ≡ written_of f ++ written_of (joined rest) }
+{}
+
+/// What is appended of a tree is what is written of it, and as many elements as before are begun and not ended.
+#[tactic(auto, using(crate::proofs::Drafts::added_bytes, crate::proofs::Drafts::added_tags))]
+pub fn what_is_appended_of_a_tree_is_what_is_written_of_it()
+    ensures bytes { (d : Draft) (f : Forest) → (added d f).bytes ≡ d.bytes ++ written_of f }
+    ensures tags { (d : Draft) (f : Forest) → (added d f).tags ≡ d.tags }
 {}

@@ -1,1 +1,10 @@
+pub mod Bars
 pub mod ByTrust
+pub mod Heads
+pub mod Reports
+pub mod Sections
+pub mod Short
+pub mod Tables
+pub mod Terms
+pub mod Trusted
+pub mod Verified

@@ -1,4 +1,11 @@
 //! Bars, as inline SVG. What a colour tells stands beside the bar as text.
+ghost use Rattle.std.specs.Prelude.{◌≡◌, ◌∷◌, [], string_bytes, OnOk};
+ghost use Rattle.mls_markup.specs.Drafts.{added, opened};
+ghost use Rattle.mls_markup.specs.Trees.{Element, End};
+ghost use Rattle.mls_markup.specs.declared.tag.Tag.TheVariants as tag;
+ghost use Rattle.mls_markup.specs.declared.attribute.Attribute.TheVariants as attribute;
+ghost use Rattle.mls_page.specs.Bars.{bar_of, class_of, drawn_as, stretch};
+
 use mls_markup::{Attribute, Page, Tag};
 use std::alloc::AllocError;
 
@@ -22,7 +29,9 @@ pub(crate) struct Bar {
 
 impl Colour {
     /// The class of a bar of this colour.
-    fn class(self) -> &'static str {
+    fn class(self) -> &'static str
+        ensures { result.now ≡ class_of self }
+    {
         match self {
             Colour::Granted => "bar granted",
             Colour::Denied => "bar denied",
@@ -33,7 +42,9 @@ impl Colour {
 }
 
 /// Begins a drawing of bars over so many units.
-pub(crate) fn begin_bars(page: &mut Page, colour: Colour, units: u64) -> Result<(), AllocError> {
+pub(crate) fn begin_bars(page: &mut Page, colour: Colour, units: u64) -> Result<(), AllocError>
+    ensures { OnOk result (page.new ≡ opened page.old tag.Svg (drawn_as (class_of colour) units)) }
+{
     let alloc = page.alloc();
     let extent = format!(in alloc; "0 0 {units} 1")?;
     let attributes = [
@@ -48,7 +59,10 @@ pub(crate) fn begin_bars(page: &mut Page, colour: Colour, units: u64) -> Result<
 }
 
 /// Appends a path of a shape.
-pub(crate) fn path(page: &mut Page, shape: String) -> Result<(), AllocError> {
+pub(crate) fn path(page: &mut Page, shape: String) -> Result<(), AllocError>
+    ensures { OnOk result (page.new ≡ added page.old
+        (Element tag.Path ((attribute.Drawn, string_bytes shape) ∷ []) End)) }
+{
     let done = page.open_with(Tag::Path, Attribute::Drawn, &shape);
     drop(shape);
     done?;
@@ -56,7 +70,9 @@ pub(crate) fn path(page: &mut Page, shape: String) -> Result<(), AllocError> {
 }
 
 /// Appends one stretch of a bar, where it has a length.
-pub(crate) fn stretch(page: &mut Page, from: u64, length: u64) -> Result<(), AllocError> {
+pub(crate) fn stretch(page: &mut Page, from: u64, length: u64) -> Result<(), AllocError>
+    ensures { OnOk result (page.new ≡ added page.old (stretch from length)) }
+{
     if length == 0 {
         return Ok(());
     }
@@ -66,7 +82,11 @@ pub(crate) fn stretch(page: &mut Page, from: u64, length: u64) -> Result<(), All
 }
 
 /// Appends a bar.
-pub(crate) fn add_bar(page: &mut Page, bar: &Bar) -> Result<(), AllocError> {
+#[tactic(auto, unfolding(crate::specs::Bars::bar_of))]
+pub(crate) fn add_bar(page: &mut Page, bar: &Bar) -> Result<(), AllocError>
+    ensures { OnOk result (page.new
+        ≡ added page.old (bar_of (class_of bar.now.colour) bar.now.units bar.now.from bar.now.length)) }
+{
     begin_bars(page, bar.colour, bar.units)?;
     stretch(page, bar.from, bar.length)?;
     page.close()

@@ -1,15 +1,18 @@
 //! How many entries there are: granted and denied, by reason and by subject.
+ghost use Rattle.std.specs.Prelude.{codes, OnOk};
+ghost use Rattle.mls_page.specs.Sections.{Lists};
+
 use crate::bar::Colour;
-use crate::named::add_subject;
+use crate::named::subject_cell;
 use crate::section::{
-    COUNTS, begin_appendix, begin_section, end_appendix, end_section, heaviest, lighter,
+    COUNTS, add_listed, begin_appendix, end_appendix, heaviest, lighter, rest_of,
 };
 use crate::share::{Share, Sums, greatest_of, shares_of, sums_of};
 use crate::table::{begin_row, begin_table, end_row, end_table, heading_cell, share_cell};
 use mls_groups::by_weight;
 use mls_lines::Names;
 use mls_listings::{ReasonCount, Summary};
-use mls_markup::{Attribute, Page, Tag};
+use mls_markup::Page;
 use std::alloc::{AllocError, Global};
 
 /// The row of a reason.
@@ -61,9 +64,7 @@ fn subject_row(
     units: u64,
 ) -> Result<(), AllocError> {
     begin_row(page)?;
-    page.open_with(Tag::TableHeading, Attribute::Scope, "row")?;
-    add_subject(page, names, share.subject)?;
-    page.close()?;
+    subject_cell(page, names, share.subject)?;
     cell_where(page, sums.granted, Colour::Granted, units, share.granted)?;
     cell_where(page, sums.denied, Colour::Denied, units, share.denied)?;
     cell_where(
@@ -109,7 +110,9 @@ fn subject_tables(
         return Ok(());
     }
     subject_table(page, names, shares, heaviest(places))?;
-    if begin_appendix(page, &COUNTS, places.len())? {
+    let rest = rest_of(places.len());
+    if rest > 0 {
+        begin_appendix(page, &COUNTS, rest)?;
         subject_table(page, names, shares, lighter(places))?;
         end_appendix(page)?;
     }
@@ -135,16 +138,29 @@ fn by_subject(page: &mut Page, names: &Names, shares: &[Share]) -> Result<(), Al
     done
 }
 
+/// A sheet with how many entries there are, and which.
+fn counts_sheet(alloc: Global, names: &Names, summary: &Summary) -> Result<Page, AllocError> {
+    let mut sheet = Page::sheet(alloc);
+    reason_table(&mut sheet, &summary.reasons)?;
+    let shares = shares_of(alloc, &summary.replies)?;
+    let done = by_subject(&mut sheet, names, &shares);
+    drop(shares);
+    done?;
+    Ok(sheet)
+}
+
 /// Appends how many entries there are, and which.
 ///
 /// # Errors
 /// `AllocError` where an allocation failed.
-pub fn add_counts(page: &mut Page, names: &Names, summary: &Summary) -> Result<(), AllocError> {
-    begin_section(page, &COUNTS)?;
-    reason_table(page, &summary.reasons)?;
-    let shares = shares_of(page.alloc(), &summary.replies)?;
-    let done = by_subject(page, names, &shares);
-    drop(shares);
-    done?;
-    end_section(page)
+pub(crate) fn add_counts(
+    page: &mut Page,
+    names: &Names,
+    summary: &Summary,
+) -> Result<(), AllocError>
+    ensures { OnOk result (Lists (codes "counts") (codes "Entries")
+        (codes "mls journal --summary START J") page.old page.new) }
+{
+    let sheet = counts_sheet(page.alloc(), names, summary)?;
+    add_listed(page, &COUNTS, sheet)
 }

@@ -1,9 +1,12 @@
 //! The entries that were denied, by subject, object and reason, and why the last of each was.
+ghost use Rattle.std.specs.Prelude.{codes, OnOk};
+ghost use Rattle.mls_page.specs.Sections.{Lists};
+
 use crate::bar::Colour;
 use crate::moment::moment_cell;
-use crate::named::{add_object, add_subject};
+use crate::named::{add_object, subject_cell};
 use crate::section::{
-    DENIALS, begin_appendix, begin_section, end_appendix, end_section, heaviest, lighter,
+    DENIALS, add_listed, add_paragraph, begin_appendix, end_appendix, heaviest, lighter, rest_of,
 };
 use crate::table::{begin_row, begin_table, end_row, end_table, share_cell, text_cell};
 use crate::walked::Walked;
@@ -13,7 +16,7 @@ use mls_marks::Marks;
 use mls_markup::{Attribute, Page, Tag};
 use mls_overview::{Denial, object_about};
 use mls_requests::{Entry, Reply};
-use std::alloc::AllocError;
+use std::alloc::{AllocError, Global};
 
 const TITLES: [&str; 5] = ["Subject", "Object", "Reason", "Denied", "Last entry"];
 
@@ -35,9 +38,7 @@ fn denial_cells(
     count: u64,
     units: u64,
 ) -> Result<(), AllocError> {
-    page.open_with(Tag::TableHeading, Attribute::Scope, "row")?;
-    add_subject(page, names, entry.request.subject)?;
-    page.close()?;
+    subject_cell(page, names, entry.request.subject)?;
     page.open(Tag::TableCell)?;
     match object_about(&entry.request.action) {
         Some(o) => add_object(page, names, o)?,
@@ -166,12 +167,8 @@ fn second_table(
     end_table(page)
 }
 
-/// Appends those of a start's entries that were denied, by subject, object and reason, in this order; where there are
-/// marks, with the days of the last.
-///
-/// # Errors
-/// `AllocError` where an allocation failed.
-pub fn add_denials(
+/// The tables of denied entries; without one, that there is none.
+fn denial_tables(
     page: &mut Page,
     names: &Names,
     entries: &[Entry],
@@ -180,16 +177,52 @@ pub fn add_denials(
     denials: &[Denial],
     places: &[usize],
 ) -> Result<(), AllocError> {
-    begin_section(page, &DENIALS)?;
     if places.is_empty() {
-        page.leaf(Tag::Paragraph, "No entry was denied.")?;
-        page.line()?;
-        return end_section(page);
+        return add_paragraph(page, "No entry was denied.");
     }
     first_table(page, names, entries, marks, walked, denials, places)?;
-    if begin_appendix(page, &DENIALS, places.len())? {
+    let rest = rest_of(places.len());
+    if rest > 0 {
+        begin_appendix(page, &DENIALS, rest)?;
         second_table(page, names, entries, marks, denials, places)?;
         end_appendix(page)?;
     }
-    end_section(page)
+    Ok(())
+}
+
+/// A sheet with the tables of denied entries.
+fn denials_sheet(
+    alloc: Global,
+    names: &Names,
+    entries: &[Entry],
+    marks: Option<&Marks>,
+    walked: &Walked,
+    denials: &[Denial],
+    places: &[usize],
+) -> Result<Page, AllocError> {
+    let mut sheet = Page::sheet(alloc);
+    denial_tables(&mut sheet, names, entries, marks, walked, denials, places)?;
+    Ok(sheet)
+}
+
+/// Appends those of a start's entries that were denied, by subject, object and reason, in this order; where there are
+/// marks, with the days of the last.
+///
+/// # Errors
+/// `AllocError` where an allocation failed.
+pub(crate) fn add_denials(
+    page: &mut Page,
+    names: &Names,
+    entries: &[Entry],
+    marks: Option<&Marks>,
+    walked: &Walked,
+    denials: &[Denial],
+    places: &[usize],
+) -> Result<(), AllocError>
+    ensures { OnOk result (Lists (codes "denials") (codes "Denied entries")
+        (codes "mls journal --explain --reply no START J") page.old page.new) }
+{
+    let alloc = page.alloc();
+    let sheet = denials_sheet(alloc, names, entries, marks, walked, denials, places)?;
+    add_listed(page, &DENIALS, sheet)
 }

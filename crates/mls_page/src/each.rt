@@ -2,7 +2,7 @@
 use crate::gets::{Gets, get_cells, titled};
 use crate::moment::last_cell;
 use crate::named::add_access;
-use crate::section::{LISTED, end_appendix};
+use crate::section::{LISTED, begin_folded, end_appendix};
 use crate::table::{begin_row, begin_table, end_row, end_table};
 use mls_lines::Names;
 use mls_marks::Marks;
@@ -85,12 +85,11 @@ pub(crate) fn add_each(
     all: &Gets,
     usages: &[Usage],
 ) -> Result<(), AllocError> {
-    page.open_as(Tag::Details, "appendix")?;
-    page.open(Tag::Summary)?;
-    page.text("Permissions, the first ")?;
-    page.number(usages.len().min(LISTED) as u64)?;
-    page.close()?;
-    page.line()?;
+    begin_folded(
+        page,
+        "Permissions, the first ",
+        usages.len().min(LISTED) as u64,
+    )?;
     permission_table(page, names, marks, all, usages)?;
     end_appendix(page)
 }

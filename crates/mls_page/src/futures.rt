@@ -1,12 +1,15 @@
 //! What could come about.
+ghost use Rattle.std.specs.Prelude.{codes, OnOk};
+ghost use Rattle.mls_page.specs.Sections.{Shows};
+
 use crate::grid::{add_grid, add_sign};
 use crate::hands::add_hands;
-use crate::section::{FUTURES, begin_section, end_section};
+use crate::section::{FUTURES, add_shown};
 use mls_grid::{Grid, Prospect};
 use mls_lines::Names;
 use mls_markup::{Page, Tag};
 use mls_state::State;
-use std::alloc::AllocError;
+use std::alloc::{AllocError, Global};
 
 const COMMAND: &str = "mls who --could --journal J START OBJECT";
 
@@ -96,26 +99,39 @@ fn drawn(page: &mut Page, names: &Names, state: &State, grid: &Grid) -> Result<(
     add_hands(page, names, state, grid)
 }
 
-/// Appends what could come about: a grid of objects and subjects of a state, the heaviest first, and a drawing of flows.
-///
-/// # Errors
-/// `AllocError` where an allocation failed.
-pub fn add_futures(
-    page: &mut Page,
+/// A sheet with what could come about.
+fn futures_sheet(
+    alloc: Global,
     names: &Names,
     state: &State,
     grid: &Grid,
-) -> Result<(), AllocError> {
-    begin_section(page, &FUTURES)?;
-    source(page)?;
-    legend(page)?;
+) -> Result<Page, AllocError> {
+    let mut sheet = Page::sheet(alloc);
+    source(&mut sheet)?;
+    legend(&mut sheet)?;
     add_grid(
-        page,
+        &mut sheet,
         names,
         "Objects by subjects, those with most + first",
         grid,
     )?;
-    more(page, grid)?;
-    drawn(page, names, state, grid)?;
-    end_section(page)
+    more(&mut sheet, grid)?;
+    drawn(&mut sheet, names, state, grid)?;
+    Ok(sheet)
+}
+
+/// Appends what could come about: a grid of objects and subjects of a state, the heaviest first, and a drawing of flows.
+///
+/// # Errors
+/// `AllocError` where an allocation failed.
+pub(crate) fn add_futures(
+    page: &mut Page,
+    names: &Names,
+    state: &State,
+    grid: &Grid,
+) -> Result<(), AllocError>
+    ensures { OnOk result (Shows (codes "futures") (codes "What could come about") page.old page.new) }
+{
+    let sheet = futures_sheet(page.alloc(), names, state, grid)?;
+    add_shown(page, &FUTURES, sheet)
 }

@@ -1,9 +1,12 @@
 //! The labels of a start, drawn and listed.
+ghost use Rattle.std.specs.Prelude.{codes, OnOk};
+ghost use Rattle.mls_page.specs.Sections.{Lists};
+
 use crate::boxes::draw;
 use crate::drawing::Drawing;
 use crate::lattice::{Lattice, Node};
 use crate::section::{
-    LATTICE, begin_appendix, begin_section, end_appendix, end_section, heaviest, lighter,
+    LATTICE, add_listed, begin_appendix, end_appendix, heaviest, lighter, rest_of,
 };
 use crate::table::{begin_row, begin_table, end_row, end_table};
 use mls_groups::by_weight;
@@ -145,7 +148,9 @@ fn label_tables(
 ) -> Result<(), AllocError> {
     drawing(page, names, lattice)?;
     label_table(page, names, lattice, heaviest(places))?;
-    if begin_appendix(page, &LATTICE, places.len())? {
+    let rest = rest_of(places.len());
+    if rest > 0 {
+        begin_appendix(page, &LATTICE, rest)?;
         label_table(page, names, lattice, lighter(places))?;
         end_appendix(page)?;
     }
@@ -171,15 +176,24 @@ fn add_labels(page: &mut Page, names: &Names, lattice: &Lattice) -> Result<(), A
     done
 }
 
+/// A sheet with the labels of a start.
+fn lattice_sheet(alloc: Global, names: &Names, start: &Start) -> Result<Page, AllocError> {
+    let mut sheet = Page::sheet(alloc);
+    let lattice = lattice_of(alloc, start)?;
+    let done = add_labels(&mut sheet, names, &lattice);
+    drop(lattice);
+    done?;
+    Ok(sheet)
+}
+
 /// Appends the labels of a start.
 ///
 /// # Errors
 /// `AllocError` where an allocation failed.
-pub fn add_lattice(page: &mut Page, names: &Names, start: &Start) -> Result<(), AllocError> {
-    begin_section(page, &LATTICE)?;
-    let lattice = lattice_of(page.alloc(), start)?;
-    let done = add_labels(page, names, &lattice);
-    drop(lattice);
-    done?;
-    end_section(page)
+pub(crate) fn add_lattice(page: &mut Page, names: &Names, start: &Start) -> Result<(), AllocError>
+    ensures { OnOk result (Lists (codes "lattice") (codes "Lattice")
+        (codes "mls lattice START") page.old page.new) }
+{
+    let sheet = lattice_sheet(page.alloc(), names, start)?;
+    add_listed(page, &LATTICE, sheet)
 }

@@ -1,15 +1,18 @@
 //! How permissions were used, by subject, and each of them.
+ghost use Rattle.std.specs.Prelude.{codes, OnOk};
+ghost use Rattle.mls_page.specs.Sections.{Lists};
+
 use crate::each::add_each;
 use crate::gets::{Gets, get_cells, gets_of, titled};
 use crate::moment::last_cell;
-use crate::named::add_subject;
-use crate::section::{USAGE, begin_section, end_section, heaviest};
+use crate::named::subject_cell;
+use crate::section::{USAGE, add_listed, heaviest};
 use crate::table::{begin_row, begin_table, end_row, end_table, number_cell};
 use crate::usage::{Total, totals};
 use mls_groups::by_weight;
 use mls_lines::Names;
 use mls_marks::Marks;
-use mls_markup::{Attribute, Page, Tag};
+use mls_markup::{Page, Tag};
 use mls_spans::{Usage, count_unused, push_ending};
 use std::alloc::{AllocError, Global};
 
@@ -22,9 +25,7 @@ fn total_row(
     total: &Total,
 ) -> Result<(), AllocError> {
     begin_row(page)?;
-    page.open_with(Tag::TableHeading, Attribute::Scope, "row")?;
-    add_subject(page, names, total.subject)?;
-    page.close()?;
+    subject_cell(page, names, total.subject)?;
     number_cell(page, total.permissions)?;
     number_cell(page, total.unused)?;
     get_cells(page, all, total.granted, total.denied)?;
@@ -94,26 +95,51 @@ fn permission_count(page: &mut Page, usages: &[Usage]) -> Result<(), AllocError>
     page.line()
 }
 
-/// Appends how permissions were used: by subject, the most never granted first, and in the appendix each of them; where
-/// there are marks, with the days of the last entries.
-///
-/// # Errors
-/// `AllocError` where an allocation failed.
-pub fn add_usage(
+/// The tables of permissions, where there are any.
+fn usage_tables(
     page: &mut Page,
     names: &Names,
     marks: Option<&Marks>,
     usages: &[Usage],
 ) -> Result<(), AllocError> {
-    begin_section(page, &USAGE)?;
-    permission_count(page, usages)?;
-    if !usages.is_empty() {
-        let all = gets_of(usages);
-        let totals = totals(page.alloc(), usages)?;
-        let done = add_totals(page, names, marks, &all, &totals);
-        drop(totals);
-        done?;
-        add_each(page, names, marks, &all, usages)?;
+    if usages.is_empty() {
+        return Ok(());
     }
-    end_section(page)
+    let all = gets_of(usages);
+    let totals = totals(page.alloc(), usages)?;
+    let done = add_totals(page, names, marks, &all, &totals);
+    drop(totals);
+    done?;
+    add_each(page, names, marks, &all, usages)
+}
+
+/// A sheet with how permissions were used.
+fn usage_sheet(
+    alloc: Global,
+    names: &Names,
+    marks: Option<&Marks>,
+    usages: &[Usage],
+) -> Result<Page, AllocError> {
+    let mut sheet = Page::sheet(alloc);
+    permission_count(&mut sheet, usages)?;
+    usage_tables(&mut sheet, names, marks, usages)?;
+    Ok(sheet)
+}
+
+/// Appends how permissions were used: by subject, the most never granted first, and in the appendix each of them; where
+/// there are marks, with the days of the last entries.
+///
+/// # Errors
+/// `AllocError` where an allocation failed.
+pub(crate) fn add_usage(
+    page: &mut Page,
+    names: &Names,
+    marks: Option<&Marks>,
+    usages: &[Usage],
+) -> Result<(), AllocError>
+    ensures { OnOk result (Lists (codes "usage") (codes "Use of permissions")
+        (codes "mls usage START J") page.old page.new) }
+{
+    let sheet = usage_sheet(page.alloc(), names, marks, usages)?;
+    add_listed(page, &USAGE, sheet)
 }

@@ -1,14 +1,17 @@
 //! What subjects may change.
-use crate::named::add_subject;
+ghost use Rattle.std.specs.Prelude.{codes, OnOk};
+ghost use Rattle.mls_page.specs.Sections.{Lists};
+
+use crate::named::subject_cell;
 use crate::runs::{Run, Whole, runs_of, wholes_of};
 use crate::section::{
-    POWERS, begin_appendix, begin_section, end_appendix, end_section, heaviest, lighter,
+    POWERS, add_listed, add_paragraph, begin_appendix, end_appendix, heaviest, lighter, rest_of,
 };
 use crate::table::{begin_row, begin_table, end_row, end_table};
 use mls_groups::by_weight;
 use mls_labels::SecLabel;
 use mls_lines::Names;
-use mls_markup::{Attribute, Page, Tag};
+use mls_markup::{Page, Tag};
 use mls_review::{Change, push_change};
 use std::alloc::{AllocError, Global};
 
@@ -100,9 +103,7 @@ fn power_row(
     whole: &Whole,
 ) -> Result<(), AllocError> {
     begin_row(page)?;
-    page.open_with(Tag::TableHeading, Attribute::Scope, "row")?;
-    add_subject(page, names, whole.subject)?;
-    page.close()?;
+    subject_cell(page, names, whole.subject)?;
     page.open(Tag::TableCell)?;
     page.open(Tag::Items)?;
     for run in runs {
@@ -143,7 +144,9 @@ fn power_tables(
     places: &[usize],
 ) -> Result<(), AllocError> {
     power_table(page, names, changes, runs, wholes, heaviest(places))?;
-    if begin_appendix(page, &POWERS, places.len())? {
+    let rest = rest_of(places.len());
+    if rest > 0 {
+        begin_appendix(page, &POWERS, rest)?;
         power_table(page, names, changes, runs, wholes, lighter(places))?;
         end_appendix(page)?;
     }
@@ -175,8 +178,11 @@ fn add_wholes(
     done
 }
 
-/// What subjects may change, where there is something.
+/// What subjects may change; where there is nothing, that there is none.
 fn add_changes(page: &mut Page, names: &Names, changes: &[Change]) -> Result<(), AllocError> {
+    if changes.is_empty() {
+        return add_paragraph(page, "No subject may change anything.");
+    }
     let runs = runs_of(page.alloc(), changes)?;
     let wholes = wholes_of(page.alloc(), &runs)?;
     let done = add_wholes(page, names, changes, &runs, &wholes);
@@ -185,17 +191,25 @@ fn add_changes(page: &mut Page, names: &Names, changes: &[Change]) -> Result<(),
     done
 }
 
+/// A sheet with what subjects may change.
+fn powers_sheet(alloc: Global, names: &Names, changes: &[Change]) -> Result<Page, AllocError> {
+    let mut sheet = Page::sheet(alloc);
+    add_changes(&mut sheet, names, changes)?;
+    Ok(sheet)
+}
+
 /// Appends what subjects may change, those that may change most first.
 ///
 /// # Errors
 /// `AllocError` where an allocation failed.
-pub fn add_powers(page: &mut Page, names: &Names, changes: &[Change]) -> Result<(), AllocError> {
-    begin_section(page, &POWERS)?;
-    if changes.is_empty() {
-        page.leaf(Tag::Paragraph, "No subject may change anything.")?;
-        page.line()?;
-        return end_section(page);
-    }
-    add_changes(page, names, changes)?;
-    end_section(page)
+pub(crate) fn add_powers(
+    page: &mut Page,
+    names: &Names,
+    changes: &[Change],
+) -> Result<(), AllocError>
+    ensures { OnOk result (Lists (codes "powers") (codes "Powers")
+        (codes "mls powers --journal J START") page.old page.new) }
+{
+    let sheet = powers_sheet(page.alloc(), names, changes)?;
+    add_listed(page, &POWERS, sheet)
 }

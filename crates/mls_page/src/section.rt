@@ -1,4 +1,10 @@
 //! The sections of the page.
+ghost use Rattle.std.specs.Prelude.{◌≡◌, OnOk};
+ghost use Rattle.mls_markup.specs.Drafts.{added, closed, lined, opened};
+ghost use Rattle.mls_markup.specs.Trees.{Both};
+ghost use Rattle.mls_markup.specs.declared.tag.Tag.TheVariants as tag;
+ghost use Rattle.mls_page.specs.Sections.{Lists, Shows, heading, labelled, paragraph, source};
+
 use mls_markup::{Attribute, Page, Tag};
 use std::alloc::AllocError;
 
@@ -6,7 +12,7 @@ use std::alloc::AllocError;
 pub const SHOWN: usize = 40;
 
 /// How many of the others are in the appendix, which isn't printed, at most.
-pub const LISTED: usize = 2_000;
+pub(crate) const LISTED: usize = 2_000;
 
 /// How many columns of subjects a grid has, at most: the heaviest.
 pub const ACROSS: usize = 20;
@@ -92,26 +98,54 @@ pub(crate) const SECTIONS: [Section; 10] = [
 ];
 
 /// Begins a section with its heading.
-pub(crate) fn begin_section(page: &mut Page, section: &Section) -> Result<(), AllocError> {
+#[tactic(auto, unfolding(crate::specs::Sections::heading))]
+pub(crate) fn begin_section(page: &mut Page, section: &Section) -> Result<(), AllocError>
+    ensures { OnOk result (page.new ≡ added (opened page.old tag.Section (labelled section.now.id.now))
+        (heading section.now.id.now section.now.title.now)) }
+{
     page.open_with(Tag::Section, Attribute::AriaLabelledBy, section.id)?;
     page.line()?;
     page.open_with(Tag::Heading, Attribute::Id, section.id)?;
     page.text(section.title)?;
     page.close()?;
-    page.line()?;
-    if section.command.is_empty() {
-        return Ok(());
-    }
+    page.line()
+}
+
+/// Appends which command lists it all.
+#[tactic(auto, unfolding(crate::specs::Sections::source))]
+fn add_source(page: &mut Page, command: &str) -> Result<(), AllocError>
+    ensures { OnOk result (page.new ≡ added page.old (source command.now)) }
+{
     page.open_as(Tag::Paragraph, "source")?;
-    page.leaf(Tag::Code, section.command)?;
+    page.leaf(Tag::Code, command)?;
     page.text(" lists it all.")?;
     page.close()?;
     page.line()
 }
 
+/// Begins a section with its heading, and the command that lists it all.
+pub(crate) fn begin_listed(page: &mut Page, section: &Section) -> Result<(), AllocError>
+    ensures { OnOk result (page.new ≡ added (opened page.old tag.Section (labelled section.now.id.now))
+        (Both (heading section.now.id.now section.now.title.now) (source section.now.command.now))) }
+{
+    begin_section(page, section)?;
+    add_source(page, section.command)
+}
+
 /// Ends a section.
-pub(crate) fn end_section(page: &mut Page) -> Result<(), AllocError> {
+pub(crate) fn end_section(page: &mut Page) -> Result<(), AllocError>
+    ensures { OnOk result (page.new ≡ lined (closed page.old)) }
+{
     page.close()?;
+    page.line()
+}
+
+/// Appends a paragraph.
+#[tactic(auto, unfolding(crate::specs::Sections::paragraph))]
+pub(crate) fn add_paragraph(page: &mut Page, text: &str) -> Result<(), AllocError>
+    ensures { OnOk result (page.new ≡ added page.old (paragraph text.now)) }
+{
+    page.leaf(Tag::Paragraph, text)?;
     page.line()
 }
 
@@ -120,31 +154,35 @@ pub(crate) fn rest_of(count: usize) -> usize {
     count.saturating_sub(SHOWN)
 }
 
-/// Tells how many more rows there are than the table that is printed has, and what lists them all, where there are
-/// more; begins the appendix, and answers whether there is one.
+/// Tells how many more rows there are than the table that is printed has, and what lists them all.
+fn add_more(page: &mut Page, command: &str, rest: u64) -> Result<(), AllocError> {
+    page.open_as(Tag::Paragraph, "more")?;
+    page.number(rest)?;
+    page.text(" more, each with less: ")?;
+    page.leaf(Tag::Code, command)?;
+    page.text(" lists all.")?;
+    page.close()?;
+    page.line()
+}
+
+/// Begins an appendix, which is called so.
+pub(crate) fn begin_folded(page: &mut Page, text: &str, count: u64) -> Result<(), AllocError> {
+    page.open_as(Tag::Details, "appendix")?;
+    page.open(Tag::Summary)?;
+    page.text(text)?;
+    page.number(count)?;
+    page.close()?;
+    page.line()
+}
+
+/// Begins the appendix of the rows that are more than the table has that is printed.
 pub(crate) fn begin_appendix(
     page: &mut Page,
     section: &Section,
-    count: usize,
-) -> Result<bool, AllocError> {
-    let rest = rest_of(count);
-    if rest == 0 {
-        return Ok(false);
-    }
-    page.open_as(Tag::Paragraph, "more")?;
-    page.number(rest as u64)?;
-    page.text(" more, each with less: ")?;
-    page.leaf(Tag::Code, section.command)?;
-    page.text(" lists all.")?;
-    page.close()?;
-    page.line()?;
-    page.open_as(Tag::Details, "appendix")?;
-    page.open(Tag::Summary)?;
-    page.text("The next ")?;
-    page.number(rest.min(LISTED) as u64)?;
-    page.close()?;
-    page.line()?;
-    Ok(true)
+    rest: usize,
+) -> Result<(), AllocError> {
+    add_more(page, section.command, rest as u64)?;
+    begin_folded(page, "The next ", rest.min(LISTED) as u64)
 }
 
 /// Ends an appendix.
@@ -162,4 +200,30 @@ pub(crate) fn heaviest(places: &[usize]) -> &[usize] {
 pub(crate) fn lighter(places: &[usize]) -> &[usize] {
     let rest = places.get(SHOWN..).unwrap_or(&[]);
     rest.get(..LISTED).unwrap_or(rest)
+}
+
+/// Appends a section, of which a sheet has what is under its heading.
+///
+/// # Errors
+/// `AllocError` where an allocation failed, or the sheet has an element that isn't ended.
+pub(crate) fn add_shown(page: &mut Page, section: &Section, sheet: Page) -> Result<(), AllocError>
+    ensures { OnOk result (Shows section.now.id.now section.now.title.now page.old page.new) }
+{
+    begin_section(page, section)?;
+    page.add_sheet(sheet)?;
+    end_section(page)?;
+    Ok(())
+}
+
+/// Appends a section whose command lists it all, of which a sheet has the rest.
+///
+/// # Errors
+/// `AllocError` where an allocation failed, or the sheet has an element that isn't ended.
+pub(crate) fn add_listed(page: &mut Page, section: &Section, sheet: Page) -> Result<(), AllocError>
+    ensures { OnOk result (Lists section.now.id.now section.now.title.now section.now.command.now page.old page.new) }
+{
+    begin_listed(page, section)?;
+    page.add_sheet(sheet)?;
+    end_section(page)?;
+    Ok(())
 }

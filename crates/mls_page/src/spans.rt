@@ -1,18 +1,21 @@
 //! Who held what, and from when to when.
+ghost use Rattle.std.specs.Prelude.{codes, OnOk};
+ghost use Rattle.mls_page.specs.Sections.{Lists};
+
 use crate::bar::{Colour, begin_bars, stretch};
 use crate::holding::{access_keys, ends_of, first_state, in_order, length_of, mode_of};
 use crate::moment::add_moment;
-use crate::named::{add_object, add_subject};
+use crate::named::{add_object, subject_cell};
 use crate::section::{
-    HELD, begin_appendix, begin_section, end_appendix, end_section, heaviest, lighter,
+    HELD, add_listed, add_paragraph, begin_appendix, end_appendix, heaviest, lighter, rest_of,
 };
 use crate::table::{begin_row, begin_table, end_row, end_table, number_cell, text_cell};
 use mls_groups::{Group, Grouping, grouped};
 use mls_lines::Names;
 use mls_marks::Marks;
-use mls_markup::{Attribute, Page, Tag};
+use mls_markup::{Page, Tag};
 use mls_spans::Span;
-use std::alloc::AllocError;
+use std::alloc::{AllocError, Global};
 
 const TITLES: [&str; 6] = [
     "Subject",
@@ -49,9 +52,7 @@ fn add_extent(
 /// The cells of who held what.
 fn access_cells(page: &mut Page, names: &Names, span: &Span) -> Result<(), AllocError> {
     let (s, o, _) = span.access;
-    page.open_with(Tag::TableHeading, Attribute::Scope, "row")?;
-    add_subject(page, names, s)?;
-    page.close()?;
+    subject_cell(page, names, s)?;
     text_cell(page, mode_of(span))?;
     page.open(Tag::TableCell)?;
     add_object(page, names, o)?;
@@ -137,7 +138,9 @@ fn access_tables(
         heaviest(places),
         entries,
     )?;
-    if begin_appendix(page, &HELD, places.len())? {
+    let rest = rest_of(places.len());
+    if rest > 0 {
+        begin_appendix(page, &HELD, rest)?;
         access_table(
             page,
             names,
@@ -167,7 +170,7 @@ fn add_groups(
     done
 }
 
-/// The accesses that spans are of, where there are any.
+/// The accesses that spans are of; without one, that there is none.
 fn add_accesses(
     page: &mut Page,
     names: &Names,
@@ -175,6 +178,9 @@ fn add_accesses(
     spans: &[Span],
     entries: u64,
 ) -> Result<(), AllocError> {
+    if spans.is_empty() {
+        return add_paragraph(page, "Nothing was held.");
+    }
     let keys = access_keys(page.alloc(), spans)?;
     let grouping = grouped(page.alloc(), &keys);
     drop(keys);
@@ -184,24 +190,34 @@ fn add_accesses(
     done
 }
 
+/// A sheet with who held what.
+fn spans_sheet(
+    alloc: Global,
+    names: &Names,
+    marks: Option<&Marks>,
+    spans: &[Span],
+    entries: u64,
+) -> Result<Page, AllocError> {
+    let mut sheet = Page::sheet(alloc);
+    add_accesses(&mut sheet, names, marks, spans, entries)?;
+    Ok(sheet)
+}
+
 /// Appends who held what over a journal of so many entries: each access, in how many spans, and when; where there are
 /// marks, with days.
 ///
 /// # Errors
 /// `AllocError` where an allocation failed.
-pub fn add_spans(
+pub(crate) fn add_spans(
     page: &mut Page,
     names: &Names,
     marks: Option<&Marks>,
     spans: &[Span],
     entries: u64,
-) -> Result<(), AllocError> {
-    begin_section(page, &HELD)?;
-    if spans.is_empty() {
-        page.leaf(Tag::Paragraph, "Nothing was held.")?;
-        page.line()?;
-        return end_section(page);
-    }
-    add_accesses(page, names, marks, spans, entries)?;
-    end_section(page)
+) -> Result<(), AllocError>
+    ensures { OnOk result (Lists (codes "held") (codes "Held")
+        (codes "mls held START J") page.old page.new) }
+{
+    let sheet = spans_sheet(page.alloc(), names, marks, spans, entries)?;
+    add_listed(page, &HELD, sheet)
 }

@@ -1,12 +1,17 @@
 //! The words of the page, each in a line.
+ghost use Rattle.std.specs.Prelude.{◌≡◌, OnOk};
+ghost use Rattle.mls_markup.specs.Drafts.{added};
+ghost use Rattle.mls_markup.specs.Trees.{all_of};
+ghost use Rattle.mls_page.specs.Terms.{term_lines, term_of, terms};
+
 use mls_markup::{Page, Tag};
 use std::alloc::AllocError;
 
 /// A word, and what it says.
 #[derive(Clone, Copy)]
-struct Term {
-    word: &'static str,
-    told: &'static str,
+pub(crate) struct Term {
+    pub word: &'static str,
+    pub told: &'static str,
 }
 
 const TERMS: [Term; 16] = [
@@ -77,7 +82,10 @@ const TERMS: [Term; 16] = [
 ];
 
 /// The line of a word.
-fn add_term(page: &mut Page, term: &Term) -> Result<(), AllocError> {
+#[tactic(auto, unfolding(crate::specs::Terms::term_line))]
+fn add_term(page: &mut Page, term: &Term) -> Result<(), AllocError>
+    ensures { OnOk result (page.new ≡ added page.old (term_of term.now)) }
+{
     page.open(Tag::Item)?;
     page.leaf(Tag::Bold, term.word)?;
     page.text(": ")?;
@@ -86,18 +94,37 @@ fn add_term(page: &mut Page, term: &Term) -> Result<(), AllocError> {
     page.line()
 }
 
+/// The lines of words.
+fn add_lines(page: &mut Page, rows: &[Term]) -> Result<(), AllocError>
+    ensures { OnOk result (page.new ≡ added page.old (all_of term_of rows.now)) }
+{
+    for term in rows {
+        add_term(page, term)?;
+    }
+    Ok(())
+}
+
+/// The lines of all words.
+fn add_all(page: &mut Page) -> Result<(), AllocError>
+    ensures { OnOk result (page.new ≡ added page.old term_lines) }
+{
+    add_lines(page, &TERMS)?;
+    Ok(())
+}
+
 /// Appends what the words of the page say.
 ///
 /// # Errors
 /// `AllocError` where an allocation failed.
-pub fn add_terms(page: &mut Page) -> Result<(), AllocError> {
+#[tactic(auto, unfolding(crate::specs::Terms::terms))]
+pub(crate) fn add_terms(page: &mut Page) -> Result<(), AllocError>
+    ensures { OnOk result (page.new ≡ added page.old terms) }
+{
     page.open_as(Tag::Details, "terms")?;
     page.leaf(Tag::Summary, "What the words mean")?;
     page.open(Tag::Items)?;
     page.line()?;
-    for term in &TERMS {
-        add_term(page, term)?;
-    }
+    add_all(page)?;
     page.close()?;
     page.close()?;
     page.line()

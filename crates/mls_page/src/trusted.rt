@@ -1,11 +1,16 @@
 //! What trust granted.
+ghost use Rattle.std.specs.Prelude.{◌≡◌, OnOk};
+ghost use Rattle.mls_markup.specs.Drafts.{added};
+ghost use Rattle.mls_markup.specs.Trees.{all_of};
+ghost use Rattle.mls_page.specs.Trusted.{most_of, trust, trust_filled, trust_row, trust_table};
+
 use crate::bar::Colour;
-use crate::named::add_subject;
-use crate::section::{TRUST, begin_section, end_section};
+use crate::named::subject_cell;
+use crate::section::{TRUST, add_paragraph, begin_listed, end_section};
 use crate::table::{begin_row, begin_table, end_row, end_table, share_cell};
 use mls_groups::{by_weight, grouped};
 use mls_lines::Names;
-use mls_markup::{Attribute, Page, Tag};
+use mls_markup::Page;
 use mls_tables::SubjectId;
 use std::alloc::{AllocError, Global};
 
@@ -70,33 +75,65 @@ pub fn trust_counts(alloc: Global, subjects: &[u64]) -> Result<Vec<Trusting>, Al
     found
 }
 
+/// The greatest count of some rows.
+fn most_of(rows: &[Trusting]) -> u64
+    ensures { result ≡ most_of rows.now }
+{
+    rows.iter().fold(0, |most, row| row.count.max(most))
+}
+
 /// The row of a subject.
-fn trust_row(page: &mut Page, names: &Names, row: &Trusting, units: u64) -> Result<(), AllocError> {
+#[tactic(auto, unfolding(crate::specs::Trusted::trust_row, crate::specs::Tables::row))]
+fn add_row(page: &mut Page, names: &Names, units: u64, row: &Trusting) -> Result<(), AllocError>
+    ensures { OnOk result (page.new ≡ added page.old (trust_row names.now units row.now)) }
+{
     begin_row(page)?;
-    page.open_with(Tag::TableHeading, Attribute::Scope, "row")?;
-    add_subject(page, names, row.subject)?;
-    page.close()?;
+    subject_cell(page, names, row.subject)?;
     share_cell(page, Colour::Granted, units, row.count)?;
     end_row(page)
+}
+
+/// The rows of subjects.
+fn add_rows(page: &mut Page, names: &Names, units: u64, rows: &[Trusting]) -> Result<(), AllocError>
+    ensures { OnOk result (page.new ≡ added page.old (all_of (trust_row names.now units) rows.now)) }
+{
+    for row in rows {
+        add_row(page, names, units, row)?;
+    }
+    Ok(())
+}
+
+/// The table of subjects.
+fn add_filled(page: &mut Page, names: &Names, rows: &[Trusting]) -> Result<(), AllocError>
+    ensures { OnOk result (page.new ≡ added page.old (trust_filled names.now rows.now)) }
+{
+    let titles = ["Subject", "Granted by trust alone"];
+    begin_table(page, "Denied, if the subject were not trusted", &titles)?;
+    let units = most_of(rows);
+    add_rows(page, names, units, rows)?;
+    end_table(page)?;
+    Ok(())
+}
+
+/// The table of subjects; without a row, that there is none.
+fn add_table(page: &mut Page, names: &Names, rows: &[Trusting]) -> Result<(), AllocError>
+    ensures { OnOk result (page.new ≡ added page.old (trust_table names.now rows.now)) }
+{
+    if rows.is_empty() {
+        return add_paragraph(page, "No entry was granted by trust alone.");
+    }
+    add_filled(page, names, rows)
 }
 
 /// Appends who used trust, and how often.
 ///
 /// # Errors
 /// `AllocError` where an allocation failed.
-pub fn add_trust(page: &mut Page, names: &Names, rows: &[Trusting]) -> Result<(), AllocError> {
-    begin_section(page, &TRUST)?;
-    if rows.is_empty() {
-        page.leaf(Tag::Paragraph, "No entry was granted by trust alone.")?;
-        page.line()?;
-        return end_section(page);
-    }
-    let units = rows.iter().fold(0, |most, row| row.count.max(most));
-    let titles = ["Subject", "Granted by trust alone"];
-    begin_table(page, "Denied, if the subject were not trusted", &titles)?;
-    for row in rows {
-        trust_row(page, names, row, units)?;
-    }
-    end_table(page)?;
+#[tactic(auto, unfolding(crate::specs::Trusted::trust, crate::specs::Sections::listed))]
+pub(crate) fn add_trust(page: &mut Page, names: &Names, rows: &[Trusting]) -> Result<(), AllocError>
+    ensures { OnOk result (page.new ≡ added page.old (trust names.now rows.now)) }
+{
+    begin_listed(page, &TRUST)?;
+    add_table(page, names, rows)?;
     end_section(page)
 }

@@ -1,5 +1,19 @@
 //! What was verified.
-use crate::section::{MARKED, VERIFIED, begin_section, end_section};
+ghost use Rattle.std.specs.Prelude.{◌≡◌, codes, OnOk};
+ghost use Rattle.mls_markup.specs.Drafts.{added};
+ghost use Rattle.mls_page.specs.Verified.{
+  found_rows,
+  marks_text,
+  number_row,
+  text_row,
+  times_rows,
+  verdict,
+  verified,
+  verified_table,
+  verify_command,
+};
+
+use crate::section::{MARKED, Section, VERIFIED, begin_listed, end_section};
 use crate::table::{begin_row, end_row, heading_cell, number_cell};
 use mls_markup::{Page, Tag};
 use std::alloc::AllocError;
@@ -23,7 +37,10 @@ const WITH_MARKS: &str = " Each mark agrees with the journal.";
 const WITHOUT_MARKS: &str = " No marks were looked at.";
 
 /// The row of a number.
-fn number_row(page: &mut Page, title: &str, number: u64) -> Result<(), AllocError> {
+#[tactic(auto, unfolding(crate::specs::Verified::number_row, crate::specs::Tables::row))]
+fn number_row(page: &mut Page, title: &str, number: u64) -> Result<(), AllocError>
+    ensures { OnOk result (page.new ≡ added page.old (number_row title.now number)) }
+{
     begin_row(page)?;
     heading_cell(page, title)?;
     number_cell(page, number)?;
@@ -31,62 +48,106 @@ fn number_row(page: &mut Page, title: &str, number: u64) -> Result<(), AllocErro
 }
 
 /// The row of a text.
-fn text_row(page: &mut Page, title: &str, text: &str, more: &str) -> Result<(), AllocError> {
+#[tactic(auto, unfolding(crate::specs::Verified::text_row, crate::specs::Tables::row))]
+fn text_row(page: &mut Page, title: &str, text: &str) -> Result<(), AllocError>
+    ensures { OnOk result (page.new ≡ added page.old (text_row title.now text.now)) }
+{
     begin_row(page)?;
     heading_cell(page, title)?;
-    page.open_as(Tag::TableCell, "digest")?;
-    page.text(text)?;
-    page.text(more)?;
-    page.close()?;
+    page.leaf_as(Tag::TableCell, "digest", text)?;
     end_row(page)
 }
 
-/// The rows of what marks say.
-fn found_rows(page: &mut Page, found: &Found<'_>) -> Result<(), AllocError> {
-    text_row(page, "Digest of the last mark", found.digest, "")?;
-    if let Some((first, last)) = found.times {
-        text_row(page, "Time of the first mark", first, "")?;
-        text_row(page, "Time of the last mark", last, "")?;
-    }
+/// The rows of the times of marks, where there are any.
+#[tactic(auto, unfolding(crate::specs::Verified::times_rows))]
+fn times_rows(page: &mut Page, times: Option<(&str, &str)>) -> Result<(), AllocError>
+    ensures { OnOk result (page.new ≡ added page.old (times_rows times.entry)) }
+{
+    let Some((first, last)) = times else {
+        return Ok(());
+    };
+    text_row(page, "Time of the first mark", first)?;
+    text_row(page, "Time of the last mark", last)
+}
+
+/// The rows of what marks say, where they were looked at.
+#[tactic(auto, unfolding(crate::specs::Verified::found_rows))]
+fn found_rows(page: &mut Page, found: Option<Found<'_>>) -> Result<(), AllocError>
+    ensures { OnOk result (page.new ≡ added page.old (found_rows found.entry)) }
+{
+    let Some(found) = found else {
+        return Ok(());
+    };
+    text_row(page, "Digest of the last mark", found.digest)?;
+    times_rows(page, found.times)?;
     number_row(page, "Entries behind the last mark", found.behind)
 }
 
-/// What was looked at, and the table of a journal of so many entries.
-fn add_rows(page: &mut Page, entries: u64, found: Option<&Found<'_>>) -> Result<(), AllocError> {
+/// Whether marks were looked at.
+fn marks_text(found: Option<Found<'_>>) -> &'static str
+    ensures { result.now ≡ marks_text found.entry }
+{
+    match found {
+        Some(_) => WITH_MARKS,
+        None => WITHOUT_MARKS,
+    }
+}
+
+/// What was looked at.
+#[tactic(auto, unfolding(crate::specs::Verified::verdict))]
+fn add_verdict(page: &mut Page, found: Option<Found<'_>>) -> Result<(), AllocError>
+    ensures { OnOk result (page.new ≡ added page.old (verdict found.entry)) }
+{
     page.open(Tag::Paragraph)?;
     page.text(REPLAYED)?;
-    match found {
-        Some(_) => page.text(WITH_MARKS)?,
-        None => page.text(WITHOUT_MARKS)?,
-    }
+    page.text(marks_text(found))?;
     page.close()?;
-    page.line()?;
+    page.line()
+}
+
+/// The table of a journal of so many entries.
+#[tactic(auto, unfolding(crate::specs::Verified::verified_table))]
+fn add_table(page: &mut Page, entries: u64, found: Option<Found<'_>>) -> Result<(), AllocError>
+    ensures { OnOk result (page.new ≡ added page.old (verified_table entries found.entry)) }
+{
     page.open(Tag::Table)?;
     page.leaf(Tag::Caption, "When this page was written")?;
     page.open(Tag::TableBody)?;
     page.line()?;
     number_row(page, "Entries that were replayed", entries)?;
-    if let Some(found) = found {
-        found_rows(page, found)?;
-    }
+    found_rows(page, found)?;
     page.close()?;
     page.close()?;
     page.line()
+}
+
+/// The section of what was verified, without marks or with marks.
+fn section_of(found: Option<Found<'_>>) -> Section
+    ensures id { result.id.now ≡ codes "verified" }
+    ensures title { result.title.now ≡ codes "Verified" }
+    ensures command { result.command.now ≡ verify_command found.entry }
+{
+    match found {
+        Some(_) => MARKED,
+        None => VERIFIED,
+    }
 }
 
 /// Appends what was verified of a journal of so many entries, and of its marks where they were looked at.
 ///
 /// # Errors
 /// `AllocError` where an allocation failed.
-pub fn add_verified(
+#[tactic(auto, unfolding(crate::specs::Verified::verified, crate::specs::Sections::listed))]
+pub(crate) fn add_verified(
     page: &mut Page,
     entries: u64,
-    found: Option<&Found<'_>>,
-) -> Result<(), AllocError> {
-    match found {
-        Some(_) => begin_section(page, &MARKED)?,
-        None => begin_section(page, &VERIFIED)?,
-    }
-    add_rows(page, entries, found)?;
+    found: Option<Found<'_>>,
+) -> Result<(), AllocError>
+    ensures { OnOk result (page.new ≡ added page.old (verified entries found.entry)) }
+{
+    let section = section_of(found);
+    begin_listed(page, &section)?;
+    add_verdict(page, found)?;
+    add_table(page, entries, found)?;
     end_section(page)
 }

@@ -3,12 +3,10 @@ use crate::answering::question_refused;
 use crate::named::Named;
 use crate::part::Part;
 use crate::past::{Past, past_refused, replayed};
-use crate::report_parts::add_sections;
+use crate::report_parts::page_over;
 use crate::sources::{Bytes, read_source};
 use crate::spans::states_of;
 use mls_command_line::{ReportWords, Source};
-use mls_markup::Page;
-use mls_page::{add_part, begin_report, end_report};
 use mls_replay::QuestionFault;
 use mls_spans::States;
 use mls_terminal::{NO_MEMORY, Progress, refused};
@@ -34,17 +32,13 @@ fn states(words: &ReportWords<'_>, bytes: &Bytes) -> States {
     }
 }
 
-/// Appends which part of the journal the page is about, where it isn't about all of it, and all sections.
-fn add_all(
-    page: &mut Page,
-    words: &ReportWords<'_>,
-    past: &Past,
-    part: &Part<'_>,
-) -> Result<(), AllocError> {
+/// Between which states the part of the journal is that a page is about, where it isn't about all of it.
+fn part_told(words: &ReportWords<'_>, part: &Part<'_>) -> Option<(u64, u64)> {
     if is_part(words) {
-        add_part(page, part.first(), part.last())?;
+        Some((part.first(), part.last()))
+    } else {
+        None
     }
-    add_sections(page, part, past.verified.as_ref(), past.marks.as_ref())
 }
 
 /// The page about a part of a journal.
@@ -54,14 +48,16 @@ fn page_about(
     past: &Past,
     part: &Part<'_>,
 ) -> Result<Vec<u8>, AllocError> {
-    let mut page = begin_report(alloc, words.start, words.journal)?;
-    match add_all(&mut page, words, past, part) {
-        Ok(()) => end_report(page),
-        Err(fault) => {
-            drop(page);
-            Err(fault)
-        }
-    }
+    let files = (words.start, words.journal);
+    let told = part_told(words, part);
+    page_over(
+        alloc,
+        files,
+        told,
+        part,
+        past.verified.as_ref(),
+        past.marks.as_ref(),
+    )
 }
 
 /// The page about some states of a journal that was replayed, and the entries between them.

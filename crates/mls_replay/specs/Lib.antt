@@ -6,3 +6,4 @@ pub mod Replayed
 pub mod FaultLines
 pub mod Naming
 pub mod Replays
+pub mod Finding

@@ -1,5 +1,5 @@
 -- What a question is asked over, and what is seen of it.
-use Rattle.std.specs.Prelude.{◌≡◌, ℕ, List, [], ◌∷◌, ◌++◌, length, slice_get, Option, Some, None, refl}
+use Rattle.std.specs.Prelude.{◌≡◌, ℕ, List, [], ◌∷◌, ◌++◌, length, Option, Some, None, refl}
 use Rattle.std.specs.Coded.{Coded, code_by, coded×, coded_ℕ, coded_list, coded_option}
 use Rattle.mls_lines.specs.Names.{Names, names_code}
 use Rattle.mls_requests.specs.declared.entry.Entry.{Entry}
@@ -9,7 +9,7 @@ use Rattle.mls_state.specs.Properties.{IsSecure}
 use Rattle.mls_journal.specs.EntryText.{journal_text, AllHaveRanges}
 use Rattle.mls_monitor.specs.Journal.{fold, IsLegal}
 use Rattle.mls_start_file.specs.Says.{SaysStart}
-use Rattle.mls_replay.specs.Replays.{SeesOver}
+use Rattle.mls_replay.specs.Replays.{SeesOver, entry_at}
 use Rattle.mls_snapshots.specs.Reading.{IsOver}
 use Rattle.mls_snapshots.specs.States.{state_text}
 
@@ -106,11 +106,6 @@ pub record SeesBehind (start : State) (earlier : List Entry) (r : Seen) : Type 0
 abbrev pub place_of : Option ℕ → List Entry → ℕ
 place_of None entries = length entries
 place_of (Some at) entries = at
-
--- The entry of a number, where one is told. (own)
-abbrev pub entry_at : Option ℕ → List Entry → Option Entry
-entry_at None entries = None
-entry_at (Some at) entries = slice_get entries at
 
 -- A whole journal is seen as by a replay of it, which has the next entry, too. (own)
 pub record SeesWhole (r : Seen) : Type 0 where

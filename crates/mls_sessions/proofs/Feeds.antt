@@ -8,7 +8,7 @@ use Rattle.mls_requests.specs.declared.ask.Ask.{Ask}
 use Rattle.mls_requests.specs.declared.entry.Entry.{Entry}
 use Rattle.mls_turns.specs.Journals.{Journal}
 use Rattle.mls_monitor.specs.Entries.{of_session}
-use Rattle.mls_sessions.specs.Rule.{begun, base, news, member}
+use Rattle.mls_sessions.specs.Rule.{begun, base, news, member, opened}
 use Rattle.mls_sessions.specs.Sessions.{Office, Session, session_at, IsOf, HasAll, newcomers, history, own, member_of, number_of}
 use Rattle.mls_sessions.specs.declared.gate_table.View.TheVariants.{Sessions}
 use Rattle.mls_sessions.specs.Runs.{Returned}
@@ -54,7 +54,7 @@ newcomers_numbered : (o : Office) (n : ℕ) → Numbered o 0 (newcomers o n) × 
 newcomers_numbered o zero = (tt, refl)
 newcomers_numbered o (suc n) =
     let t = newcomers_numbered o n in
-    let s : Session = session_at o.table (Sessions o.charter (member n [] ∷ [])) in
+    let s : Session = session_at o.table (Sessions o.charter (member n (opened o.charter) ∷ [])) in
     let long = length-append (newcomers o n) (s ∷ []) in
     (numbered_snoc o 0 (newcomers o n) s t.0 (let e : n ≡ 0 + length (newcomers o n) = omega (arith, t.1) in e) (append-nil (base o.charter)), (let e : length (newcomers o n ++ s ∷ []) ≡ suc n = omega (arith, long, t.1) in e))
 

@@ -15,7 +15,8 @@ use Rattle.mls_sessions.specs.declared.gate_table.View.TheVariants.{Spent, Sessi
 use Rattle.mls_sessions.specs.Journals.{Charter}
 use Rattle.mls_monitor.specs.Entries.{of_session}
 use Rattle.mls_sessions.specs.Rule.{member, Gated}
-use Rattle.mls_sessions.specs.Steps.{Seat, longer, Agree, looked, both_of}
+use Rattle.mls_sessions.specs.declared.gate_table.Stretch.{Stretch}
+use Rattle.mls_sessions.specs.Steps.{Seat, longer, Agree, both_know, looked, both_of}
 use Rattle.mls_sessions.specs.Sessions.{seated, Meets, history}
 use Rattle.mls_sessions.proofs.OwnEntries.{prefix_shorter, own-between}
 use Rattle.mls_sessions.proofs.StepsKeep.{running, same_state}
@@ -49,7 +50,7 @@ module _ (key : Charter) where
   moves id xs s gated at = let v : View = Sessions key xs in let r = running key s gated id v at (omega arith) in let mine = r.each_seat id v at in let j₀ : ℕ = length s.views in
       let owner' : ℕ → ℕ = λ k. either (eqb (r.owner k) id) j₀ (r.owner k) in
       inr (inr (cuts key s r id v Spent v at (λ e. absurd (omega arith)) owner' (λ k small ne. ap (λ b. either b j₀ (r.owner k)) (ne_eqb (r.owner k) id ne)) tt
-      (refl, fits_goes key r.later r.owner owner' id j₀ (λ k small here. ap (λ b. either b j₀ (r.owner k)) (eq-eqb (r.owner k) id here)) xs mine.1)))
+      (refl, fits_goes key r.now r.owner owner' id j₀ (λ k small here. ap (λ b. either b j₀ (r.owner k)) (eq-eqb (r.owner k) id here)) xs mine.1)))
 
   abbrev two_of : Member → Member → View → Member × Member
   two_of a b (Sessions c (x ∷ y ∷ is)) = (x, y)
@@ -63,19 +64,20 @@ module _ (key : Charter) where
     subst (Gated key) (sym (same_state s id [] v at)) gated,
     (
       refl,
-      λ c a b e. subst (λ (z : Member × Member). Agree z.0 z.1) (λ k. two_of x y (e k)) (both x y r.later mine.0.front mine.2.0.front mine.0.own mine.2.0.own).1,
+      λ c a b e. subst (λ (z : Member × Member). Agree z.0 z.1) (λ k. two_of x y (e k)) (both x y r.now.later mine.0.front mine.2.0.front mine.0.own mine.2.0.own).1,
     ),
   )
 
   -- one session each again
-  pub parts : (id : ℕ) (x y : Member) → Splits (Gated key) id (Sessions key (x ∷ y ∷ [])) (Sessions key (member x.number (longer x.later y.later) ∷ [])) (Sessions key (member y.number (longer x.later y.later) ∷ []))
-  parts id x y s gated at = let v : View = Sessions key (x ∷ y ∷ []) in let es : List Entry = longer x.later y.later in let r = running key s gated id v at (omega arith) in let mine = (r.each_seat id v at).1 in
-      let j₀ : ℕ = length s.views in let owner' = goes_to key y.number j₀ r.owner in let t = both x y r.later mine.0.front mine.2.0.front mine.0.own mine.2.0.own in
+  pub parts : (id : ℕ) (x y : Member) → Splits (Gated key) id (Sessions key (x ∷ y ∷ [])) (Sessions key (member x.number (both_know x y) ∷ [])) (Sessions key (member y.number (both_know x y) ∷ []))
+  parts id x y s gated at = let v : View = Sessions key (x ∷ y ∷ []) in let now : Stretch = both_know x y in let r = running key s gated id v at (omega arith) in let mine = (r.each_seat id v at).1 in
+      let j₀ : ℕ = length s.views in let owner' = goes_to key y.number j₀ r.owner in let t = both x y r.now.later mine.0.front mine.2.0.front mine.0.own mine.2.0.own in
       let apart : x.number ≢ y.number = λ e. mine.1.0 (sym e) in
-      inr (inr (cuts key s r id v (Sessions key (member x.number es ∷ [])) (Sessions key (member y.number es ∷ [])) at (λ e. absurd (omega arith)) owner'
+      let one = mine.0.less in let two = mine.2.0.less in let less : now.forgotten ≤ r.now.forgotten = omega arith in
+      inr (inr (cuts key s r id v (Sessions key (member x.number now ∷ [])) (Sessions key (member y.number now ∷ [])) at (λ e. absurd (omega arith)) owner'
       (λ m small ne. goes_miss key y.number j₀ r.owner m (λ e. ne (ap r.owner e ∙ mine.2.0.here)))
-      (refl, (record { known = mine.0.known; here = goes_miss key y.number j₀ r.owner x.number apart ∙ mine.0.here; front = t.0; own = t.1.first_own ∙ mine.0.own }, tt, tt))
-      (refl, (record { known = mine.2.0.known; here = goes_hit key y.number j₀ r.owner y.number refl; front = t.0; own = t.1.second_own ∙ mine.2.0.own }, tt, tt))))
+      (refl, (record { known = mine.0.known; here = goes_miss key y.number j₀ r.owner x.number apart ∙ mine.0.here; front = t.0; own = t.1.first_own ∙ mine.0.own; less = less }, tt, tt))
+      (refl, (record { known = mine.2.0.known; here = goes_hit key y.number j₀ r.owner y.number refl; front = t.0; own = t.1.second_own ∙ mine.2.0.own; less = less }, tt, tt))))
 
   -- what the seat has after the join
   pub joined_as : (mine theirs whole now : Seat) (x y : Member) → mine ≡ seated key x → theirs ≡ seated key y → whole ≡ (theirs.0, []) → now ≡ (both_of mine.0 whole.0, mine.1) → now ≡ (Sessions key (x ∷ y ∷ []), [])

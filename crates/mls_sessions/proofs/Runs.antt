@@ -1,5 +1,5 @@
 -- Sessions that come back, and feeds at their stages.
-use Rattle.std.proofs.Common.{◌≡◌, ℕ, ◌+◌, ◌≤◌, List, [], ◌∷◌, ◌++◌, length, refl, sym, ap, ◌∙◌, subst, append-nil}
+use Rattle.std.proofs.Common.{◌≡◌, true, ℕ, ◌+◌, ◌≤◌, List, [], ◌∷◌, ◌++◌, length, refl, sym, ap, ◌∙◌, subst, append-nil}
 use lib.Seq.{drop-append_seam}
 use Rattle.std.specs.Prelude.{drop}
 use Rattle.mls_requests.specs.declared.entry.Entry.{Entry}
@@ -41,6 +41,6 @@ pub grew_as : {start first : State} {entries journal : List Entry} {lost forgott
 grew_as {start} {first} {entries} {journal} {lost} {forgotten} {n} {count} {new} p q l r old =
     subst (λ (b : State). Grew b entries lost n new) p (subst (λ (es : List Entry). Grew first es lost n new) q (subst (λ (k : ℕ). Grew first journal k n new) l (subst (λ (k : ℕ). Grew first journal forgotten k new) r old)))
 
--- what a closed office leaves
-pub grew : (o : Office) (ss : List Session) (new : Monitor) → Leaves o ss (journal_of new) → Grew (begun o.charter) (base o.charter) o.charter.forgotten o.charter.count new
-grew o ss new left = record { start = left.start; forgotten = left.forgotten; begins = left.begins; below = left.below }
+-- what a closed office leaves whose journal lasts
+pub grew : (o : Office) (ss : List Session) (new : Monitor) → o.charter.lasts ≡ true → Leaves o ss (journal_of new) → Grew (begun o.charter) (base o.charter) o.charter.forgotten o.charter.count new
+grew o ss new last left = record { start = left.start; forgotten = left.lasts last; begins = left.begins; below = left.below }

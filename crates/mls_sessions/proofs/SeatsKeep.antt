@@ -13,12 +13,13 @@ use Rattle.mls_requests.specs.declared.entry.Entry.{Entry}
 use Rattle.mls_sessions.specs.Journals.{Charter}
 use Rattle.mls_turns.specs.Journals.{Stands, Journal}
 use Rattle.mls_monitor.specs.Entries.{of_session, AllBelow}
-use Rattle.mls_sessions.specs.Rule.{member, IsNew, base, present, IsMember, Fits, IsUnused, Knows, Running, Gated, begun}
+use Rattle.mls_sessions.specs.Rule.{member, IsNew, base, opened, present, MayForget, IsMember, Fits, IsUnused, Knows, Running, Gated, begun}
 use Rattle.mls_sessions.specs.Steps.{Seat, left_of, right_of, both_of}
+use Rattle.mls_sessions.specs.declared.gate_table.Stretch.{Stretch}
 use Rattle.mls_sessions.specs.declared.gate_table.Member.{Member}
 use Rattle.mls_sessions.specs.declared.gate_table.View.{View}
 use Rattle.mls_sessions.specs.declared.gate_table.View.TheVariants.{Spent, Starting, Filling, Giving, Sessions, Holding}
-use Rattle.mls_sessions.specs.Sessions.{Office, Session, session_at, member_of, number_of, newcomers, IsOf, Ascending, history, HasAll, Leaves, members_of, members_in}
+use Rattle.mls_sessions.specs.Sessions.{Office, Session, session_at, member_of, number_of, newcomers, IsOf, Ascending, history, HasAll, AllKnowLess, Leaves, members_of, members_in}
 use Rattle.mls_sessions.proofs.OwnEntries.{prefix_after}
 use Rattle.mls_sessions.proofs.StepsKeep.{St, tag, running, others}
 
@@ -37,38 +38,39 @@ module _ (key : Charter) where
   abbrev pub n : ℕ
   n = key.count
 
-  module _ (later : List Entry) (owner owner' : ℕ → ℕ) (i j : ℕ) (moves : (k : ℕ) → k < n → owner k ≡ i → owner' k ≡ j) where
-    member_goes : (x : Member) → IsMember key later owner i x → IsMember key later owner' j x
-    member_goes x ok = record { known = ok.known; here = moves x.number ok.known ok.here; front = ok.front; own = ok.own }
+  module _ (now : Stretch) (owner owner' : ℕ → ℕ) (i j : ℕ) (moves : (k : ℕ) → k < n → owner k ≡ i → owner' k ≡ j) where
+    member_goes : (x : Member) → IsMember key now owner i x → IsMember key now owner' j x
+    member_goes x ok = record { known = ok.known; here = moves x.number ok.known ok.here; front = ok.front; own = ok.own; less = ok.less }
 
-    pub fits_goes : (xs : List Member) → Fits key later owner i xs → Fits key later owner' j xs
+    pub fits_goes : (xs : List Member) → Fits key now owner i xs → Fits key now owner' j xs
     fits_goes [] f = tt
     fits_goes (x ∷ xs) f = (member_goes x f.0, f.1, fits_goes xs f.2)
 
-    unused_goes : (g : ℕ) → IsUnused key later owner i g → IsUnused key later owner' j g
+    unused_goes : (g : ℕ) → IsUnused key now owner i g → IsUnused key now owner' j g
     unused_goes g u k low high = let t = u k low high in (moves k high t.0, t.1)
 
-  knows_goes : (later : List Entry) (owner owner' : ℕ → ℕ) (j : ℕ) → ((k : ℕ) → k < n → owner k ≡ j → owner' k ≡ j) → (h w : ℕ) (v : View) → Knows key later owner j h w v → Knows key later owner' j h w v
-  knows_goes later owner owner' j moves h w Spent k = tt
-  knows_goes later owner owner' j moves h w (Starting c) k = absurd k
-  knows_goes later owner owner' j moves h w (Filling c) k = absurd k
-  knows_goes later owner owner' j moves h w (Giving c g) k = (k.0, k.1, unused_goes later owner owner' j j moves g k.2)
-  knows_goes later owner owner' j moves h w (Sessions c xs) k = (k.0, fits_goes later owner owner' j j moves xs k.1)
-  knows_goes later owner owner' j moves h w (Holding c x t b) k = (k.0, k.1, k.2, k.3, member_goes later owner owner' j j moves x k.4)
+  knows_goes : (now : Stretch) (owner owner' : ℕ → ℕ) (j : ℕ) → ((k : ℕ) → k < n → owner k ≡ j → owner' k ≡ j) → (h w : ℕ) (v : View) → Knows key now owner j h w v → Knows key now owner' j h w v
+  knows_goes now owner owner' j moves h w Spent k = tt
+  knows_goes now owner owner' j moves h w (Starting c) k = absurd k
+  knows_goes now owner owner' j moves h w (Filling c) k = absurd k
+  knows_goes now owner owner' j moves h w (Giving c g) k = (k.0, k.1, unused_goes now owner owner' j j moves g k.2)
+  knows_goes now owner owner' j moves h w (Sessions c xs) k = (k.0, fits_goes now owner owner' j j moves xs k.1)
+  knows_goes now owner owner' j moves h w (Holding c x t b) k = (k.0, k.1, k.2, k.3, member_goes now owner owner' j j moves x k.4)
 
   -- a seat that doesn't hold the gate is cut in two
   pub cuts : (s : St) (r : Running key s) (id : ℕ) (v left right : View) → get_elem? s.views id ≡ some v → tag v ≢ 5 → (owner' : ℕ → ℕ)
       → ((k : ℕ) → k < n → r.owner k ≢ id → owner' k ≡ r.owner k)
-      → Knows key r.later owner' id r.holder (get_or s.words 0 0) left → Knows key r.later owner' (length s.views) r.holder (get_or s.words 0 0) right
+      → Knows key r.now owner' id r.holder (get_or s.words 0 0) left → Knows key r.now owner' (length s.views) r.holder (get_or s.words 0 0) right
       → Running key (record { words = s.words; homes = s.homes; views = set s.views id left ++ right ∷ [] })
   cuts s r id v left right at idle owner' still mine theirs = let word : ℕ = get_or s.words 0 0 in record {
-    later = r.later;
+    now = r.now;
     owner = owner';
     holder = r.holder;
     wide = r.wide;
     deep = r.deep;
     legal = r.legal;
     theirs = r.theirs;
+    gone = r.gone;
     notes = r.notes;
     tells = r.tells;
     noted = r.noted;
@@ -76,11 +78,11 @@ module _ (key : Charter) where
     at_home = r.at_home;
     away = λ held. let h = r.away held in
         let ne : r.holder ≢ id = λ e. idle (ap tag (some-injective _ _ (sym at ∙ (ap (λ (j : ℕ). get_elem? s.views j) (sym e) ∙ h.1)))) in
-        (h.0, at_longer (set s.views id left) (right ∷ []) r.holder (Holding key h.0 r.later r.notes) (set_else s.views id r.holder left ne ∙ h.1), h.2);
+        (h.0, at_longer (set s.views id left) (right ∷ []) r.holder (Holding key h.0 r.now r.notes) (set_else s.views id r.holder left ne ∙ h.1), h.2);
     each_seat = λ j u e. ⊎_elim
-        (others key (λ j v. Knows key r.later r.owner j r.holder word v) (λ j v. Knows key r.later owner' j r.holder word v) s.views id left r.each_seat mine
-        (λ j v ne k. knows_goes r.later r.owner owner' j (λ m small here. still m small (λ e. ne (sym here ∙ e)) ∙ here) r.holder word v k) j u)
-        (λ (t : (j ≡ length (set s.views id left)) × (right ≡ u)). subst (λ (z : ℕ × View). Knows key r.later owner' z.0 r.holder word z.1) (λ k. ((sym (t.0 ∙ length-set s.views id left)) k, t.1 k)) theirs)
+        (others key (λ j v. Knows key r.now r.owner j r.holder word v) (λ j v. Knows key r.now owner' j r.holder word v) s.views id left r.each_seat mine
+        (λ j v ne k. knows_goes r.now r.owner owner' j (λ m small here. still m small (λ e. ne (sym here ∙ e)) ∙ here) r.holder word v k) j u)
+        (λ (t : (j ≡ length (set s.views id left)) × (right ≡ u)). subst (λ (z : ℕ × View). Knows key r.now owner' z.0 r.holder word z.1) (λ k. ((sym (t.0 ∙ length-set s.views id left)) k, t.1 k)) theirs)
         (at_end (set s.views id left) right u j e);
   }
 
@@ -95,13 +97,13 @@ module _ (key : Charter) where
   goes_miss k j owner m e = ap (λ b. either b j (owner m)) (ne_eqb m k e)
 
   -- the next number is given
-  pub gives_one : (id g : ℕ) → 0 < g → Splits (Gated key) id (Giving key g) (Giving key (g - 1)) (Sessions key (member (n - g) [] ∷ []))
+  pub gives_one : (id g : ℕ) → 0 < g → Splits (Gated key) id (Giving key g) (Giving key (g - 1)) (Sessions key (member (n - g) (opened key) ∷ []))
   gives_one id g some_left s gated at = let v : View = Giving key g in let r = running key s gated id v at (omega arith) in let mine = r.each_seat id v at in let low = mine.1 in
       let k₀ : ℕ = n - g in let j₀ : ℕ = length s.views in let owner' = goes_to k₀ j₀ r.owner in let has = mine.2 k₀ (omega arith) (omega arith) in
-      inr (inr (cuts s r id v (Giving key (g - 1)) (Sessions key (member k₀ [] ∷ [])) at (λ e. absurd (omega arith)) owner'
+      inr (inr (cuts s r id v (Giving key (g - 1)) (Sessions key (member k₀ (opened key) ∷ [])) at (λ e. absurd (omega arith)) owner'
       (λ m small ne. goes_miss k₀ j₀ r.owner m (λ e. ne (ap r.owner e ∙ has.0)))
       (refl, omega arith, λ m lo hi. let t = mine.2 m (omega arith) hi in (goes_miss k₀ j₀ r.owner m (λ e. absurd (omega arith)) ∙ t.0, t.1))
-      (refl, (record { known = (let x : k₀ < n = omega arith in x); here = goes_hit k₀ j₀ r.owner k₀ refl; front = (r.later, refl); own = sym has.1 }, tt, tt))))
+      (refl, (record { known = (let x : k₀ < n = omega arith in x); here = goes_hit k₀ j₀ r.owner k₀ refl; front = (r.now.later, refl); own = sym has.1; less = r.gone.more }, tt, tt))))
 
   at_two : (vs : List View) (id other : ℕ) (u w : View) (P Q : ℕ → View → Type 0) → ((j : ℕ) (v : View) → get_elem? vs j ≡ some v → P j v) → Q id u → Q other w → ((j : ℕ) (v : View) → j ≢ id → j ≢ other → P j v → Q j v)
       → (j : ℕ) (v : View) → get_elem? (set (set vs id u) other w) j ≡ some v → Q j v
@@ -117,16 +119,16 @@ module _ (key : Charter) where
   new_append k (x ∷ xs) ys a b = (a.0, new_append k xs ys a.1 b)
 
   -- sessions of two seats have different numbers
-  new_there : (later : List Entry) (owner : ℕ → ℕ) (i j : ℕ) → j ≢ i → (x : Member) → IsMember key later owner i x → (ys : List Member) → Fits key later owner j ys → IsNew x.number ys
-  new_there later owner i j ne x ok [] f = tt
-  new_there later owner i j ne x ok (y ∷ ys) f = ((λ e. ne (sym f.0.here ∙ (ap owner e ∙ ok.here))), new_there later owner i j ne x ok ys f.2)
+  new_there : (now : Stretch) (owner : ℕ → ℕ) (i j : ℕ) → j ≢ i → (x : Member) → IsMember key now owner i x → (ys : List Member) → Fits key now owner j ys → IsNew x.number ys
+  new_there now owner i j ne x ok [] f = tt
+  new_there now owner i j ne x ok (y ∷ ys) f = ((λ e. ne (sym f.0.here ∙ (ap owner e ∙ ok.here))), new_there now owner i j ne x ok ys f.2)
 
   -- and so they can be in one
-  fits_append : (later : List Entry) (owner owner' : ℕ → ℕ) (i j : ℕ) → j ≢ i → ((k : ℕ) → k < n → owner k ≡ i → owner' k ≡ i) → ((k : ℕ) → k < n → owner k ≡ j → owner' k ≡ i)
-      → (xs ys : List Member) → Fits key later owner i xs → Fits key later owner j ys → Fits key later owner' i (xs ++ ys)
-  fits_append later owner owner' i j ne a b [] ys f g = fits_goes later owner owner' j i b ys g
-  fits_append later owner owner' i j ne a b (x ∷ xs) ys f g =
-      (member_goes later owner owner' i i a x f.0, new_append x.number xs ys f.1 (new_there later owner i j ne x f.0 ys g), fits_append later owner owner' i j ne a b xs ys f.2 g)
+  fits_append : (now : Stretch) (owner owner' : ℕ → ℕ) (i j : ℕ) → j ≢ i → ((k : ℕ) → k < n → owner k ≡ i → owner' k ≡ i) → ((k : ℕ) → k < n → owner k ≡ j → owner' k ≡ i)
+      → (xs ys : List Member) → Fits key now owner i xs → Fits key now owner j ys → Fits key now owner' i (xs ++ ys)
+  fits_append now owner owner' i j ne a b [] ys f g = fits_goes now owner owner' j i b ys g
+  fits_append now owner owner' i j ne a b (x ∷ xs) ys f g =
+      (member_goes now owner owner' i i a x f.0, new_append x.number xs ys f.1 (new_there now owner i j ne x f.0 ys g), fits_append now owner owner' i j ne a b xs ys f.2 g)
 
   pub gathers : (id other : ℕ) (xs ys : List Member) → Joins (Gated key) id (Sessions key xs) other (Sessions key ys) (Sessions key (xs ++ ys)) Spent
   gathers id other xs ys s gated at ne there₂ = let v : View = Sessions key xs in let u : View = Sessions key (xs ++ ys) in let w : View = Sessions key ys in
@@ -137,13 +139,14 @@ module _ (key : Charter) where
       let hit : (k : ℕ) → r.owner k ≡ other → owner' k ≡ id = λ k e. ap (λ b. either b id (r.owner k)) (eq-eqb (r.owner k) other e) in
       let miss : (k : ℕ) → r.owner k ≢ other → owner' k ≡ r.owner k = λ k e. ap (λ b. either b id (r.owner k)) (ne_eqb (r.owner k) other e) in
       inr (inr record {
-        later = r.later;
+        now = r.now;
         owner = owner';
         holder = r.holder;
         wide = r.wide;
         deep = r.deep;
         legal = r.legal;
         theirs = r.theirs;
+        gone = r.gone;
         notes = r.notes;
         tells = r.tells;
         noted = r.noted;
@@ -153,10 +156,10 @@ module _ (key : Charter) where
             let a : r.holder ≢ id = λ e. (let z = ap tag (some-injective _ _ (sym at ∙ (ap (λ (j : ℕ). get_elem? s.views j) (sym e) ∙ h.1))) in absurd (omega arith)) in
             let b : r.holder ≢ other = λ e. (let z = ap tag (some-injective _ _ (sym at₂ ∙ (ap (λ (j : ℕ). get_elem? s.views j) (sym e) ∙ h.1))) in absurd (omega arith)) in
             (h.0, set_else (set s.views id u) other r.holder Spent b ∙ (set_else s.views id r.holder u a ∙ h.1), h.2);
-        each_seat = at_two s.views id other u Spent (λ j v. Knows key r.later r.owner j r.holder word v) (λ j v. Knows key r.later owner' j r.holder word v) r.each_seat
-            (refl, fits_append r.later r.owner owner' id other ne (λ k small here. miss k (λ e. ne (sym e ∙ here)) ∙ here) (λ k small here. hit k here) xs ys mine theirs)
+        each_seat = at_two s.views id other u Spent (λ j v. Knows key r.now r.owner j r.holder word v) (λ j v. Knows key r.now owner' j r.holder word v) r.each_seat
+            (refl, fits_append r.now r.owner owner' id other ne (λ k small here. miss k (λ e. ne (sym e ∙ here)) ∙ here) (λ k small here. hit k here) xs ys mine theirs)
             tt
-            (λ j v a b k. knows_goes r.later r.owner owner' j (λ m small here. miss m (λ e. b (sym here ∙ e)) ∙ here) r.holder word v k);
+            (λ j v a b k. knows_goes r.now r.owner owner' j (λ m small here. miss m (λ e. b (sym here ∙ e)) ∙ here) r.holder word v k);
       })
 
   -- the numbers go up by one from k on
@@ -165,27 +168,27 @@ module _ (key : Charter) where
   Ascends k (x ∷ xs) = (x.number ≡ k) × Ascends (k + 1) xs
 
   -- whose seat each of these numbers is
-  owner_of : (later : List Entry) (owner : ℕ → ℕ) (i k : ℕ) (xs : List Member) → Ascends k xs → Fits key later owner i xs → (m : ℕ) → k ≤ m → m < k + length xs → owner m ≡ i
-  owner_of later owner i k [] a f m lo hi = absurd (omega arith)
-  owner_of later owner i k (x ∷ xs) a f m lo hi = let is = a.0 in dite (ℕ_discrete m k) (λ e. ap owner (e ∙ sym is) ∙ f.0.here) (λ ne. owner_of later owner i (k + 1) xs a.1 f.2 m (omega arith) (omega arith))
+  owner_of : (now : Stretch) (owner : ℕ → ℕ) (i k : ℕ) (xs : List Member) → Ascends k xs → Fits key now owner i xs → (m : ℕ) → k ≤ m → m < k + length xs → owner m ≡ i
+  owner_of now owner i k [] a f m lo hi = absurd (omega arith)
+  owner_of now owner i k (x ∷ xs) a f m lo hi = let is = a.0 in dite (ℕ_discrete m k) (λ e. ap owner (e ∙ sym is) ∙ f.0.here) (λ ne. owner_of now owner i (k + 1) xs a.1 f.2 m (omega arith) (omega arith))
 
   -- what is known of each session of the list
-  abbrev pub Known : List Entry → List Member → Type 0
-  Known later [] = Unit {0}
-  Known later (x ∷ xs) = IsPrefix x.later later × (of_session x.number x.later ≡ of_session x.number later) × Known later xs
+  abbrev pub Known : Stretch → List Member → Type 0
+  Known now [] = Unit {0}
+  Known now (x ∷ xs) = IsPrefix x.later now.later × (of_session x.number x.later ≡ of_session x.number now.later) × (x.forgotten ≤ now.forgotten) × Known now xs
 
-  known_of : (later : List Entry) (owner : ℕ → ℕ) (i : ℕ) (xs : List Member) → Fits key later owner i xs → Known later xs
-  known_of later owner i [] f = tt
-  known_of later owner i (x ∷ xs) f = (f.0.front, f.0.own, known_of later owner i xs f.2)
+  known_of : (now : Stretch) (owner : ℕ → ℕ) (i : ℕ) (xs : List Member) → Fits key now owner i xs → Known now xs
+  known_of now owner i [] f = tt
+  known_of now owner i (x ∷ xs) f = (f.0.front, f.0.own, f.0.less, known_of now owner i xs f.2)
 
   -- Who has all sessions finds the monitor at home
   pub closes : (id : ℕ) (xs : List Member) → Ascends 0 xs → length xs ≡ n → (ws : List ℕ) (slots : List (Option Journal)) → Final (Seen (Gated key) id (Sessions key xs)) ws slots
-      → (later : List Entry) × (get_elem? slots 0 ≡ some (Some (present key later))) × Known later xs × AllBelow n later × Stands (begun key) (base key ++ later)
+      → (now : Stretch) × (get_elem? slots 0 ≡ some (Some (present key now))) × Known now xs × AllBelow n now.later × Stands (begun key) (base key ++ now.later) × MayForget key now.forgotten
   closes id xs up all ws slots f = let s = f.0 in let at = f.1.1 in let v : View = Sessions key xs in let r = running key s f.1.0 id v at (omega arith) in let mine = (r.each_seat id v at).1 in
       dite (ℕ_discrete (get_or s.words 0 0) 0)
-      (λ free. (r.later, f.4 0 (Some (present key r.later)) (r.at_home free), known_of r.later r.owner id xs mine, r.theirs, r.legal))
-      (λ held. let h = r.away held in let theirs = (r.each_seat r.holder (Holding key h.0 r.later r.notes) h.1).4 in let small = theirs.known in
-      let seat : id ≡ r.holder = sym (owner_of r.later r.owner id 0 xs up mine h.0.number (omega arith) (omega arith)) ∙ theirs.here in
+      (λ free. (r.now, f.4 0 (Some (present key r.now)) (r.at_home free), known_of r.now r.owner id xs mine, r.theirs, r.legal, r.gone))
+      (λ held. let h = r.away held in let theirs = (r.each_seat r.holder (Holding key h.0 r.now r.notes) h.1).4 in let small = theirs.known in
+      let seat : id ≡ r.holder = sym (owner_of r.now r.owner id 0 xs up mine h.0.number (omega arith) (omega arith)) ∙ theirs.here in
       let two = ap tag (some-injective _ _ (sym at ∙ (ap (λ (j : ℕ). get_elem? s.views j) seat ∙ h.1))) in absurd (omega arith))
 
   pub splits_at : (id g : ℕ) (v : View) → v ≡ Giving key g → 0 < g → Splits (Gated key) id v (left_of v) (right_of v)
@@ -224,13 +227,17 @@ pub length-members : (ss : List Session) → length (members_of ss) ≡ length s
 length-members [] = refl
 length-members (s ∷ ss) = ap suc (length-members ss)
 
-has_all : (o : Office) (k : ℕ) (later : List Entry) (ss : List Session) → Ascending o k ss → Known o.charter later (members_of ss) → HasAll o (present o.charter later) ss
-has_all o k later [] a f = tt
-has_all o k later (s ∷ ss) a f = (
-  subst (λ (es : List Entry). IsPrefix es (base o.charter ++ later)) (sym (ap history a.0.1)) (prefix_after (base o.charter) (member_of s.view).later later f.0),
-  ap (of_session (number_of s.view)) (drop-append_seam (base o.charter) later) ∙ sym f.1,
-  has_all o (number_of s.view + 1) later ss a.2 f.2,
+has_all : (o : Office) (k : ℕ) (now : Stretch) (ss : List Session) → Ascending o k ss → Known o.charter now (members_of ss) → HasAll o (present o.charter now) ss
+has_all o k now [] a f = tt
+has_all o k now (s ∷ ss) a f = (
+  subst (λ (es : List Entry). IsPrefix es (base o.charter ++ now.later)) (sym (ap history a.0.1)) (prefix_after (base o.charter) (member_of s.view).later now.later f.0),
+  ap (of_session (number_of s.view)) (drop-append_seam (base o.charter) now.later) ∙ sym f.1,
+  has_all o (number_of s.view + 1) now ss a.2 f.3,
 )
+
+know_less : (o : Office) (now : Stretch) (ss : List Session) → Known o.charter now (members_of ss) → AllKnowLess (present o.charter now) ss
+know_less o now [] f = tt
+know_less o now (s ∷ ss) f = (f.2, know_less o now ss f.3)
 
 -- what stands in the slot of a closed table, once all sessions were joined
 pub leaves : (o : Office) (ss : List Session) → Ascending o 0 ss → length ss ≡ o.charter.count → (id : ℕ) (v : View) → v ≡ Sessions o.charter (members_of ss) → (ws : List ℕ) (slots : List (Option Journal))
@@ -241,10 +248,12 @@ leaves o ss up all id v is ws slots f =
       t.1,
       record {
         start = refl;
-        forgotten = refl;
-        begins = (t.0, refl);
+        forgotten = t.5.more;
+        known = know_less o t.0 ss t.2;
+        lasts = t.5.same;
+        begins = (t.0.later, refl);
         all = has_all o 0 t.0 ss up t.2;
-        below = subst (AllBelow o.charter.count) (sym (drop-append_seam (base o.charter) t.0)) t.3;
+        below = subst (AllBelow o.charter.count) (sym (drop-append_seam (base o.charter) t.0.later)) t.3;
         stands = t.4;
       },
     )
@@ -263,7 +272,7 @@ ascending_snoc o m (x ∷ ss) s a low u is = let small = u.0 in (a.0, a.1, ascen
 
 newcomers_both : (o : Office) (k : ℕ) → k ≤ o.charter.count → Ascending o 0 (newcomers o k) × AllUnder k (newcomers o k)
 newcomers_both o zero le = (tt, tt)
-newcomers_both o (suc k) le = let t = newcomers_both o k (omega arith) in let s : Session = session_at o.table (Sessions o.charter (member k [] ∷ [])) in
+newcomers_both o (suc k) le = let t = newcomers_both o k (omega arith) in let s : Session = session_at o.table (Sessions o.charter (member k (opened o.charter) ∷ [])) in
     (ascending_snoc o 0 (newcomers o k) s t.0 (omega arith) t.1 (refl, refl, omega arith), under_snoc k (newcomers o k) s t.1 refl)
 
 -- the sessions of an office as it is opened can close it

@@ -1,6 +1,7 @@
 -- What each kind of atomic step tells the seat that makes it, and which views it may change. A seat is its view and
 -- what it holds of the slot. Parking and waking change no view.
-use Rattle.std.specs.Prelude.{◌≡◌, ◌≢◌, ℕ, ◌-◌, if◌then◌else◌, nat_lt, List, [], ◌∷◌, ◌++◌, length, Option, Some, None}
+use Rattle.std.specs.Prelude.{◌≡◌, ◌≢◌, ℕ, ◌-◌, ◌≤◌, if◌then◌else◌, nat_lt, max, List, [], ◌∷◌, ◌++◌, length, Option, Some}
+use Rattle.std.specs.Prelude.{None}
 use mathlib.Core.List.{IsPrefix}
 use Rattle.atomic_table.specs.Table.{Me, Step}
 use Rattle.mls_requests.specs.declared.entry.Entry.{Entry}
@@ -12,7 +13,8 @@ use Rattle.mls_sessions.specs.declared.limits.TheConstants.{FIRST}
 use Rattle.mls_sessions.specs.Journals.{Charter}
 use Rattle.mls_turns.specs.Journals.{Journal, Stands}
 use Rattle.mls_monitor.specs.Entries.{of_session}
-use Rattle.mls_sessions.specs.Rule.{member, begun, base, present, news}
+use Rattle.mls_sessions.specs.Rule.{member, begun, base, stretch, opened, present, stretch_of}
+use Rattle.mls_sessions.specs.declared.gate_table.Stretch.{Stretch}
 use Rattle.mls_sessions.specs.declared.gate_table.Member.{Member}
 use Rattle.mls_sessions.specs.declared.gate_table.View.{View}
 use Rattle.mls_sessions.specs.declared.gate_table.View.TheVariants.{Spent, Starting, Filling, Giving, Sessions, Holding}
@@ -33,11 +35,16 @@ filled st me found me' = (c : Charter) → me.0 ≡ Starting c → (me' ≡ (Fil
 abbrev pub settled : OnWord → Seat → ℕ → Seat → Type 0
 settled st me found me' = (c : Charter) → me.0 ≡ Filling c → me' ≡ (Giving c c.count, [])
 
--- The monitor is out with the session, which learns that its history is a prefix of the journal, and that it knows its
--- own part. (own)
+-- What a session knows of a journal: its history is a prefix of it, it knows its own part, and at least so much of it is
+-- forgotten as it knows. (own)
+pub record IsBefore (m : Member) (t : Stretch) : Type 0 where
+  pub front : IsPrefix m.later t.later
+  pub own : of_session m.number m.later ≡ of_session m.number t.later
+  pub less : m.forgotten ≤ t.forgotten
+
+-- The monitor is out with the session, which learns what it knows of its journal. (own)
 abbrev pub Taken : Charter → Member → Seat → Type 0
-Taken c m me = (later : List Entry) × (me ≡ (Holding c m later [], (0, Some (present c later)) ∷ []))
-    × IsPrefix m.later later × (of_session m.number m.later ≡ of_session m.number later)
+Taken c m me = (t : Stretch) × (me ≡ (Holding c m t [], (0, Some (present c t)) ∷ [])) × IsBefore m t
 
 -- Win or lose: the gate was free, and the session holds, with that journal; or it was held, by another session, and no
 -- view changes. (own)
@@ -60,18 +67,18 @@ abbrev pub kept : OnWord → Seat → ℕ → Seat → Type 0
 kept st me found me' = me' ≡ (kept_view me.0, [])
 
 -- What stands in a slot, beyond the journal when the office was opened. (own)
-abbrev pub news_or : Charter → Option Journal → List Entry
-news_or c (Some j) = news c j
-news_or c None = []
+abbrev pub stretch_or : Charter → Option Journal → Stretch
+stretch_or c (Some j) = stretch_of c j
+stretch_or c None = opened c
 
 -- What a seat holds that was taken out of the slot, beyond the journal when the office was opened. (own)
-abbrev pub news_in : Charter → List (ℕ × Option Journal) → List Entry
-news_in c [] = []
-news_in c (x ∷ out) = news_or c x.1
+abbrev pub stretch_in : Charter → List (ℕ × Option Journal) → Stretch
+stretch_in c [] = opened c
+stretch_in c (x ∷ out) = stretch_or c x.1
 
 -- The holder's view once the monitor is home, with the journal that was put home. (own)
 abbrev pub updated_view : View → List (ℕ × Option Journal) → View
-updated_view (Holding c m taken notes) out = Sessions c (member m.number (news_in c out) ∷ [])
+updated_view (Holding c m taken notes) out = Sessions c (member m.number (stretch_in c out) ∷ [])
 updated_view v out = v
 
 -- Put home and free, after an entry or a check: the session holds no more, and its history is the journal put home.
@@ -82,9 +89,8 @@ updated st me found me' = me' ≡ (updated_view me.0 me.1, [])
 -- A session that doesn't hold the gate has read the word at a place: its history is now the present journal, of which
 -- the word tells the accesses. (own)
 abbrev pub Glimpsed : Charter → Member → ℕ → ℕ → Seat → Type 0
-Glimpsed c m i word me = (later : List Entry) × (me ≡ (Sessions c (member m.number later ∷ []), []))
-    × IsPrefix m.later later × (of_session m.number later ≡ of_session m.number m.later)
-    × Stands (begun c) (base c ++ later) × Tells (fold (begun c) (base c ++ later)) i word
+Glimpsed c m i word me = (t : Stretch) × (me ≡ (Sessions c (member m.number t ∷ []), [])) × IsBefore m t
+    × Stands (begun c) (base c ++ t.later) × Tells (fold (begun c) (base c ++ t.later)) i word
 
 -- A word of accesses is read with no lock: it is blank, and no view changes; or the session has seen the present
 -- journal. (own)
@@ -95,9 +101,8 @@ glanced st me found me' = (c : Charter) (m : Member) → me.0 ≡ Sessions c (m 
 -- A session that doesn't hold the gate has read the count of changes: its history is now the present journal, whose later
 -- entries have just so many. (own)
 abbrev pub Tallied : Charter → Member → ℕ → Seat → Type 0
-Tallied c m count me = (later : List Entry) × (me ≡ (Sessions c (member m.number later ∷ []), []))
-    × IsPrefix m.later later × (of_session m.number later ≡ of_session m.number m.later)
-    × Stands (begun c) (base c ++ later) × (count ≡ changes later)
+Tallied c m count me = (t : Stretch) × (me ≡ (Sessions c (member m.number t ∷ []), [])) × IsBefore m t
+    × Stands (begun c) (base c ++ t.later) × (count ≡ changes t.later)
 
 -- The count of changes is read with no lock: the session has seen the present journal. (own)
 abbrev pub tallied : OnWord → Seat → ℕ → Seat → Type 0
@@ -112,12 +117,12 @@ noted_view v i w = v
 -- journal leads to which the holder took. (own)
 abbrev pub read : OnWord → Seat → ℕ → Seat → Type 0
 read st me found me' = (me' ≡ (noted_view me.0 (st.word - FIRST) found, me.1))
-    × ((c : Charter) (m : Member) (taken : List Entry) (notes : List Note) → me.0 ≡ Holding c m taken notes
-    → Tells (fold (begun c) (base c ++ taken)) (st.word - FIRST) found × Agrees notes (st.word - FIRST) found)
+    × ((c : Charter) (m : Member) (taken : Stretch) (notes : List Note) → me.0 ≡ Holding c m taken notes
+    → Tells (fold (begun c) (base c ++ taken.later)) (st.word - FIRST) found × Agrees notes (st.word - FIRST) found)
 
 -- The holder's view once the entries of the monitor in the slot are in the present journal. (own)
 abbrev pub published_view : View → List (ℕ × Option Journal) → View
-published_view (Holding c m taken notes) out = Holding c (member m.number (news_in c out)) (news_in c out) []
+published_view (Holding c m taken notes) out = Holding c (member m.number (stretch_in c out)) (stretch_in c out) []
 published_view v out = v
 
 -- The entries of the monitor in the slot are in the present journal from this step on. (own)
@@ -139,6 +144,10 @@ pub record Agree (x y : Member) : Type 0 where
   pub first_own : of_session x.number (longer x.later y.later) ≡ of_session x.number x.later
   pub second_own : of_session y.number (longer x.later y.later) ≡ of_session y.number y.later
 
+-- What two sessions know together: the greater number of forgotten entries, and the longer history. (own)
+abbrev pub both_know : Member → Member → Stretch
+both_know x y = stretch (max x.forgotten y.forgotten) (longer x.later y.later)
+
 -- A look in a meeting: no view changes, and the two sessions in one seat agree. (own)
 abbrev pub looked : OnWord → Seat → ℕ → Seat → Type 0
 looked st me found me' = (me' ≡ me) × ((c : Charter) (x y : Member) → me.0 ≡ Sessions c (x ∷ y ∷ []) → Agree x y)
@@ -150,7 +159,7 @@ left_of v = v
 
 -- The new seat has the session of that number, whose history is the journal when the office was opened. (own)
 abbrev pub right_of : View → View
-right_of (Giving c g) = Sessions c (member (c.count - g) [] ∷ [])
+right_of (Giving c g) = Sessions c (member (c.count - g) (opened c) ∷ [])
 right_of v = Spent
 
 -- Join: the seat that stays lists the sessions of both; the other's view is spent. (own)
@@ -158,12 +167,12 @@ abbrev pub both_of : View → View → View
 both_of (Sessions c xs) (Sessions d ys) = Sessions c (xs ++ ys)
 both_of v w = v
 
--- Split, in a meeting: one session each again, both with the longer history. This is the first. (own)
+-- Split, in a meeting: one session each again, both with what they know together. This is the first. (own)
 abbrev pub first_of_two : View → View
-first_of_two (Sessions c (x ∷ y ∷ rest)) = Sessions c (member x.number (longer x.later y.later) ∷ [])
+first_of_two (Sessions c (x ∷ y ∷ rest)) = Sessions c (member x.number (both_know x y) ∷ [])
 first_of_two v = v
 
--- Where two sessions met, the second of them with the longer history. (own)
+-- Where two sessions met, the second of them with what they know together. (own)
 abbrev pub second_of_two : View → View
-second_of_two (Sessions c (x ∷ y ∷ rest)) = Sessions c (member y.number (longer x.later y.later) ∷ [])
+second_of_two (Sessions c (x ∷ y ∷ rest)) = Sessions c (member y.number (both_know x y) ∷ [])
 second_of_two v = Spent

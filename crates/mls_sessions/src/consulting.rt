@@ -1,11 +1,9 @@
 //! One session's turn at the gate in which it makes no entry: it asks what would be replied, or puts a question.
 ghost use Rattle.std.specs.Prelude.{◌≡◌, ◌+◌, length};
-ghost use mathlib.Core.List.{IsPrefix};
 ghost use Rattle.mls_rules.specs.Rules.{reply};
 ghost use Rattle.mls_monitor.specs.Journal.{fold};
-ghost use Rattle.mls_monitor.specs.Entries.{of_session};
 ghost use Rattle.mls_sessions.specs.Rule.{begun};
-ghost use Rattle.mls_sessions.specs.Steps.{kept_view};
+ghost use Rattle.mls_sessions.specs.Steps.{IsBefore, kept_view};
 ghost use Rattle.mls_sessions.specs.Sessions.{member_of, taken_of, seated, Holds, Sees, history, journal_seen, number_of};
 
 use crate::counts::Counts;
@@ -35,9 +33,7 @@ pub(crate) fn consult(
 ) -> (Decision, bool)
     requires office { (seat.old.table_id ≡ gate.now.table_id) × (gate.now.table_id.words ≡ gate.now.key.cells + FIRST) }
     requires session { Holds gate.now.key monitor seat.old.me }
-    requires own { of_session (number_of seat.old.me.0) (taken_of seat.old.me.0)
-        ≡ of_session (number_of seat.old.me.0) (member_of seat.old.me.0).later }
-    requires front { IsPrefix (member_of seat.old.me.0).later (taken_of seat.old.me.0) }
+    requires before { IsBefore (member_of seat.old.me.0) (taken_of seat.old.me.0) }
     ensures seat { (seat.new.table_id ≡ seat.old.table_id) × (seat.new.id ≡ seat.old.id) }
     ensures session { (seat.new.me ≡ seated gate.now.key (member_of seat.new.me.0))
         × (number_of seat.new.me.0 ≡ number_of seat.old.me.0) }
@@ -65,9 +61,7 @@ pub(crate) fn inquire<Q: Question>(
 ) -> bool
     requires office { (seat.old.table_id ≡ gate.now.table_id) × (gate.now.table_id.words ≡ gate.now.key.cells + FIRST) }
     requires session { Holds gate.now.key monitor seat.old.me }
-    requires own { of_session (number_of seat.old.me.0) (taken_of seat.old.me.0)
-        ≡ of_session (number_of seat.old.me.0) (member_of seat.old.me.0).later }
-    requires front { IsPrefix (member_of seat.old.me.0).later (taken_of seat.old.me.0) }
+    requires before { IsBefore (member_of seat.old.me.0) (taken_of seat.old.me.0) }
     ensures seat { (seat.new.table_id ≡ seat.old.table_id) × (seat.new.id ≡ seat.old.id) }
     ensures session { (seat.new.me ≡ seated gate.now.key (member_of seat.new.me.0))
         × (number_of seat.new.me.0 ≡ number_of seat.old.me.0) }

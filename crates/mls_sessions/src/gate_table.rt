@@ -15,12 +15,14 @@ use std::collections::LinkedList;
 use std::marker::Model;
 use std::snapshot::Snapshot;
 
-/// What an office was opened with: the monitor, how many sessions, and how many words of accesses.
+/// What an office was opened with: the monitor, how many sessions, how many words of accesses, and whether its journal
+/// lasts.
 #[derive(Drop)]
 pub struct Charter {
     opened: Snapshot<Monitor>,
     count: u64,
     cells: u64,
+    lasts: bool,
 }
 
 impl Model for Charter {
@@ -36,27 +38,37 @@ impl Model for Charter {
       entries = c.opened.value.entries;
       count = c.count;
       cells = c.cells;
+      lasts = c.lasts;
     } };
 }
 
 impl Charter {
     ghost use Rattle.mls_sessions.specs.Journals.{charter_of};
 
-    /// The monitor, so many sessions, and so many words of accesses.
-    pub(crate) fn of(monitor: &Monitor, count: u64, cells: u64) -> Charter
-        ensures { result ≡ charter_of monitor.now count cells }
+    /// The monitor, so many sessions, so many words of accesses, and whether its journal lasts.
+    pub(crate) fn of(monitor: &Monitor, count: u64, cells: u64, lasts: bool) -> Charter
+        ensures { result ≡ charter_of monitor.now count cells lasts }
     {
         Charter {
             opened: Snapshot::of(monitor),
             count,
             cells,
+            lasts,
         }
     }
 }
 
-/// A session's number, and what it has seen of the journal since the office was opened.
+/// How many entries of a journal are forgotten, and which were added since the office was opened.
+pub struct Stretch {
+    pub forgotten: u64,
+    pub later: LinkedList<Entry>,
+}
+
+/// A session's number, how many entries it knows to be forgotten, and what it has seen of the journal since the office
+/// was opened.
 pub struct Member {
     pub number: u64,
+    pub forgotten: u64,
     pub later: LinkedList<Entry>,
 }
 
@@ -80,7 +92,7 @@ pub enum View {
     Sessions(Charter, LinkedList<Member>),
     /// Its session holds the gate, and took the monitor out, or published it, with this journal since the opening. It
     /// noted this of words of accesses.
-    Holding(Charter, Member, LinkedList<Entry>, LinkedList<Note>),
+    Holding(Charter, Member, Stretch, LinkedList<Note>),
 }
 
 /// The gate's rule, which each atomic step keeps.

@@ -86,8 +86,8 @@ pub(crate) fn store_word(
         ≡ noting gate.now.key (member_of seat.old.me.0) (taken_of seat.old.me.0) (notes_of seat.old.me.0) }
     requires place { at < gate.now.key.cells }
     requires entries { (added : List Entry) × HasMore gate.now.key seat.old.me added monitor
-        × OneWord (begun gate.now.key) (base gate.now.key ++ taken_of seat.old.me.0)
-        (base gate.now.key ++ (taken_of seat.old.me.0 ++ added)) (notes_of seat.old.me.0) gate.now.key.cells at word
+        × OneWord (begun gate.now.key) (base gate.now.key ++ (taken_of seat.old.me.0).later)
+        (base gate.now.key ++ ((taken_of seat.old.me.0).later ++ added)) (notes_of seat.old.me.0) gate.now.key.cells at word
         × (changes added ≡ 0) }
     ensures seat { (seat.new.table_id ≡ seat.old.table_id) × (seat.new.id ≡ seat.old.id) }
     ensures holds { Holds gate.now.key result seat.new.me × (number_of seat.new.me.0 ≡ number_of seat.old.me.0) }
@@ -140,7 +140,7 @@ pub(crate) fn read(gate: &Gate, seat: &mut GateSeat, at: u32) -> u64
     ensures noted { seat.new.me ≡ noting gate.now.key (member_of seat.old.me.0) (taken_of seat.old.me.0)
         (note at result ∷ notes_of seat.old.me.0) }
     ensures agrees { Agrees (notes_of seat.old.me.0) at result }
-    ensures tells { Tells (fold (begun gate.now.key) (base gate.now.key ++ taken_of seat.old.me.0)) at result }
+    ensures tells { Tells (fold (begun gate.now.key) (base gate.now.key ++ (taken_of seat.old.me.0).later)) at result }
 {
     gate.load::<Read>(seat, at as usize + FIRST)
 }
@@ -170,7 +170,7 @@ pub(crate) fn hide(gate: &Gate, seat: &mut GateSeat, at: u32) -> u64
     ensures finer { Finer (notes_of seat.old.me.0) (notes_of seat.new.me.0) }
     ensures blank { (w : ℕ) → Agrees (notes_of seat.new.me.0) at w → w ≡ 0 }
     ensures agrees { Agrees (notes_of seat.old.me.0) at result }
-    ensures tells { Tells (fold (begun gate.now.key) (base gate.now.key ++ taken_of seat.old.me.0)) at result }
+    ensures tells { Tells (fold (begun gate.now.key) (base gate.now.key ++ (taken_of seat.old.me.0).later)) at result }
 {
     let word = read(gate, seat, at);
     if word != BLANK {

@@ -10,6 +10,7 @@ mod closing;
 mod consulting;
 mod counts;
 mod exchange;
+mod forgetting;
 mod gate;
 mod gate_table;
 mod holding;

@@ -1,7 +1,6 @@
 //! How an office opens: the monitor is put in, and each session gets a seat.
-ghost use Rattle.std.specs.Prelude.{◌≡◌, ◌+◌, ◌≤◌, [], vec_len, vec_capacity, IfOk, IfErr};
+ghost use Rattle.std.specs.Prelude.{◌≡◌, ◌+◌, ◌≤◌, [], vec_len, vec_capacity, IfOk};
 ghost use Rattle.mls_sessions.specs.declared.gate_table.View.TheVariants.{Starting, Giving};
-ghost use Rattle.mls_sessions.specs.Journals.{charter_of};
 ghost use Rattle.mls_turns.specs.Journals.{journal};
 ghost use Rattle.mls_sessions.specs.Rule.{begun, base, base_length};
 ghost use Rattle.mls_sessions.specs.Sessions.{office_at, newcomers};
@@ -9,12 +8,10 @@ ghost use Rattle.mls_sessions.specs.Sessions.{office_at, newcomers};
 use crate::gate::{FREE, OPENING, WORD, put_home};
 use crate::gate_table::{Charter, Gate, GateSeat, GateTable};
 use crate::limits::FIRST;
-use crate::office_fault::{OfficeFault, OfficeFaultKind};
 use crate::session::Session;
 use crate::steps::{Fill, Give, Settle};
-use mls_monitor::Monitor;
 use mls_turns::BoxedMonitor;
-use std::alloc::Global;
+use std::alloc::{AllocError, Global};
 
 /// Puts the monitor into the empty slot.
 pub(crate) fn settle(gate: &Gate, seat: &mut GateSeat, monitor: BoxedMonitor)
@@ -30,47 +27,24 @@ pub(crate) fn settle(gate: &Gate, seat: &mut GateSeat, monitor: BoxedMonitor)
     let _ = may_sleep;
 }
 
-/// A table for so many sessions, with so many words of accesses and the monitor in its slot, and its first seat.
+/// A table for the sessions of an office that is opened with that, with an empty slot, and its first seat.
 ///
 /// # Errors
-/// `Memory` where an allocation failed, with the monitor as it was handed in.
-pub(crate) fn open_table(
+/// `AllocError` where an allocation failed.
+pub(crate) fn vacant_table(
     alloc: Global,
-    monitor: Monitor,
-    count: u32,
+    charter: &Charter,
     cells: u32,
-) -> Result<(GateTable, GateSeat), OfficeFault>
+) -> Result<(GateTable, GateSeat), AllocError>
+    requires { charter.now.cells ≡ cells }
     ensures table { IfOk result
-        (λ r. (r.0.shared.table_id.words ≡ r.0.shared.key.cells + FIRST) × (r.0.shared.table_id.slots ≡ 1)) }
-    ensures charter { IfOk result (λ r. r.0.shared.key ≡ charter_of monitor count cells) }
-    ensures seat { IfOk result
-        (λ r. (r.1.table_id ≡ r.0.shared.table_id) × (r.1.me ≡ (Giving r.0.shared.key count, []))) }
-    ensures err { IfErr result (λ fault. (fault.kind ≡ OfficeFaultKind.Memory) × (fault.monitor ≡ monitor)) }
+        (λ r. (r.0.shared.table_id.words ≡ cells + FIRST) × (r.0.shared.table_id.slots ≡ 1)) }
+    ensures charter { IfOk result (λ r. r.0.shared.key ≡ charter.now) }
+    ensures seat { IfOk result (λ r. (r.1.table_id ≡ r.0.shared.table_id) × (r.1.me ≡ (Starting charter.now, []))) }
 {
-    let charter = Charter::of(&monitor, u64::from(count), u64::from(cells));
-    let Ok(words) = Vec::from_elem(alloc, FREE, cells as usize + FIRST) else {
-        return Err(OfficeFault {
-            kind: OfficeFaultKind::Memory,
-            monitor,
-        });
-    };
-    let made: Result<(GateTable, GateSeat), _> = GateTable::vacant(alloc, &words, 1, &charter);
-    let Ok((table, mut seat)) = made else {
-        return Err(OfficeFault {
-            kind: OfficeFaultKind::Memory,
-            monitor,
-        });
-    };
-    match BoxedMonitor::new(alloc, monitor) {
-        Ok(boxed) => {
-            settle(&table.shared, &mut seat, boxed);
-            Ok((table, seat))
-        }
-        Err(refused) => Err(OfficeFault {
-            kind: OfficeFaultKind::Memory,
-            monitor: refused.value,
-        }),
-    }
+    let words = Vec::from_elem(alloc, FREE, cells as usize + FIRST)?;
+    let made: (GateTable, GateSeat) = GateTable::vacant(alloc, &words, 1, charter)?;
+    Ok(made)
 }
 
 /// Makes the sessions, one for each number.

@@ -1,5 +1,5 @@
 //! A run of feeds: one thread for each session, which asks for what its feed gives.
-ghost use Rattle.std.specs.Prelude.{◌≡◌, ◌≢◌, ◌+◌, ◌<◌, ◌≤◌, ◌∷◌, ◌++◌, [], false, length, drop, IfOk, IfErr, OnOk};
+ghost use Rattle.std.specs.Prelude.{◌≡◌, ◌≢◌, ◌+◌, ◌<◌, ◌≤◌, ◌∷◌, ◌++◌, [], true, false, length, drop, IfOk, IfErr, OnOk};
 ghost use Rattle.std.specs.Prelude.{IsTrue, vec_len, vec_capacity};
 ghost use denote.Param.Send.{IsSync};
 ghost use Rattle.mls_turns.specs.Journals.{journal_of};
@@ -118,6 +118,7 @@ pub(crate) fn run_open<R: Threads + Wait + Sync, F: Feed + Send + Drop>(
 ) -> (Monitor, Vec<F>, Asked)
     requires sessions { Ascending opened.0 0 opened.1.items }
     requires newcomers { opened.1.items ≡ newcomers opened.0 opened.0.charter.count }
+    requires lasts { opened.0.charter.lasts ≡ true }
     requires ready { AllAt F.stands_at Stage.Ready feeds.items }
     requires counts { (vec_len feeds ≡ vec_len opened.1) × (vec_len opened.1 ≡ opened.0.charter.count)
         × (back.items ≡ []) × (fed.items ≡ []) }
@@ -213,7 +214,7 @@ pub fn run_sessions<R: Threads + Wait + Sync, F: Feed + Send + Drop>(
             feeds,
         });
     };
-    match Office::open(alloc, monitor, n) {
+    match Office::open_as(alloc, monitor, n, true) {
         Ok(opened) => ended(run_open(rt, alloc, opened, feeds, back, fed)),
         Err(fault) => Err(RunFault {
             kind: RunFaultKind::Memory,

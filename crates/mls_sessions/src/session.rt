@@ -1,13 +1,14 @@
 //! A session: what one thread asks of the monitor, and what it has seen of the journal.
 ghost use Rattle.std.specs.Prelude.{◌≡◌, ◌≤◌, [], length};
 ghost use Rattle.mls_sessions.specs.Journals.{Charter};
-ghost use Rattle.mls_sessions.specs.Rule.{member, base_length};
+ghost use Rattle.mls_sessions.specs.Rule.{member, opened, base_length};
 ghost use Rattle.mls_sessions.specs.Sessions.{session_at, seated, IsOf, Meets, history, own, number_of};
 
 mod asking;
 mod changing;
 mod checking;
 mod deciding;
+mod forgetting;
 mod seeing;
 
 use crate::counts::Counts;
@@ -43,7 +44,7 @@ impl Model for Session {
 impl Session {
     /// A session that has seen what the office was opened with.
     pub(crate) fn enter(seat: GateSeat, number: u32, base: u64) -> Session
-        requires { (c : Charter) × (seat.me ≡ seated c (member number [])) × (base ≡ base_length c) }
+        requires { (c : Charter) × (seat.me ≡ seated c (member number (opened c))) × (base ≡ base_length c) }
         ensures { result ≡ session_at seat.table_id seat.me.0 }
     {
         Session {
@@ -92,7 +93,8 @@ impl Session {
         self.counts.seen
     }
 
-    /// Gives both sessions the longer of their two histories; the shorter was a prefix of it. It doesn't wait.
+    /// Gives both sessions the longer of their two histories; the shorter was a prefix of it. Both then know the greater
+    /// number of forgotten entries. It doesn't wait.
     #[tactic(auto, using(crate::proofs::Meetings::met_counts))]
     pub fn meet(&mut self, other: &mut Session, office: &Office)
         requires { IsOf office.now self.old × IsOf office.now other.old }

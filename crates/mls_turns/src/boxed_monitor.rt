@@ -4,7 +4,8 @@ ghost use Rattle.std.specs.FinSet as set;
 ghost use Rattle.mls_state.specs.State.{is_active};
 ghost use Rattle.mls_rules.specs.Rules.{reply};
 ghost use Rattle.mls_monitor.specs.Journal.{fold};
-ghost use Rattle.mls_turns.specs.Journals.{journal_of, Appends, Stands};
+ghost use Rattle.mls_monitor.specs.Tails.{forgotten_of};
+ghost use Rattle.mls_turns.specs.Journals.{journal, journal_of, Appends, Stands};
 
 use mls_monitor::Monitor;
 use mls_requests::{Entry, Reply, Request};
@@ -60,6 +61,14 @@ impl BoxedMonitor {
         ensures err { IfErr result (λ _. self.new ≡ self.old) }
     {
         self.monitor.submit(session, request)
+    }
+
+    /// Forgets the entries with numbers below `n`, as far as they are there, and below the limit that a monitor has.
+    pub fn forget(&mut self, n: u64)
+        ensures { self.new
+            ≡ journal self.old.start (forgotten_of self.old.forgotten (length self.old.entries) n) self.old.entries }
+    {
+        self.monitor.forget(n);
     }
 
     /// Whether the triple is a current access.

@@ -387,6 +387,7 @@ extern "C" {
         len: *mut usize,
         next: *mut u64,
     ) -> c_int;
+    pub fn mls_session_forget(s: *mut mls_session, n: u64) -> c_int;
     pub fn mls_session_decide_label(
         s: *mut mls_session,
         subject: u16,

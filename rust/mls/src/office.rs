@@ -157,15 +157,36 @@ impl Session {
             Err(status) => unknown("mls_session_entry_text", status),
         }
     }
+
+    /// Forgets the entries below n, as far as they are there, so that memory doesn't grow: no session can read them any
+    /// more. All else stays: the state, and the numbers of later entries.
+    pub fn forget(&mut self, n: u64) {
+        if let Err(status) = until_free(|| self.handle.forget(n)) {
+            unknown("mls_session_forget", status)
+        }
+    }
 }
 
-/// Makes a call until no other session is at the monitor. It pauses twice as long each time, and then gives its time
-/// slice to other threads.
+/// From this round on a session that waits first gives its time slice to other threads.
+const YIELDS: u32 = 7;
+
+/// From this round on its pauses are equally long.
+const LONGEST: u32 = 10;
+
+/// Pauses before a call is made again: twice as long each round, up to 5 to 50 microseconds. A thread that asks more
+/// often takes turns from the others, and each turn costs more.
+fn pause(round: u32) {
+    if round >= YIELDS {
+        thread::yield_now();
+    }
+    (0..1 << round.min(LONGEST)).for_each(|_| spin_loop());
+}
+
+/// Makes a call until no other session is at the monitor.
 pub(crate) fn until_free<T>(mut call: impl FnMut() -> Result<T, i32>) -> Result<T, i32> {
     for round in 0u32.. {
         match call() {
-            Err(MLS_EBUSY) if round < 7 => (0..1 << round).for_each(|_| spin_loop()),
-            Err(MLS_EBUSY) => thread::yield_now(),
+            Err(MLS_EBUSY) => pause(round),
             told => return told,
         }
     }

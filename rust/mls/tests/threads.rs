@@ -117,6 +117,22 @@ fn a_session_sees_and_reads_what_another_did() {
 }
 
 #[test]
+fn entries_are_forgotten_while_an_office_is_open() {
+    let monitor = Monitor::open(START).unwrap();
+    let (ann, plans) = (monitor.subject("ann").unwrap(), monitor.object("plans").unwrap());
+    let (office, mut sessions) = Office::open(monitor, 2).unwrap();
+    let (mut one, mut other) = (sessions.remove(0), sessions.remove(0));
+    assert!(one.get(ann, plans, Mode::Read).unwrap().is_granted());
+    assert_eq!(other.release(ann, plans, Mode::Read).unwrap().number, 1);
+    let last = one.lines(1, 1 << 16).unwrap();
+    one.forget(1);
+    assert_eq!(other.lines(0, 1 << 16), Err(LinesError::NoSuchEntry));
+    assert_eq!(other.lines(1, 1 << 16), Ok(last.clone()));
+    let monitor = office.close(vec![one, other]).unwrap();
+    assert_eq!((monitor.forgotten(), monitor.entry_count(), monitor.line(1)), (1, 2, Ok(last.0)));
+}
+
+#[test]
 fn an_office_is_closed_with_its_sessions_alone() {
     for count in [0, Office::MAX_SESSIONS + 1] {
         let refused = Office::open(Monitor::open(START).unwrap(), count).unwrap_err();

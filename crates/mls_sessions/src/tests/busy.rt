@@ -1,4 +1,5 @@
 //! A session tries while another holds the gate.
+ghost use Rattle.std.specs.Prelude.{◌≡◌, false};
 ghost use Rattle.mls_sessions.specs.Sessions.{IsOf};
 
 use crate::counts::Counts;
@@ -67,10 +68,11 @@ fn makes_and_deletes(rt: &impl Abort, office: &Office, second: &mut Session)
 /// The second session is told that the gate is busy, but where it reads the word that was written, which the deletion
 /// of another object left; it has seen and made what it had.
 fn is_busy(rt: &impl Abort, office: &Office, second: &mut Session)
-    requires { IsOf office.now second.old }
+    requires { IsOf office.now second.old × (office.now.charter.lasts ≡ false) }
     ensures { IsOf office.now second.new }
 {
     let before = (second.made(), second.seen());
+    assert!(rt; second.try_forget(office, 1) == Err(Busy));
     assert!(rt; second.try_submit(office, get_read()) == Err(TryFault::Busy));
     assert!(rt; second.try_check(office, SubjectId(0), ObjectId(1), Mode::Read) == Err(Busy));
     assert!(rt; second.try_check(office, SubjectId(0), ObjectId(0), Mode::Read) == Ok(true));
@@ -79,7 +81,7 @@ fn is_busy(rt: &impl Abort, office: &Office, second: &mut Session)
 
 /// The first session takes the monitor out, and puts it home once the second has tried, which is then answered.
 fn holds_and_puts_home(rt: &impl Abort, office: &Office, first: Session, second: &mut Session)
-    requires { IsOf office.now first × IsOf office.now second.old }
+    requires { IsOf office.now first × IsOf office.now second.old × (office.now.charter.lasts ≡ false) }
 {
     let gate = &office.table.shared;
     let number = first.number();

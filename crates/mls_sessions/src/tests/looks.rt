@@ -1,5 +1,5 @@
 //! Sessions that look at a held gate never, once or often before they nap or sleep: all threads come to their end.
-ghost use Rattle.std.specs.Prelude.{◌≡◌, length, vec_len, IfOk, IsTrue};
+ghost use Rattle.std.specs.Prelude.{◌≡◌, true, length, vec_len, IfOk, IsTrue};
 ghost use Rattle.mls_monitor.specs.Feeds.{AllAt};
 ghost use Rattle.mls_sessions.specs.Sessions.{Ascending, newcomers};
 
@@ -95,6 +95,7 @@ fn ask_all<R: Threads + Wait + Sync>(
 ) -> Result<usize, AllocError>
     requires sessions { Ascending opened.0 0 opened.1.items }
     requires newcomers { opened.1.items ≡ newcomers opened.0 opened.0.charter.count }
+    requires lasts { opened.0.charter.lasts ≡ true }
     requires ready { AllAt (λ f. f.stage) Stage.Ready feeds.items }
     requires counts { (vec_len feeds ≡ vec_len opened.1) × (vec_len opened.1 ≡ opened.0.charter.count) }
 {
@@ -115,7 +116,7 @@ fn entries_left<R: Threads + Wait + Sync>(
     count: u16,
     each: u64,
 ) -> Result<usize, AllocError> {
-    let Ok((office, sessions)) = Office::open(alloc, small_monitor(alloc)?, count) else {
+    let Ok((office, sessions)) = Office::open_as(alloc, small_monitor(alloc)?, count, true) else {
         return Err(AllocError);
     };
     let feeds = make_feeds(alloc, &sessions, each)?;

@@ -121,6 +121,12 @@ impl SessionHandle {
         told(status, (text, next))
     }
 
+    /// Has `mls_session_forget` forget the entries below a number, or its status.
+    pub fn forget(&mut self, n: u64) -> Result<(), c_int> {
+        // SAFETY: `self` is borrowed by nobody else.
+        told(unsafe { mls_session_forget(&mut self.0, n) }, ())
+    }
+
     /// The reply of `mls_session_decide_label`, or its status.
     pub fn decide_label(
         &mut self,

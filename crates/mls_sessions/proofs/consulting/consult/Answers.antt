@@ -16,7 +16,7 @@ left c = c.put_home-may_sleep.ensures.told.1
 
 pub returns-clause-seen : goal.returns-clause-seen
 returns-clause-seen c = let held = c.requires.session in
-    sees c.args.gate.now.key _ (ap (λ m. m.0) held.0) c.args.monitor held.1 c.requires.front c.requires.own c.put_home-may_sleep.ensures.legal _ (left c)
+    sees c.args.gate.now.key _ (ap (λ m. m.0) held.0) c.args.monitor held.1 c.requires.before c.put_home-may_sleep.ensures.legal _ (left c)
 
 pub returns-clause-session : goal.returns-clause-session
 returns-clause-session c = let held = c.requires.session in home_seat c.args.gate.now.key _ (ap (λ m. m.0) held.0) c.args.monitor held.1 _ (left c)

@@ -9,7 +9,7 @@ put_home-is_marked-requires-clause-rule g c = let held = c.requires.session in �
 
 pub returns-clause-seen : goal.returns-clause-seen
 returns-clause-seen g c = let held = c.requires.session in
-    sees c.args.gate.now.key _ (ap (λ m. m.0) held.0) c.args.monitor held.1 c.requires.front c.requires.own c.put_home-is_marked.ensures.legal _ c.put_home-is_marked.ensures.told.1
+    sees c.args.gate.now.key _ (ap (λ m. m.0) held.0) c.args.monitor held.1 c.requires.before c.put_home-is_marked.ensures.legal _ c.put_home-is_marked.ensures.told.1
 
 pub returns-clause-session : goal.returns-clause-session
 returns-clause-session g c = let held = c.requires.session in home_seat c.args.gate.now.key _ (ap (λ m. m.0) held.0) c.args.monitor held.1 _ c.put_home-is_marked.ensures.told.1

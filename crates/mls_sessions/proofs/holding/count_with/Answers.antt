@@ -1,4 +1,4 @@
-use Rattle.std.proofs.Common.{ap, ◌∙◌, rules, arith}
+use Rattle.std.proofs.Common.{ap, ◌∙◌}
 use Rattle.mls_sessions.proofs.holding.count_with.Goals as goal
 
 pub take_up-requires-clause-lies : goal.take_up-requires-clause-lies

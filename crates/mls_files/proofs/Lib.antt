@@ -1,0 +1,3 @@
+mod Followed
+mod Compared
+mod Closing
