@@ -16,6 +16,7 @@ mod run_text;
 mod start_file;
 mod state_before;
 mod state_replay;
+mod text_replay;
 
 pub use checking::{START_LIMIT, check_start};
 pub use command::{CommandFault, status};
@@ -30,3 +31,4 @@ pub use replaying_at::replay_at;
 pub use run_text::{MAX_SCRIPTS, RunText, push_ending, push_heading, with_journal};
 pub use start_file::load_start;
 pub use state_replay::{StateReplay, replay_state_at};
+pub use text_replay::TextReplay;
