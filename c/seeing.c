@@ -52,7 +52,7 @@ static void *look(void *at) {
     uint64_t seen, last = 0;
     int held;
     for (n = 0; n < rounds; n++, last = seen) {
-        while ((seen = heard()) == last) mls_pause(MLS_ROUNDS);
+        while ((seen = heard()) == last) mls_pause(MLS_YIELDS);
         if (by_seeing) *bad += mls_wait_see(s, UINT64_MAX) != MLS_EAGAIN;
         *bad += !has_seen(s, seen);
         *bad += mls_wait_check(s, ANN, MADE, MLS_READ, &held) != MLS_OK || held;
@@ -81,7 +81,7 @@ static void revoke(void) {
         number = grant(MLS_RESCIND, SEC);
         __atomic_store_n(&checked, 0, __ATOMIC_RELEASE);
         __atomic_store_n(&told, number + 1, __ATOMIC_RELEASE);
-        while (__atomic_load_n(&checked, __ATOMIC_ACQUIRE) < OTHERS) mls_pause(MLS_ROUNDS);
+        while (__atomic_load_n(&checked, __ATOMIC_ACQUIRE) < OTHERS) mls_pause(MLS_YIELDS);
     }
 }
 

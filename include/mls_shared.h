@@ -236,17 +236,18 @@ MLS_INLINE void mls_shared_destroy(mls_shared *s) {
     if (pthread_mutex_destroy(&s->mutex)) abort();
 }
 
-/* How a session that got MLS_EBUSY pauses before it asks again: twice as long each round up to
- * round MLS_LONGEST, which takes 5 to 50 microseconds. From round MLS_ROUNDS on it first gives its
- * time slice to other threads. Meanwhile the monitor stays in the cache of the processor that has
- * it: a thread that asks more often takes turns from the others, and each turn costs more. */
-enum { MLS_ROUNDS = 7, MLS_LONGEST = 10 };
+/* How a session that got MLS_EBUSY pauses before it asks again: MLS_SHORTEST pause instructions, 1
+ * or 2 microseconds, and twice as many each round up to round MLS_ROUNDS, 5 to 50 microseconds.
+ * From round MLS_YIELDS on it first gives its time slice to other threads. Meanwhile the monitor
+ * stays in the cache of the processor that has it: a thread that asks more often takes turns from
+ * the others, and each turn costs more. */
+enum { MLS_SHORTEST = 32, MLS_YIELDS = 2, MLS_ROUNDS = 5 };
 
 MLS_INLINE void mls_pause(unsigned round) {
-    unsigned left;
-    if (round >= MLS_ROUNDS) sched_yield();
-    if (round > MLS_LONGEST) round = MLS_LONGEST;
-    for (left = 1u << round; left; left--) {
+    unsigned left = MLS_SHORTEST;
+    if (round >= MLS_YIELDS) sched_yield();
+    if (round > MLS_ROUNDS) round = MLS_ROUNDS;
+    for (left <<= round; left; left--) {
 #if defined(__GNUC__) && (defined(__x86_64__) || defined(__i386__))
         __builtin_ia32_pause();
 #elif defined(__GNUC__) && defined(__aarch64__)

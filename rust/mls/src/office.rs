@@ -167,19 +167,22 @@ impl Session {
     }
 }
 
-/// From this round on a session that waits first gives its time slice to other threads.
-const YIELDS: u32 = 7;
+/// A session that waits pauses for so many spins at first.
+const SHORTEST: u32 = 32;
+
+/// From this round on it first gives its time slice to other threads.
+const YIELDS: u32 = 2;
 
 /// From this round on its pauses are equally long.
-const LONGEST: u32 = 10;
+const ROUNDS: u32 = 5;
 
-/// Pauses before a call is made again: twice as long each round, up to 5 to 50 microseconds. A thread that asks more
-/// often takes turns from the others, and each turn costs more.
+/// Pauses before a call is made again: 1 or 2 microseconds, and twice as long each round, up to 5 to 50. A thread that
+/// asks more often takes turns from the others, and each turn costs more.
 fn pause(round: u32) {
     if round >= YIELDS {
         thread::yield_now();
     }
-    (0..1 << round.min(LONGEST)).for_each(|_| spin_loop());
+    (0..SHORTEST << round.min(ROUNDS)).for_each(|_| spin_loop());
 }
 
 /// Makes a call until no other session is at the monitor.
