@@ -1,6 +1,7 @@
 //! What files are seen as that a question is asked over: a start file, and a journal whole or from a cut on.
 #![tactic(auto)]
 
+mod beginning;
 mod history;
 mod kept;
 mod opened;
@@ -8,6 +9,7 @@ mod seeing;
 mod seen;
 mod source;
 mod taking;
+mod text_history;
 mod theorems;
 
 pub use history::History;
@@ -16,4 +18,5 @@ pub use opened::Opened;
 pub use seeing::Seeing;
 pub use seen::Seen;
 pub use taking::replay_until;
+pub use text_history::{TextHistory, TextRefused};
 pub use theorems::cut_journals_are_seen_as_whole_ones;
