@@ -312,7 +312,7 @@ module _ (key : Charter) where
           gives,
           tt,
           subst (λ (b : Journal). Gated key (stepped s 0 0 id ((0, Some b) ∷ []) (Sessions key (i ∷ [])) gives)) (sym is') (inr (inr home)),
-          refl,
+          (refl, ap (λ (b : Journal). (0, Some b) ∷ []) is),
         )
 
   -- the office is opened: the empty slot is taken, and the monitor is put home
@@ -422,9 +422,6 @@ module _ (key : Charter) where
 
     pub stays_at : Allows (Gated key) slots id (v, (0, Some m) ∷ []) 0 (λ _. 0) (λ _. kept (step slots 0 0 0 maybe.none) (v, (0, Some m) ∷ []) 0)
     stays_at = subst (λ (w : View). Allows (Gated key) slots id (w, (0, Some m) ∷ []) 0 (λ _. 0) (λ _. kept (step slots 0 0 0 maybe.none) (w, (0, Some m) ∷ []) 0)) (sym is) (keeps_seen slots id i t m took)
-
-    pub looks_at : Allows (Gated key) slots id (v, (0, Some m) ∷ []) 0 (λ _. 0) (λ _. updated (step slots 0 0 0 maybe.none) (v, (0, Some m) ∷ []) 0)
-    looks_at = subst (λ (w : View). Allows (Gated key) slots id (w, (0, Some m) ∷ []) 0 (λ _. 0) (λ _. updated (step slots 0 0 0 maybe.none) (w, (0, Some m) ∷ []) 0)) (sym is) (updates slots id i t m took)
 
     pub looks_as : (updated_view v ((0, Some m) ∷ []), []) ≡ seated key (member i.number t)
     looks_as = comes_home v is m t took

@@ -186,6 +186,15 @@ pub record Forgets (n : ℕ) (old new : View) : Type 0 where
   pub known : forgotten_seen old ≤ before
   pub forgotten : forgotten_seen new ≡ forgotten_of before (length (history new)) n
 
+-- A session put the monitor home that it held, and just as much is forgotten as when it took it. (own)
+abbrev pub ForgetsNone : View → View → Type 0
+ForgetsNone held home = forgotten_seen home ≡ (taken_of held).forgotten
+
+-- A session put the monitor home that it held, and had just the entries below a number forgotten since it took it: those
+-- that are there, and below the limit that a monitor has. (own)
+abbrev pub ForgetsJust : ℕ → View → View → Type 0
+ForgetsJust n held home = forgotten_seen home ≡ forgotten_of (taken_of held).forgotten (length (history home)) n
+
 -- Two sessions met: both have the longer of the two histories, of which the other is a prefix, and their own parts and
 -- numbers stay. Both know the greater number of forgotten entries. (own)
 pub record Meets (x y x' y' : View) : Type 0 where

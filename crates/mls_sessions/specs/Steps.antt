@@ -61,10 +61,15 @@ abbrev pub kept_view : View → View
 kept_view (Holding c m taken notes) = Sessions c (m ∷ [])
 kept_view v = v
 
--- Put home and free, after a request that found no memory: the session holds no more, and its history is as before.
--- (own)
+-- The slot with the monitor that the holder took, as it took it. (own)
+abbrev pub taken_in : View → List (ℕ × Option Journal)
+taken_in (Holding c m taken notes) = (0, Some (present c taken)) ∷ []
+taken_in v = []
+
+-- Put home and free, after a request that found no memory: the session holds no more, its history is as before, and the
+-- monitor is as it was taken. (own)
 abbrev pub kept : OnWord → Seat → ℕ → Seat → Type 0
-kept st me found me' = me' ≡ (kept_view me.0, [])
+kept st me found me' = (me' ≡ (kept_view me.0, [])) × (me.1 ≡ taken_in me.0)
 
 -- What stands in a slot, beyond the journal when the office was opened. (own)
 abbrev pub stretch_or : Charter → Option Journal → Stretch

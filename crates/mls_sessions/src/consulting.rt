@@ -5,13 +5,13 @@ ghost use Rattle.mls_monitor.specs.Journal.{fold};
 ghost use Rattle.mls_sessions.specs.Rule.{begun};
 ghost use Rattle.mls_sessions.specs.Steps.{IsBefore, kept_view};
 ghost use Rattle.mls_sessions.specs.Sessions.{member_of, taken_of, seated, Holds, Sees, history, journal_seen, number_of};
+ghost use Rattle.mls_sessions.specs.Sessions.{ForgetsNone};
 
 use crate::counts::Counts;
-use crate::gate::put_home;
 use crate::gate_table::{Gate, GateSeat};
+use crate::homing::bring_home;
 use crate::limits::FIRST;
 use crate::question::Question;
-use crate::steps::Update;
 use mls_requests::{Reply, Request};
 use mls_turns::BoxedMonitor;
 
@@ -24,6 +24,7 @@ pub struct Decision {
 
 /// Decides a request, puts the monitor home as it was, and has seen its journal. It wakes nobody, and returns also
 /// whether someone may sleep.
+#[tactic(auto, using(crate::proofs::Handing::leads_first))]
 pub(crate) fn consult(
     gate: &Gate,
     seat: &mut GateSeat,
@@ -38,6 +39,7 @@ pub(crate) fn consult(
     ensures session { (seat.new.me ≡ seated gate.now.key (member_of seat.new.me.0))
         × (number_of seat.new.me.0 ≡ number_of seat.old.me.0) }
     ensures seen { Sees gate.now.key (kept_view seat.old.me.0) seat.new.me.0 }
+    ensures stays { ForgetsNone seat.old.me.0 seat.new.me.0 }
     ensures number { result.0.number ≡ length (history seat.new.me.0) }
     ensures reply { result.0.reply ≡ reply (fold (begun gate.now.key) (history seat.new.me.0)) request.now }
     ensures made { counts.new.made ≡ counts.old.made }
@@ -45,13 +47,14 @@ pub(crate) fn consult(
 {
     let reply = monitor.decide(request);
     let number = monitor.next_number();
-    let may_sleep = put_home::<Update>(gate, seat, monitor);
+    let may_sleep = bring_home(gate, seat, monitor);
     counts.saw(number);
     (Decision { number, reply }, may_sleep)
 }
 
 /// Puts a question to the monitor, puts the monitor home as it was, and has seen its journal. It wakes nobody, and
 /// returns whether someone may sleep.
+#[tactic(auto, using(crate::proofs::Handing::leads_first))]
 pub(crate) fn inquire<Q: Question>(
     gate: &Gate,
     seat: &mut GateSeat,
@@ -66,13 +69,14 @@ pub(crate) fn inquire<Q: Question>(
     ensures session { (seat.new.me ≡ seated gate.now.key (member_of seat.new.me.0))
         × (number_of seat.new.me.0 ≡ number_of seat.old.me.0) }
     ensures seen { Sees gate.now.key (kept_view seat.old.me.0) seat.new.me.0 }
+    ensures stays { ForgetsNone seat.old.me.0 seat.new.me.0 }
     ensures found { Q.finds question.old (journal_seen gate.now.key seat.new.me.0) question.new }
     ensures made { counts.new.made ≡ counts.old.made }
     ensures counts { counts.new.seen ≡ length (history seat.new.me.0) }
 {
     question.look(monitor.monitor());
     let number = monitor.next_number();
-    let is_marked = put_home::<Update>(gate, seat, monitor);
+    let is_marked = bring_home(gate, seat, monitor);
     counts.saw(number);
     is_marked
 }

@@ -1,20 +1,16 @@
-//! The gate's word, and the two functions that take the monitor out and put it home.
-ghost use Rattle.std.specs.Prelude.{◌≡◌, ◌+◌, ◌≢◌, ◌<◌, ◌%◌, ◌∷◌, [], ℕ, Some, None, MatchResult, IfOk};
+//! The gate's word, and how a session takes the monitor out.
+ghost use Rattle.std.specs.Prelude.{◌≡◌, ◌+◌, ◌≢◌, ◌<◌, ◌%◌, MatchResult, IfOk};
 ghost use Rattle.std.specs.Bool.{Decides};
-ghost use mathlib.Core.Option as maybe;
-ghost use Rattle.atomic_table.specs.Table.{step, Allows};
-ghost use Rattle.mls_turns.specs.Journals.{Stands};
-ghost use Rattle.mls_sessions.specs.Rule.{Gated, Names, word_of, begun};
+ghost use Rattle.mls_sessions.specs.Rule.{Names, word_of, begun};
 ghost use Rattle.mls_sessions.specs.Sessions.{member_of, seated, TookOut, Sees, IsCounted, history, number_of, changes_seen};
 ghost use Rattle.mls_sessions.specs.declared.counts.Counts.{Counts};
 ghost use Rattle.mls_monitor.specs.Journal.{fold};
 ghost use Rattle.mls_sessions.specs.Cells.{Tells};
 ghost use Rattle.mls_sessions.specs.Steps.{kept_view};
 
-use crate::gate_table::{Gate, GateSeat, View};
+use crate::gate_table::{Gate, GateSeat};
 use crate::limits::{CHANGES, FIRST};
 use crate::steps::{Glance, Mark, Tally, Win};
-use atomic_table::Play;
 use mls_turns::BoxedMonitor;
 use std::hint::spin_loop;
 
@@ -38,7 +34,7 @@ pub(crate) fn named(number: u32) -> u64
 }
 
 /// Whether someone may sleep.
-fn is_marked(word: u64) -> bool
+pub(crate) fn is_marked(word: u64) -> bool
     ensures { Decides result (word % 2 ≡ 1) }
 {
     word % 2 == 1
@@ -124,32 +120,6 @@ pub(crate) fn win(gate: &Gate, seat: &mut GateSeat, held: u64) -> Result<BoxedMo
         Some(monitor) => Ok(monitor),
         None => unreachable!(),
     }
-}
-
-/// Puts the monitor home and frees the gate. It wakes nobody, and returns whether someone may sleep.
-pub(crate) fn put_home<M: Play<Option<BoxedMonitor>, View>>(
-    gate: &Gate,
-    seat: &mut GateSeat,
-    monitor: BoxedMonitor,
-) -> bool
-    requires office { (seat.old.table_id ≡ gate.now.table_id) × (gate.now.table_id.words ≡ gate.now.key.cells + FIRST)
-        × (seat.old.me.1 ≡ (0, None) ∷ []) }
-    requires rule { Stands monitor.start monitor.entries
-        → Allows (Gated gate.now.key) gate.now.table_id.slots seat.old.id (seat.old.me.0, (0, Some monitor) ∷ []) 0
-        (λ _. 0) (M.then (step gate.now.table_id.slots 0 0 0 maybe.none) (seat.old.me.0, (0, Some monitor) ∷ [])) }
-    ensures seat { (seat.new.table_id ≡ seat.old.table_id) × (seat.new.id ≡ seat.old.id) }
-    ensures legal { Stands monitor.start monitor.entries }
-    ensures told { (found : ℕ)
-        × M.then (step gate.now.table_id.slots 0 0 0 maybe.none)
-        (seat.old.me.0, (0, Some monitor) ∷ []) found seat.new.me }
-{
-    let _legal = monitor.entries();
-    match gate.exchange(seat, SLOT, Some(monitor)) {
-        None => {}
-        Some(_) => unreachable!(),
-    }
-    let found = gate.swap::<M>(seat, WORD, FREE);
-    is_marked(found)
 }
 
 /// Wakes one that sleeps, if there may be one.

@@ -14,6 +14,7 @@ mod forgetting;
 mod gate;
 mod gate_table;
 mod holding;
+mod homing;
 mod limits;
 mod lobby;
 mod meeting;

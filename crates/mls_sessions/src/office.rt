@@ -1,29 +1,26 @@
 //! An office, whose sessions share one monitor.
-ghost use Rattle.std.specs.Prelude.{◌≡◌, ◌<◌, length, vec_len, IfOk, IfErr, OnOk, IsTrue, is_err, if◌then◌else◌};
-ghost use Rattle.std.specs.Prelude.{◌≤◌, [], false, vec_capacity};
-ghost use Rattle.std.specs.Arc.{arc_value};
+ghost use Rattle.std.specs.Prelude.{◌≡◌, ◌<◌, [], length, IfOk, IfErr, IsTrue, is_err};
 ghost use Rattle.std.specs.Bool.{Decides};
-ghost use Rattle.mls_turns.specs.Journals.{journal, journal_of};
+ghost use Rattle.mls_turns.specs.Journals.{journal_of};
 ghost use Rattle.mls_sessions.specs.Journals.{charter_of};
 ghost use Rattle.mls_sessions.specs.declared.gate_table.View.TheVariants.{Starting};
-ghost use Rattle.mls_sessions.specs.Rule.{begun, base, base_length};
-ghost use Rattle.mls_sessions.specs.Sessions.{is_count, newcomers, Ascending, Leaves};
+ghost use Rattle.mls_sessions.specs.Rule.{base_length};
+ghost use Rattle.mls_sessions.specs.Sessions.{is_count, Ascending, Leaves};
+
+mod opening;
 
 use crate::backoff::Backoff;
 use crate::cells::cells_for;
 use crate::closing::take_home;
 use crate::gate::wake;
 use crate::gate_table::{Charter, GateSeat, GateTable};
-use crate::limits::MAX_SESSIONS;
 use crate::lobby::Lobby;
-use crate::office_fault::{CloseFault, OfficeFault, OfficeFaultKind};
-use crate::opening::{give_all, settle, vacant_table};
+use crate::office_fault::CloseFault;
+use crate::opening::vacant_table;
 use crate::session::Session;
 use mls_monitor::Monitor;
-use mls_turns::BoxedMonitor;
 use std::alloc::{AllocError, Global};
 use std::marker::Model;
-use std::sync::Arc;
 
 /// An office has a monitor that its sessions share, each in whatever thread, through one lock: the gate. A session
 /// takes the monitor out, and puts it home where it frees the gate.
@@ -56,149 +53,6 @@ impl Model for Office {
 }
 
 impl Office {
-    /// Opens the monitor to `n` sessions, which are numbered from 0 to `n` - 1. Each has the monitor's journal as its
-    /// history. It doesn't wait.
-    ///
-    /// # Errors
-    /// `BadCount` where `n` isn't 1 to [`MAX_SESSIONS`], else `Memory` where an allocation failed; with the monitor as
-    /// it was handed in.
-    #[tactic(auto, using(crate::proofs::SeatsKeep::newcomers_ascend))]
-    pub fn open(
-        alloc: Global,
-        monitor: Monitor,
-        n: u16,
-    ) -> Result<(Office, Vec<Session>), OfficeFault>
-        ensures many { OnOk result (IsTrue (is_count n)) }
-        ensures start { IfOk result (λ r. begun r.0.charter ≡ monitor.start) }
-        ensures base { IfOk result (λ r. base r.0.charter ≡ monitor.entries) }
-        ensures forgotten { IfOk result (λ r. r.0.charter.forgotten ≡ monitor.forgotten) }
-        ensures count { IfOk result (λ r. r.0.charter.count ≡ n) }
-        ensures sessions { IfOk result (λ r. r.1.items ≡ newcomers r.0 n) }
-        ensures all { IfOk result (λ r. vec_len r.1 ≡ n) }
-        ensures of { IfOk result (λ r. Ascending r.0 0 r.1.items) }
-        ensures forgets { IfOk result (λ r. r.0.charter.lasts ≡ false) }
-        ensures kind { IfErr result
-            (λ fault. fault.kind ≡ (if is_count n then OfficeFaultKind.Memory else OfficeFaultKind.BadCount)) }
-        ensures monitor { IfErr result (λ fault. fault.monitor ≡ monitor) }
-    {
-        Office::open_as(alloc, monitor, n, false)
-    }
-
-    /// As [`open`](Office::open), with an office whose journal lasts, or not: whether its sessions have no entry
-    /// forgotten.
-    ///
-    /// # Errors
-    /// As those of [`open`](Office::open).
-    #[tactic(auto, using(crate::proofs::SeatsKeep::newcomers_ascend))]
-    pub(crate) fn open_as(
-        alloc: Global,
-        monitor: Monitor,
-        n: u16,
-        lasts: bool,
-    ) -> Result<(Office, Vec<Session>), OfficeFault>
-        ensures many { OnOk result (IsTrue (is_count n)) }
-        ensures start { IfOk result (λ r. begun r.0.charter ≡ monitor.start) }
-        ensures base { IfOk result (λ r. base r.0.charter ≡ monitor.entries) }
-        ensures forgotten { IfOk result (λ r. r.0.charter.forgotten ≡ monitor.forgotten) }
-        ensures count { IfOk result (λ r. r.0.charter.count ≡ n) }
-        ensures sessions { IfOk result (λ r. r.1.items ≡ newcomers r.0 n) }
-        ensures all { IfOk result (λ r. vec_len r.1 ≡ n) }
-        ensures of { IfOk result (λ r. Ascending r.0 0 r.1.items) }
-        ensures lasts { IfOk result (λ r. r.0.charter.lasts ≡ lasts) }
-        ensures kind { IfErr result
-            (λ fault. fault.kind ≡ (if is_count n then OfficeFaultKind.Memory else OfficeFaultKind.BadCount)) }
-        ensures monitor { IfErr result (λ fault. fault.monitor ≡ monitor) }
-    {
-        if n == 0 || n > MAX_SESSIONS {
-            return Err(OfficeFault {
-                kind: OfficeFaultKind::BadCount,
-                monitor,
-            });
-        }
-        let Ok(mut sessions) = Vec::with_capacity(alloc, n as usize) else {
-            return Err(OfficeFault {
-                kind: OfficeFaultKind::Memory,
-                monitor,
-            });
-        };
-        let Ok((office, seat)) = Office::vacant(alloc, &monitor, n, lasts) else {
-            return Err(OfficeFault {
-                kind: OfficeFaultKind::Memory,
-                monitor,
-            });
-        };
-        match BoxedMonitor::new(alloc, monitor) {
-            Ok(boxed) => {
-                office.fill(boxed, seat, &mut sessions);
-                Ok((office, sessions))
-            }
-            Err(refused) => Err(OfficeFault {
-                kind: OfficeFaultKind::Memory,
-                monitor: refused.value,
-            }),
-        }
-    }
-
-    /// As [`open`](Office::open), with an office that several owners share. All that it allocates for the office is
-    /// there before the monitor is put in.
-    ///
-    /// # Errors
-    /// As those of [`open`](Office::open).
-    #[tactic(auto, using(crate::proofs::SeatsKeep::newcomers_ascend))]
-    pub fn open_shared(
-        alloc: Global,
-        monitor: Monitor,
-        n: u16,
-    ) -> Result<(Arc<Office, Global>, Vec<Session>), OfficeFault>
-        ensures many { OnOk result (IsTrue (is_count n)) }
-        ensures start { IfOk result (λ r. begun (arc_value r.0).charter ≡ monitor.start) }
-        ensures base { IfOk result (λ r. base (arc_value r.0).charter ≡ monitor.entries) }
-        ensures forgotten { IfOk result (λ r. (arc_value r.0).charter.forgotten ≡ monitor.forgotten) }
-        ensures count { IfOk result (λ r. (arc_value r.0).charter.count ≡ n) }
-        ensures sessions { IfOk result (λ r. r.1.items ≡ newcomers (arc_value r.0) n) }
-        ensures all { IfOk result (λ r. vec_len r.1 ≡ n) }
-        ensures of { IfOk result (λ r. Ascending (arc_value r.0) 0 r.1.items) }
-        ensures forgets { IfOk result (λ r. (arc_value r.0).charter.lasts ≡ false) }
-        ensures kind { IfErr result
-            (λ fault. fault.kind ≡ (if is_count n then OfficeFaultKind.Memory else OfficeFaultKind.BadCount)) }
-        ensures monitor { IfErr result (λ fault. fault.monitor ≡ monitor) }
-    {
-        if n == 0 || n > MAX_SESSIONS {
-            return Err(OfficeFault {
-                kind: OfficeFaultKind::BadCount,
-                monitor,
-            });
-        }
-        let Ok(mut sessions) = Vec::with_capacity(alloc, n as usize) else {
-            return Err(OfficeFault {
-                kind: OfficeFaultKind::Memory,
-                monitor,
-            });
-        };
-        let Ok((office, seat)) = Office::vacant(alloc, &monitor, n, false) else {
-            return Err(OfficeFault {
-                kind: OfficeFaultKind::Memory,
-                monitor,
-            });
-        };
-        let Ok(office) = Arc::new(alloc, office) else {
-            return Err(OfficeFault {
-                kind: OfficeFaultKind::Memory,
-                monitor,
-            });
-        };
-        match BoxedMonitor::new(alloc, monitor) {
-            Ok(boxed) => {
-                office.fill(boxed, seat, &mut sessions);
-                Ok((office, sessions))
-            }
-            Err(refused) => Err(OfficeFault {
-                kind: OfficeFaultKind::Memory,
-                monitor: refused.value,
-            }),
-        }
-    }
-
     /// An office for so many sessions of a monitor, which isn't put in yet, and its first seat. Its journal lasts or
     /// not.
     ///
@@ -225,25 +79,6 @@ impl Office {
             base: monitor.next_number(),
         };
         Ok((office, seat))
-    }
-
-    /// Puts the monitor in, by the first seat, and makes the sessions.
-    fn fill(&self, monitor: BoxedMonitor, mut seat: GateSeat, sessions: &mut Vec<Session>)
-        requires first { (seat.table_id ≡ self.now.table) × (seat.me ≡ (Starting self.now.charter, [])) }
-        requires monitor { monitor
-            ≡ journal (begun self.now.charter) self.now.charter.forgotten (base self.now.charter) }
-        requires room { (sessions.old.items ≡ []) × (self.now.charter.count ≤ vec_capacity sessions.old) }
-        ensures all { vec_len sessions.new ≡ self.now.charter.count }
-        ensures sessions { sessions.new.items ≡ newcomers self.now self.now.charter.count }
-    {
-        settle(&self.table.shared, &mut seat, monitor);
-        give_all(
-            &self.table.shared,
-            &mut seat,
-            sessions,
-            self.count,
-            self.base,
-        );
     }
 
     /// The length of the journal when the office was opened. Every session's history begins with those entries.

@@ -5,8 +5,9 @@ ghost use Rattle.mls_turns.specs.Journals.{journal};
 ghost use Rattle.mls_sessions.specs.Rule.{begun, base, base_length};
 ghost use Rattle.mls_sessions.specs.Sessions.{office_at, newcomers};
 
-use crate::gate::{FREE, OPENING, WORD, put_home};
+use crate::gate::{FREE, OPENING, WORD};
 use crate::gate_table::{Charter, Gate, GateSeat, GateTable};
+use crate::homing::put_home;
 use crate::limits::FIRST;
 use crate::session::Session;
 use crate::steps::{Fill, Give, Settle};
