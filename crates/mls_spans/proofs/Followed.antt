@@ -108,17 +108,23 @@ pub state_next : (v0 v w : State) (es : List Entry) (n : ℕ) (e : Entry) → n 
 state_next v0 v w es n e within is so_far next =
     next ∙ ap (λ k. after k e.request) so_far ∙ sym (fold-push v0 (take n es) e) ∙ ap (fold v0) (sym (more es n e within is))
 
+-- the spans after entries and the next
+pub spans_pushed : (v0 v w : State) (es : List Entry) (e : Entry) (spans new : List Span) → v ≡ fold v0 es → w ≡ after v e.request
+    → spans ≡ spans_over v0 es → new ≡ moved w e (sought v e.request.subject e.request.action) spans → new ≡ spans_over v0 (es ++ e ∷ [])
+spans_pushed v0 v w es e spans new so_far next listed added =
+    let u = fold v0 es in
+    let there : w ≡ after u e.request = next ∙ ap (λ k. after k e.request) so_far in
+    added ∙ (λ i. moved (there i) e (sought (so_far i) e.request.subject e.request.action) (listed i))
+    ∙ ap (λ k. map (closed (after u e.request) (ending_of e)) (spans_over v0 es) ++ k)
+    (sym (begun_is u (after u e.request) e.number e.request.subject e.request.action))
+    ∙ sym (over_more v0 es e)
+
 -- the spans after the entries so far and the next
 pub spans_next : (v0 v w : State) (es : List Entry) (n : ℕ) (e : Entry) (spans new : List Span) → n < length es → e ≡ get_or es n e
     → v ≡ fold v0 (take n es) → w ≡ after v e.request → spans ≡ spans_over v0 (take n es)
     → new ≡ moved w e (sought v e.request.subject e.request.action) spans → new ≡ spans_over v0 (take (n + 1) es)
 spans_next v0 v w es n e spans new within is so_far next listed added =
-    let u = fold v0 (take n es) in
-    let there : w ≡ after u e.request = next ∙ ap (λ k. after k e.request) so_far in
-    added ∙ (λ i. moved (there i) e (sought (so_far i) e.request.subject e.request.action) (listed i))
-    ∙ ap (λ k. map (closed (after u e.request) (ending_of e)) (spans_over v0 (take n es)) ++ k)
-    (sym (begun_is u (after u e.request) e.number e.request.subject e.request.action))
-    ∙ sym (over_more v0 (take n es) e) ∙ ap (spans_over v0) (sym (more es n e within is))
+    spans_pushed v0 v w (take n es) e spans new so_far next listed added ∙ ap (spans_over v0) (sym (more es n e within is))
 
 -- with no entry, only the spans that begin with the state
 pub spans_none : (v : State) (spans : List Span) → spans ≡ opened v [] → spans ≡ spans_over v []

@@ -19,3 +19,8 @@ mod Pairing
 mod EverRows
 mod EverListed
 mod TrustUses
+mod Walked
+mod TextReads
+mod TextWalks
+mod TrustedMore
+mod TextParts

@@ -101,14 +101,19 @@ tally_more v es e m n so_far each =
           ∙ sym (permission_push v es e t);
     }
 
+-- the tally of entries and the next
+pub tally_pushed : (v0 v w : State) (es : List Entry) (e : Entry) (m new : Tally) → v ≡ fold v0 es → w ≡ after v e.request → IsTally v0 es m
+    → ((t : Triple) → t.1 < 65536 → kept new t ≡ followed v w e t (kept m t)) → IsTally v0 (es ++ e ∷ []) new
+tally_pushed v0 v w es e m new at next so_far each =
+    let there : w ≡ after (fold v0 es) e.request = next ∙ ap (λ k. after k e.request) at in
+    tally_more v0 es e m new so_far (λ t small. each t small ∙ (λ i. followed (at i) (there i) e t (kept m t)))
+
 -- the tally of the entries so far and the next
 pub tally_next : (v0 v w : State) (es : List Entry) (n : ℕ) (e : Entry) (m new : Tally) → n < length es → e ≡ get_or es n e
     → v ≡ fold v0 (take n es) → w ≡ after v e.request → IsTally v0 (take n es) m
     → ((t : Triple) → t.1 < 65536 → kept new t ≡ followed v w e t (kept m t)) → IsTally v0 (take (n + 1) es) new
 tally_next v0 v w es n e m new within is at next so_far each =
-    let there : w ≡ after (fold v0 (take n es)) e.request = next ∙ ap (λ k. after k e.request) at in
-    subst (λ l. IsTally v0 l new) (sym (more es n e within is))
-    (tally_more v0 (take n es) e m new so_far (λ t small. each t small ∙ (λ i. followed (at i) (there i) e t (kept m t))))
+    subst (λ l. IsTally v0 l new) (sym (more es n e within is)) (tally_pushed v0 v w (take n es) e m new at next so_far each)
 
 -- with no entry, nothing is kept
 pub tally_none : (v : State) (m : Tally) → ((t : Triple) → kept m t ≡ None) → IsTally v [] m

@@ -17,3 +17,4 @@ pub mod Turning
 pub mod Permissions
 pub mod EverLines
 pub mod EverListings
+pub mod Texts

@@ -93,7 +93,7 @@ fn numbers_below(alloc: Global, count: usize) -> Result<Vec<usize>, AllocError>
 
 impl Spans {
     /// The spans of a state.
-    fn new(alloc: Global, state: &State) -> Result<Spans, AllocError>
+    pub(crate) fn new(alloc: Global, state: &State) -> Result<Spans, AllocError>
         ensures spans { IfOk result (λ spans. spans.spans.items ≡ opened_in state.now []) }
         ensures places { IfOk result (λ spans. AreAmong spans.spans.items spans.places.items) }
         ensures stand { IfOk result (λ spans. AllStand state.now spans.spans.items) }
@@ -158,7 +158,12 @@ impl Spans {
     }
 
     /// Goes on to the state after an entry, and to its spans.
-    fn follow(&mut self, alloc: Global, state: &mut State, entry: &Entry) -> Result<(), AllocError>
+    pub(crate) fn follow(
+        &mut self,
+        alloc: Global,
+        state: &mut State,
+        entry: &Entry,
+    ) -> Result<(), AllocError>
         requires places { AreAmong self.old.spans.items self.old.places.items }
         requires stand { AllStand state.old self.old.spans.items }
         ensures state { OnOk result (state.new ≡ after state.old entry.now.request) }

@@ -12,10 +12,11 @@ use crate::choosing::{Choice, Words, choose, is_asked};
 use crate::following::spans_from;
 use crate::held_rows::spans_written;
 use crate::span::Span;
+use crate::walking::spans_in;
 use mls_lines::Names;
 use mls_marks::Marks;
 use mls_monitor::{Entry, Start};
-use mls_replay::{QuestionFault, Replay};
+use mls_replay::{QuestionFault, TextReplay};
 use mls_rows::{Form, Listing};
 use std::alloc::{AllocError, Global};
 
@@ -44,8 +45,8 @@ pub fn spans_of(alloc: Global, start: &Start, entries: &[Entry]) -> Result<Vec<S
     spans
 }
 
-/// The answer that lists the spans over a start and its entries that are asked for, by these names; where there are
-/// marks, with times. It is a positive one where there is one.
+/// The answer that lists the spans over a replay that are asked for, by these names; where there are marks, with times.
+/// It is a positive one where there is one.
 ///
 /// # Errors
 /// `Files` with `Memory` where an allocation failed.
@@ -53,16 +54,15 @@ pub fn list_spans(
     alloc: Global,
     form: Form,
     names: &Names,
-    start: &Start,
-    entries: &[Entry],
+    replay: &TextReplay,
     marks: Option<&Marks>,
     choice: &Choice,
 ) -> Result<Listing, QuestionFault>
-    ensures ok { IfOk result
-        (λ listing. IsListing form names.now (rows_lent marks.entry) start.now entries.now choice.now listing) }
+    ensures ok { IfOk result (λ listing. IsListing form names.now (rows_lent marks.entry) replay.now.start
+        replay.now.entries choice.now listing) }
     ensures fault { IfErr result (λ fault. fault ≡ Files Memory) }
 {
-    let spans = spans_of(alloc, start, entries)?;
+    let spans = spans_in(alloc, replay)?;
     let bytes = spans_written(alloc, form, names, marks, choice, &spans);
     let is_positive = is_any_asked(choice, &spans);
     drop(spans);
@@ -75,18 +75,15 @@ pub fn list_spans(
 fn list_replay(
     alloc: Global,
     form: Form,
-    replay: &Replay,
+    replay: &TextReplay,
     marks: Option<&Marks>,
     words: &Words<'_>,
 ) -> Result<Listing, QuestionFault>
     ensures ok { IfOk result (λ listing. ListsOver form replay.now (rows_lent marks.entry) words.now listing) }
     ensures fault { IfErr result (λ fault. RefusesNames replay.now.names words.now fault) }
 {
-    let names = replay.names();
-    let start = replay.start();
-    let entries = replay.entries();
-    match choose(names, words) {
-        Ok(choice) => list_spans(alloc, form, names, start, entries, marks, &choice),
+    match choose(replay.names(), words) {
+        Ok(choice) => list_spans(alloc, form, replay.names(), replay, marks, &choice),
         Err(fault) => Err(fault),
     }
 }
@@ -103,14 +100,14 @@ fn list_replay(
 pub fn list_held(
     alloc: Global,
     form: Form,
-    replay: &Replay,
+    replay: &TextReplay,
     marks: Option<&Marks>,
     words: &Words<'_>,
 ) -> Result<Listing, QuestionFault>
     ensures ok { IfOk result (λ listing. ListsFrom form replay.now (rows_lent marks.entry) words.now listing) }
     ensures fault { IfErr result (λ fault. RefusesFrom replay.now words.now fault) }
 {
-    match words.states.begin_in(replay.entries()) {
+    match words.states.begin_in(replay) {
         Ok(()) => list_replay(alloc, form, replay, marks, words),
         Err(fault) => Err(fault),
     }

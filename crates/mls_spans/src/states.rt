@@ -5,8 +5,7 @@ ghost use Rattle.mls_spans.specs.Asked.{IsBehind, has_window, is_some_state};
 
 use crate::span::Span;
 use crate::window::Window;
-use mls_replay::QuestionFault;
-use mls_requests::Entry;
+use mls_replay::{QuestionFault, TextReplay};
 
 /// The states that are asked about, by their numbers: state N is the one before entry N, and the last one is behind all
 /// entries.
@@ -80,15 +79,15 @@ impl States {
         is_begun && is_late
     }
 
-    /// Looks whether entries lead to the first of them.
+    /// Looks whether a replay's entries lead to the first of them.
     ///
     /// # Errors
     /// `AtMost` with the number of entries, where they don't.
-    pub fn begin_in(&self, entries: &[Entry]) -> Result<(), QuestionFault>
-        ensures ok { OnOk result (self.now.first ≤ length entries.now) }
-        ensures fault { IfErr result (λ fault. IsBehind self.now.first entries.now fault) }
+    pub fn begin_in(&self, replay: &TextReplay) -> Result<(), QuestionFault>
+        ensures ok { OnOk result (self.now.first ≤ length replay.now.entries) }
+        ensures fault { IfErr result (λ fault. IsBehind self.now.first replay.now.entries fault) }
     {
-        let many = entries.len() as u64;
+        let many = replay.count();
         if self.first > many {
             return Err(QuestionFault::AtMost(many));
         }

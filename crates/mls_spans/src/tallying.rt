@@ -101,7 +101,7 @@ impl Tally {
     }
 
     /// Goes on to the state after an entry, and tallies it.
-    fn follow(&mut self, state: &mut State, entry: &Entry) -> Result<(), AllocError>
+    pub(crate) fn follow(&mut self, state: &mut State, entry: &Entry) -> Result<(), AllocError>
         ensures state { OnOk result (state.new ≡ after state.old entry.now.request) }
         ensures tally { OnOk result ((t : Triple) → t.1 < 65536
             → kept self.new t ≡ followed state.old state.new entry.now t (kept self.old t)) }

@@ -3,10 +3,13 @@ ghost use Rattle.std.specs.Prelude.{◌≡◌, ◌++◌, length, filter, None, S
 ghost use Rattle.std.specs.List.{flat_map, range_with_len};
 ghost use Rattle.mls_tables.specs.declared.limits.TheConstants.{MAX_SUBJECTS};
 ghost use Rattle.mls_spans.specs.Trust.{is_asked_by, is_trusted, last_entry, trust_of, trust_uses, trust_where};
+ghost use Rattle.mls_spans.specs.UsageListings.{entries_between as between};
 
+use crate::granted::trusted_in;
+use crate::states::States;
 use crate::trust::TrustUse;
-use mls_listings::trusted_after;
 use mls_monitor::Entry;
+use mls_replay::TextReplay;
 use mls_rules::State;
 use mls_tables::{MAX_SUBJECTS, SubjectId};
 use std::alloc::{AllocError, Global};
@@ -98,20 +101,18 @@ fn trust_by(alloc: Global, first: &State, granted: &[Entry]) -> Result<Vec<Trust
     Ok(found)
 }
 
-/// How the trust in each subject was used over entries, from a state: how many of them it granted, and which was the
-/// last.
-///
-/// # Errors
-/// `AllocError` where an allocation failed.
-pub fn trust_over(
+/// How the trust in each subject was used between some states of a replay, from the state that it looks at: how many of
+/// the entries it granted, and which was the last.
+pub(crate) fn trust_over(
     alloc: Global,
-    first: &State,
-    entries: &[Entry],
+    replay: &TextReplay,
+    states: States,
 ) -> Result<Vec<TrustUse>, AllocError>
-    ensures { IfOk result (λ found. found.items ≡ trust_uses first.now entries.now) }
+    ensures { IfOk result
+        (λ found. found.items ≡ trust_uses replay.now.state (between states replay.now.entries)) }
 {
-    let granted = trusted_after(alloc, first, entries)?;
-    let found = trust_by(alloc, first, &granted);
+    let granted = trusted_in(alloc, replay, states)?;
+    let found = trust_by(alloc, replay.state(), &granted);
     drop(granted);
     found
 }

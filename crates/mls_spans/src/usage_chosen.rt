@@ -12,7 +12,7 @@ use crate::usage_rows::{Counted, count_unused};
 use crate::using::usages_of;
 use mls_lines::Names;
 use mls_marks::Marks;
-use mls_replay::Replay;
+use mls_replay::TextReplay;
 use mls_rows::{Form, Listing, written};
 use std::alloc::{AllocError, Global};
 
@@ -59,7 +59,7 @@ pub fn unused_of(alloc: Global, usages: &[Usage]) -> Result<Vec<Usage>, AllocErr
 /// `AllocError` where an allocation failed.
 pub fn chosen_usages(
     alloc: Global,
-    replay: &Replay,
+    replay: &TextReplay,
     choice: &Choice,
     states: States,
 ) -> Result<Vec<Usage>, AllocError>
@@ -143,7 +143,7 @@ pub fn list_usage_of(
     alloc: Global,
     form: Form,
     names: &Names,
-    replay: &Replay,
+    replay: &TextReplay,
     marks: Option<&Marks>,
     choice: &Choice,
     states: States,

@@ -2,7 +2,6 @@
 ghost use Rattle.std.specs.Prelude.{◌≡◌, drop as dropped, IfOk};
 ghost use Rattle.mls_rows.specs.Times.{rows_lent};
 ghost use Rattle.mls_spans.specs.Uses.{usages as usages_in};
-ghost use Rattle.mls_spans.specs.Trust.{trust_uses};
 ghost use Rattle.mls_spans.specs.UsageListings.{IsUsage, trust_seen, up_to, usages_seen};
 ghost use Rattle.mls_spans.specs.UsageListings.{entries_between as between};
 
@@ -12,10 +11,11 @@ use crate::trust::TrustUse;
 use crate::trusting::trust_over;
 use crate::usage::{Usage, usages_by};
 use crate::usage_rows::{count_unused, usages_written};
+use crate::walking::tally_in;
 use mls_lines::Names;
 use mls_marks::Marks;
 use mls_monitor::Entry;
-use mls_replay::Replay;
+use mls_replay::TextReplay;
 use mls_rows::{Form, Listing};
 use mls_rules::State;
 use std::alloc::{AllocError, Global};
@@ -65,13 +65,28 @@ pub fn usages_over(
     usages
 }
 
+/// How the permissions between some states of a replay were used, from the state that it looks at.
+fn usages_walked(
+    alloc: Global,
+    replay: &TextReplay,
+    states: States,
+) -> Result<Vec<Usage>, AllocError>
+    ensures { IfOk result
+        (λ usages. usages.items ≡ usages_in replay.now.state (between states replay.now.entries)) }
+{
+    let tally = tally_in(alloc, replay, states)?;
+    let usages = usages_by(alloc, replay.state(), &tally);
+    drop(tally);
+    usages
+}
+
 /// How the permissions of some states of a replay were used.
 ///
 /// # Errors
 /// `AllocError` where an allocation failed.
 pub(crate) fn usages_of(
     alloc: Global,
-    replay: &Replay,
+    replay: &TextReplay,
     states: States,
 ) -> Result<Vec<Usage>, AllocError>
     ensures { IfOk result (λ usages. usages.items ≡ usages_seen replay.now states) }
@@ -79,25 +94,17 @@ pub(crate) fn usages_of(
     if !states.are_some() {
         return Ok(Vec::new(alloc));
     }
-    usages_over(
-        alloc,
-        replay.state(),
-        entries_between(replay.entries(), states),
-    )
+    usages_walked(alloc, replay, states)
 }
 
 /// How trust was used in some states of a replay.
-fn trust_in(alloc: Global, replay: &Replay, states: States) -> Result<Vec<TrustUse>, AllocError>
+fn trust_in(alloc: Global, replay: &TextReplay, states: States) -> Result<Vec<TrustUse>, AllocError>
     ensures { IfOk result (λ trust. trust.items ≡ trust_seen replay.now states) }
 {
     if !states.are_some() {
         return Ok(Vec::new(alloc));
     }
-    trust_over(
-        alloc,
-        replay.state(),
-        entries_between(replay.entries(), states),
-    )
+    trust_over(alloc, replay, states)
 }
 
 /// The answer that lists permissions, and the uses of trust.
@@ -120,30 +127,6 @@ fn list_permissions(
     })
 }
 
-/// The answer that lists the permissions over entries from a state, by these names; where there are marks, with times.
-/// It is a positive one where each was granted.
-///
-/// # Errors
-/// `AllocError` where an allocation failed.
-pub fn list_usages(
-    alloc: Global,
-    form: Form,
-    names: &Names,
-    marks: Option<&Marks>,
-    first: &State,
-    entries: &[Entry],
-) -> Result<Listing, AllocError>
-    ensures { IfOk result (λ listing. IsUsage form names.now (rows_lent marks.entry)
-        (usages_in first.now entries.now) (trust_uses first.now entries.now) listing) }
-{
-    let usages = usages_over(alloc, first, entries)?;
-    let trust = trust_over(alloc, first, entries)?;
-    let listing = list_permissions(alloc, form, names, marks, &usages, &trust);
-    drop(trust);
-    drop(usages);
-    listing
-}
-
 /// How the permissions of some states of a replay were used, by these names, a row each in this form: of each
 /// permission of one of the states, how many of its gets were granted and how many were denied while it was there,
 /// which was the last, and whether the first of the states has it as a current access: it was granted before. Then of
@@ -157,7 +140,7 @@ pub fn list_usage(
     alloc: Global,
     form: Form,
     names: &Names,
-    replay: &Replay,
+    replay: &TextReplay,
     marks: Option<&Marks>,
     states: States,
 ) -> Result<Listing, AllocError>
