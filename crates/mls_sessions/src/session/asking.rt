@@ -1,7 +1,7 @@
 //! What a session asks the monitor for: an entry, or what a feed gave; waiting for the gate, or not.
 ghost use Rattle.std.specs.Prelude.{◌≡◌, ◌≢◌, ◌<◌, ◌≤◌, ◌∷◌, [], length, take, vec_len, vec_capacity, IfOk, IfErr};
 ghost use Rattle.std.specs.Prelude.{OnOk, OnErr};
-ghost use Rattle.mls_sessions.specs.Sessions.{IsOf, Submits, number_of};
+ghost use Rattle.mls_sessions.specs.Sessions.{IsOf, NoShorter, Submits, number_of};
 ghost use Rattle.mls_sessions.specs.Feeds.{Learns};
 
 use crate::gate::{named, wake, win};
@@ -22,6 +22,7 @@ impl Session {
     /// # Errors
     /// `AllocError` where an allocation failed; the session is then as before, the journal has no entry more, and the
     /// gate is free.
+    #[tactic(auto, using(crate::proofs::Recency::made_since))]
     pub fn submit<R: Wait>(
         &mut self,
         office: &Office,
@@ -32,6 +33,7 @@ impl Session {
         ensures office { IsOf office.now self.new }
         ensures number { number_of self.new.view ≡ number_of self.old.view }
         ensures ok { IfOk result (λ e. Submits office.now.charter self.old.view request e self.new.view) }
+        ensures since { IfOk result (λ _. NoShorter self.old.view self.new.view) }
         ensures err { OnErr result (self.new ≡ self.old) }
     {
         let gate = &office.table.shared;
@@ -55,11 +57,13 @@ impl Session {
     /// # Errors
     /// `Busy` where another session held the gate, else `Memory` where an allocation failed; the session is then as
     /// before, and the journal has no entry more. An office of one session is never busy.
+    #[tactic(auto, using(crate::proofs::Recency::made_since))]
     pub fn try_submit(&mut self, office: &Office, request: Request) -> Result<Entry, TryFault>
         requires { IsOf office.now self.old }
         ensures office { IsOf office.now self.new }
         ensures number { number_of self.new.view ≡ number_of self.old.view }
         ensures ok { IfOk result (λ e. Submits office.now.charter self.old.view request e self.new.view) }
+        ensures since { IfOk result (λ _. NoShorter self.old.view self.new.view) }
         ensures err { OnErr result (self.new ≡ self.old) }
         ensures alone { office.now.charter.count ≡ 1 → IfErr result (λ fault. fault ≢ TryFault.Busy) }
     {
@@ -73,6 +77,7 @@ impl Session {
     ///
     /// # Errors
     /// As those of [`try_submit`](Session::try_submit).
+    #[tactic(auto, using(crate::proofs::Recency::made_since))]
     pub fn submit_quietly(
         &mut self,
         office: &Office,
@@ -82,6 +87,7 @@ impl Session {
         ensures office { IsOf office.now self.new }
         ensures number { number_of self.new.view ≡ number_of self.old.view }
         ensures ok { IfOk result.0 (λ e. Submits office.now.charter self.old.view request e self.new.view) }
+        ensures since { IfOk result.0 (λ _. NoShorter self.old.view self.new.view) }
         ensures err { OnErr result.0 (self.new ≡ self.old) }
         ensures alone { office.now.charter.count ≡ 1 → IfErr result.0 (λ fault. fault ≢ TryFault.Busy) }
     {
