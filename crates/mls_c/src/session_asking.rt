@@ -68,6 +68,7 @@ pub extern "C" fn mls_session_check(
 fn decide_place(place: &mut Place, asked: &RequestNumbers, answer: &mut Answer) -> i32
     ensures status { DecideStatus (Some place.old) (request_of asked.now) result }
     ensures answered { result ≡ OK → Decides (Some place.old) (request_of asked.now) (Some place.new) answer.new }
+    ensures since { (n : ℕ) → Reaches n (Some place.old) → Reaches n (Some place.new) }
     ensures same { result ≢ OK → place.new ≡ place.old }
     ensures silent { result ≢ OK → answer.new ≡ answer.old }
     ensures alone { IsAlone (Some place.old) → result ≢ EBUSY }
@@ -95,6 +96,7 @@ pub extern "C" fn mls_session_decide(
     ensures status { DecideStatus s.old.place.value (request_of asked.now) result }
     ensures answered { result ≡ OK
         → Decides s.old.place.value (request_of asked.now) s.new.place.value answer.new }
+    ensures since { (n : ℕ) → Reaches n s.old.place.value → Reaches n s.new.place.value }
     ensures same { result ≢ OK → s.new.place.value ≡ s.old.place.value }
     ensures silent { result ≢ OK → answer.new ≡ answer.old }
     ensures alone { IsAlone s.old.place.value → result ≢ EBUSY }
