@@ -1,3 +1,5 @@
 mod Followed
 mod Compared
 mod Closing
+mod Stopped
+mod Ending
