@@ -7,7 +7,7 @@ ghost use Rattle.mls_spans.specs.Listings.{ListsFrom, RefusesFrom};
 use mls_marks::Marks;
 use mls_replay::QuestionFault;
 use mls_rows::{Form, Listing};
-use mls_seen::History;
+use mls_seen::TextHistory;
 use mls_spans::{Words, list_held};
 use std::alloc::Global;
 
@@ -19,7 +19,7 @@ use std::alloc::Global;
 pub fn held(
     alloc: Global,
     form: Form,
-    history: &History,
+    history: &TextHistory,
     marks: Option<&Marks>,
     words: &Words<'_>,
 ) -> Result<Listing, QuestionFault>

@@ -15,8 +15,8 @@ ghost use Rattle.mls_tables.specs.Triples.{Triple, is_triple};
 use crate::snapshot_fault::SnapshotFault;
 use crate::started::start_of;
 use mls_monitor::Start;
-use mls_replay::{QuestionFault, Replay};
-use mls_seen::History;
+use mls_replay::{QuestionFault, TextReplay};
+use mls_seen::TextHistory;
 use mls_snapshots::StateStart;
 use mls_spans::{Choice, States, Usage, Words, choose, chosen_usages, unused_of};
 use mls_state::State;
@@ -65,7 +65,7 @@ fn tight_state(alloc: Global, start: &Start, unused: &[Usage]) -> Result<State, 
 /// The permissions of some states of a replay that are asked for and were never granted.
 fn unused_in(
     alloc: Global,
-    replay: &Replay,
+    replay: &TextReplay,
     choice: &Choice,
     states: States,
 ) -> Result<Vec<Usage>, AllocError>
@@ -81,7 +81,7 @@ fn unused_in(
 /// never granted.
 fn tight_of(
     alloc: Global,
-    replay: &Replay,
+    replay: &TextReplay,
     choice: &Choice,
     states: States,
 ) -> Result<State, AllocError>
@@ -97,7 +97,7 @@ fn tight_of(
 /// The same, where want of memory is why a question isn't answered.
 fn tight_chosen(
     alloc: Global,
-    replay: &Replay,
+    replay: &TextReplay,
     choice: &Choice,
     states: States,
 ) -> Result<State, QuestionFault>
@@ -112,7 +112,7 @@ fn tight_chosen(
 #[tactic(auto, using(crate::proofs::Tight::tight_start, crate::proofs::Tight::refuses_memory))]
 fn tight_by(
     alloc: Global,
-    replay: &Replay,
+    replay: &TextReplay,
     states: States,
     words: &Words<'_>,
 ) -> Result<State, QuestionFault>
@@ -126,7 +126,7 @@ fn tight_by(
 }
 
 /// The start file of a state by the names of a replay.
-fn file_of(alloc: Global, replay: &Replay, state: State) -> Result<StateStart, SnapshotFault>
+fn file_of(alloc: Global, replay: &TextReplay, state: State) -> Result<StateStart, SnapshotFault>
     ensures ok { IfOk result
         (λ made. IsStartBy replay.now.names state made.order.items (string_bytes made.text)) }
     ensures few { IfOk result (λ made. string_len made.text ≤ START_LIMIT) }
@@ -142,7 +142,7 @@ fn file_of(alloc: Global, replay: &Replay, state: State) -> Result<StateStart, S
 #[tactic(auto, using(crate::proofs::Tight::tight_tells, crate::proofs::Tight::tight_refused))]
 fn tight_file(
     alloc: Global,
-    replay: &Replay,
+    replay: &TextReplay,
     states: States,
     words: &Words<'_>,
 ) -> Result<StateStart, SnapshotFault>
@@ -168,7 +168,7 @@ fn tight_file(
 /// - `Differs` where what was written doesn't open with the state. No state is known for which this happens.
 pub fn tightened(
     alloc: Global,
-    history: &History,
+    history: &TextHistory,
     last: Option<u64>,
     words: &Words<'_>,
 ) -> Result<StateStart, SnapshotFault>

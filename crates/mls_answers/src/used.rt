@@ -8,9 +8,9 @@ ghost use Rattle.mls_seen.specs.Histories.{ReplaysThat};
 ghost use Rattle.mls_spans.specs.UsageListings.{IsUsage, trust_seen, usages_seen};
 
 use mls_marks::Marks;
-use mls_replay::{QuestionFault, Replay};
+use mls_replay::{QuestionFault, TextReplay};
 use mls_rows::{Form, Listing};
-use mls_seen::History;
+use mls_seen::TextHistory;
 use mls_spans::{States, list_usage};
 use std::alloc::Global;
 
@@ -18,7 +18,7 @@ use std::alloc::Global;
 fn tell_states(
     alloc: Global,
     form: Form,
-    replay: &Replay,
+    replay: &TextReplay,
     marks: Option<&Marks>,
     states: States,
 ) -> Result<Listing, QuestionFault>
@@ -38,7 +38,7 @@ fn tell_states(
 pub fn usage(
     alloc: Global,
     form: Form,
-    history: &History,
+    history: &TextHistory,
     marks: Option<&Marks>,
     last: Option<u64>,
 ) -> Result<Listing, QuestionFault>

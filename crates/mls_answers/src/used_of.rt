@@ -10,9 +10,9 @@ ghost use Rattle.mls_spans.specs.UsageChosen.{IsUsageOf, ListsChosen, chosen_see
 
 use mls_lines::Names;
 use mls_marks::Marks;
-use mls_replay::{QuestionFault, Replay};
+use mls_replay::{QuestionFault, TextReplay};
 use mls_rows::{Form, Listing};
-use mls_seen::History;
+use mls_seen::TextHistory;
 use mls_spans::{Choice, States, Words, choose, list_usage_of};
 use std::alloc::Global;
 
@@ -21,7 +21,7 @@ fn list_chosen(
     alloc: Global,
     form: Form,
     names: &Names,
-    replay: &Replay,
+    replay: &TextReplay,
     marks: Option<&Marks>,
     choice: &Choice,
     states: States,
@@ -39,7 +39,7 @@ fn list_chosen(
 fn tell_chosen(
     alloc: Global,
     form: Form,
-    replay: &Replay,
+    replay: &TextReplay,
     marks: Option<&Marks>,
     states: States,
     words: &Words<'_>,
@@ -67,7 +67,7 @@ fn tell_chosen(
 pub fn usage_of(
     alloc: Global,
     form: Form,
-    history: &History,
+    history: &TextHistory,
     marks: Option<&Marks>,
     last: Option<u64>,
     words: &Words<'_>,

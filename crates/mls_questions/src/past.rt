@@ -5,7 +5,7 @@ use crate::sources::Bytes;
 use mls_files::{Hint, start_hint};
 use mls_marks::{Marks, Verified};
 use mls_replay::QuestionFault;
-use mls_seen::History;
+use mls_seen::{History, TextHistory, TextRefused};
 use mls_terminal::Progress;
 use std::alloc::Global;
 use std::process::ExitCode;
@@ -18,6 +18,14 @@ pub(crate) struct Past {
     pub marks: Option<Marks>,
     /// What the marks say.
     pub verified: Option<Verified>,
+}
+
+/// A journal that was replayed over a start file and whose entries are read as they come, with its marks where these
+/// were read.
+#[derive(Drop)]
+pub(crate) struct TextPast {
+    pub history: TextHistory,
+    pub marks: Option<Marks>,
 }
 
 /// Why a journal isn't replayed, and what the file looks like that is refused.
@@ -54,6 +62,41 @@ pub(crate) fn replayed(alloc: Global, bytes: Bytes, at: Option<u64>) -> Result<P
             drop(marks);
             drop(verified);
             let hint = hint_of(&fault, look, entries);
+            drop(journal);
+            Err(NotReplayed { fault, hint })
+        }
+    }
+}
+
+/// The journal, replayed, with its bytes, which may be none, and with the state before the entry of a number, or the
+/// one that all entries lead to.
+///
+/// # Errors
+/// Why it isn't replayed.
+pub(crate) fn replayed_text(
+    alloc: Global,
+    bytes: Bytes,
+    at: Option<u64>,
+) -> Result<TextPast, NotReplayed> {
+    let Bytes {
+        start,
+        journal,
+        marks,
+        verified,
+        at: _,
+    } = bytes;
+    drop(verified);
+    let journal = match journal {
+        Some(journal) => journal,
+        None => Vec::new(alloc),
+    };
+    let look = start_hint(&start);
+    match TextHistory::read(alloc, start, journal, at) {
+        Ok(history) => Ok(TextPast { history, marks }),
+        Err(refused) => {
+            drop(marks);
+            let TextRefused { fault, journal } = refused;
+            let hint = hint_of(&fault, look, &journal);
             drop(journal);
             Err(NotReplayed { fault, hint })
         }

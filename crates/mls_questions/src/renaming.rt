@@ -1,7 +1,7 @@
 //! Questions about a journal whose start was made of a state, with its objects by the names that they had before.
 use crate::answering::{bare_refused, question_refused};
 use crate::named::Named;
-use crate::past::{Past, past_refused, replayed};
+use crate::past::{Past, TextPast, past_refused, replayed, replayed_text};
 use crate::row_answers::{form_of, listed};
 use crate::sources::Bytes;
 use crate::usages::{are_all, chosen, named as usage_words};
@@ -272,11 +272,11 @@ fn held_by(
     alloc: Global,
     form: Form,
     names: &Names,
-    past: &Past,
+    past: &TextPast,
     words: &SpanWords<'_>,
 ) -> Result<Listing, QuestionFault> {
     let replay = past.history.replay();
-    words.states.begin_in(replay.entries())?;
+    words.states.begin_in(replay)?;
     let object = any_number_word(alloc, names, words.object)?;
     let by_number = SpanFilter {
         subject: words.subject,
@@ -285,15 +285,7 @@ fn held_by(
         states: words.states,
     };
     let choice = choose_spans(names, &by_number)?;
-    list_spans(
-        alloc,
-        form,
-        names,
-        replay.start(),
-        replay.entries(),
-        past.marks.as_ref(),
-        &choice,
-    )
+    list_spans(alloc, form, names, replay, past.marks.as_ref(), &choice)
 }
 
 /// Prints who held what over a journal, by these names of objects.
@@ -307,7 +299,7 @@ fn held_named<'a>(
     progress.begin("listing");
     let form = form_of(progress);
     let alloc = progress.rt().alloc();
-    match replayed(alloc, bytes, None) {
+    match replayed_text(alloc, bytes, None) {
         Ok(past) => {
             let done = held_by(alloc, form, names, &past, filter);
             let status = ended_by(progress, about, past.history.start_file(), done);
@@ -345,7 +337,7 @@ fn usage_chosen(
     alloc: Global,
     form: Form,
     names: &Names,
-    past: &Past,
+    past: &TextPast,
     words: &SpanWords<'_>,
     never: bool,
 ) -> Result<Listing, QuestionFault> {
@@ -375,7 +367,7 @@ fn usage_by(
     alloc: Global,
     form: Form,
     names: &Names,
-    past: &Past,
+    past: &TextPast,
     words: &UsageWords<'_>,
     states: States,
 ) -> Result<Listing, QuestionFault> {
@@ -405,7 +397,7 @@ fn usage_named(
     let about = usage_words(words);
     let form = form_of(progress);
     let alloc = progress.rt().alloc();
-    match replayed(alloc, bytes, Some(states.first)) {
+    match replayed_text(alloc, bytes, Some(states.first)) {
         Ok(past) => {
             let done = usage_by(alloc, form, names, &past, words, states);
             let status = ended_by(progress, &about, past.history.start_file(), done);

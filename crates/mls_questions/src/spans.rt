@@ -1,7 +1,7 @@
 //! The commands that look at all states of a journal.
 use crate::listing::earlier;
 use crate::named::Named;
-use crate::past::{Past, past_refused, replayed};
+use crate::past::{Past, TextPast, past_refused, replayed, replayed_text};
 use crate::renaming::held_after;
 use crate::row_answers::{form_of, rows_ended};
 use crate::sources::{Bytes, read_source};
@@ -69,7 +69,7 @@ fn timed_filter<'a>(words: &HeldWords<'a>, bytes: &Bytes) -> Words<'a> {
 fn held_over<'a>(
     progress: &mut Progress<'_>,
     named: &Named<'a>,
-    past: &Past,
+    past: &TextPast,
     filter: &Words<'a>,
 ) -> ExitCode {
     let alloc = progress.rt().alloc();
@@ -93,7 +93,7 @@ fn held_bytes(progress: &mut Progress<'_>, words: &HeldWords<'_>, bytes: Bytes) 
         hint: Hint::None,
     };
     progress.begin("listing");
-    match replayed(progress.rt().alloc(), bytes, None) {
+    match replayed_text(progress.rt().alloc(), bytes, None) {
         Ok(past) => {
             let status = held_over(progress, &named, &past, &filter);
             drop(past);

@@ -1,6 +1,6 @@
 //! The command that tells how permissions were used.
 use crate::named::Named;
-use crate::past::{Past, past_refused, replayed};
+use crate::past::{TextPast, past_refused, replayed_text};
 use crate::renaming::usage_after;
 use crate::row_answers::{form_of, rows_ended};
 use crate::snapshots::{ended_start, unmapped};
@@ -44,7 +44,7 @@ pub(crate) fn named<'a>(words: &UsageWords<'a>) -> Named<'a> {
 fn usage_over(
     progress: &mut Progress<'_>,
     words: &UsageWords<'_>,
-    past: &Past,
+    past: &TextPast,
     states: States,
 ) -> ExitCode {
     let alloc = progress.rt().alloc();
@@ -71,7 +71,7 @@ fn usage_over(
 fn tighten_over(
     progress: &mut Progress<'_>,
     words: &UsageWords<'_>,
-    past: &Past,
+    past: &TextPast,
     states: States,
 ) -> ExitCode {
     let alloc = progress.rt().alloc();
@@ -89,7 +89,7 @@ fn usage_bytes(progress: &mut Progress<'_>, words: &UsageWords<'_>, bytes: Bytes
         return usage_after(progress, words, map, bytes, states);
     }
     progress.begin("listing");
-    match replayed(progress.rt().alloc(), bytes, Some(states.first)) {
+    match replayed_text(progress.rt().alloc(), bytes, Some(states.first)) {
         Ok(past) => {
             let status = if words.tighten {
                 tighten_over(progress, words, &past, states)
