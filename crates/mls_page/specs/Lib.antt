@@ -1,6 +1,7 @@
 pub mod Bars
 pub mod ByTrust
 pub mod Heads
+pub mod Parts
 pub mod Reports
 pub mod Sections
 pub mod Short

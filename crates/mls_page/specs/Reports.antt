@@ -51,12 +51,15 @@ pub record HasLast (many : ℕ) (found : Option Found) (old new : Draft) : Type 
   pub lattice : Lists (codes "lattice") (codes "Lattice") (codes "mls lattice START") behind_counts behind_lattice
   pub verdict : new ≡ added behind_lattice (verified many found)
 
+-- Which part of the journal the page is about is appended, and all sections in their order. (own)
+pub record HasSections (r : Rows) (old new : Draft) : Type 0 where
+  pub middle : Draft
+  pub first_sections : HasFirst r.names.now r.short r.found r.trusting.now (added old (about r.part)) middle
+  pub last_sections : HasLast r.many r.found middle new
+
 -- A page about a journal: its head, which part of the journal it is about, all sections in their order, and its end.
 -- (own)
 pub record IsReport (r : Rows) (html : List ℕ) : Type 0 where
-  pub middle : Draft
   pub last : Draft
-  pub first_sections : HasFirst r.names.now r.short r.found r.trusting.now
-      (added (begun_page r.start.now r.journal.now) (about r.part)) middle
-  pub last_sections : HasLast r.many r.found middle last
+  pub sections : HasSections r (begun_page r.start.now r.journal.now) last
   pub bytes_are : html ≡ (lined (closed last)).bytes ++ bottom_text

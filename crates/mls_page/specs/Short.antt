@@ -1,10 +1,11 @@
 -- What matters, in five lines.
 use Rattle.std.specs.Prelude.{◌≡◌, ℕ, ◌==◌, List, [], ◌∷◌, codes, Option, Some, None, if◌then◌else◌}
 use Rattle.std.specs.Fmt.{decimal}
-use Rattle.mls_markup.specs.Drafts.{Draft, added}
+use Rattle.mls_markup.specs.Drafts.{Draft, added, closed, lined, opened}
 use Rattle.mls_markup.specs.Trees.{Forest, Words, Line, Both, joined, plain, classed}
 use Rattle.mls_markup.specs.declared.tag.Tag.TheVariants as tag
-use Rattle.mls_page.specs.Sections.{on_line, section}
+use Rattle.mls_markup.specs.declared.attribute.Attribute.TheVariants as attribute
+use Rattle.mls_page.specs.Sections.{heading, labelled, on_line, section}
 use Rattle.mls_page.specs.declared.short.Short.{Short}
 use Rattle.mls_page.specs.declared.verified.Found.{Found}
 
@@ -62,6 +63,15 @@ mark_words (Some found) = said_by found
 unfoldable pub verified_line : Option Found → Forest
 verified_line found =
     on_line (plain tag.Item (Both (plain tag.Bold (Words (codes "The journal was verified"))) (mark_words found)))
+
+-- The section up to its first line, and its last lines and its end. (own)
+abbrev pub begun_short : Short → Draft → Draft
+begun_short s d = added (added (opened (added (opened d tag.Section (labelled (codes "short")))
+    (heading (codes "short") (codes "In short"))) tag.Items ((attribute.Class, codes "short") ∷ [])) Line) (entries_line s)
+
+abbrev pub ended_short : Short → Option Found → Draft → Draft
+ended_short s found d =
+    lined (closed (lined (closed (added (added d (unused_line s)) (verified_line found)))))
 
 -- The section: the five lines, of which the second and the third, how denials went over time and who used trust, are
 -- some tree. (own)

@@ -2,11 +2,17 @@
 use Rattle.std.specs.Prelude.{ℕ, List, [], ◌∷◌, codes}
 use Rattle.std.specs.Borrow.{Bor}
 use Rattle.std.specs.Fmt.{decimal}
-use Rattle.mls_markup.specs.Trees.{Forest, End, Words, Line, Element, Both, plain, classed}
+use Rattle.mls_markup.specs.Trees.{Forest, End, Words, Line, Element, Both, joined, plain, classed}
 use Rattle.mls_markup.specs.declared.tag.Tag.TheVariants as tag
 use Rattle.mls_markup.specs.declared.attribute.Attribute.TheVariants as attribute
-use Rattle.mls_page.specs.Bars.{bar_of}
+use Rattle.mls_lines.specs.Names.{Names}
+use Rattle.mls_page.specs.Bars.{bar_of, class_of}
 use Rattle.mls_page.specs.Sections.{on_line}
+use Rattle.mls_page.specs.declared.cell.Cell.{Cell}
+use Rattle.mls_page.specs.declared.cell.Cell.TheVariants as cell
+use Rattle.mls_requests.specs.ModeWords.{mode_word}
+use Rattle.mls_tables.specs.Triples.{Triple}
+use Rattle.mls_wording.specs.Wording.{object_text, subject_text}
 
 -- The heading of a column; one without a title isn't there. (own)
 abbrev pub column : List ℕ → Forest
@@ -41,3 +47,29 @@ number_cell number = classed tag.TableCell (codes "number") (Words (decimal numb
 unfoldable pub share_cell : List ℕ → ℕ → ℕ → Forest
 share_cell colour greatest number =
     classed tag.TableCell (codes "number") (Both (Words (decimal number)) (bar_of colour greatest 0 number))
+
+-- The cell of an access that a row is called by: its subject, its mode and its object. (own)
+unfoldable pub access_cell : Names → Triple → Forest
+access_cell names t = Element tag.TableHeading ((attribute.Scope, codes "row") ∷ []) (joined (
+    Words (subject_text names t.0)
+    ∷ Words (codes " ")
+    ∷ Words (mode_word t.2)
+    ∷ Words (codes " ")
+    ∷ Words (object_text names t.1)
+    ∷ []))
+
+-- The cell of an object. (own)
+unfoldable pub object_cell : Names → ℕ → Forest
+object_cell names o = plain tag.TableCell (Words (object_text names o))
+
+-- What a cell is in the page; one whose column isn't there is nothing. (own)
+abbrev pub cell_of : Cell → Forest
+cell_of cell.Nothing = End
+cell_of (cell.Title text) = name_cell text.now
+cell_of (cell.Subject names s) = name_cell (subject_text names.now s)
+cell_of (cell.Access names access) = access_cell names.now access
+cell_of (cell.Text text) = plain tag.TableCell (Words text.now)
+cell_of (cell.Object names o) = object_cell names.now o
+cell_of (cell.Digest text) = classed tag.TableCell (codes "digest") (Words text.now)
+cell_of (cell.Number number) = number_cell number
+cell_of (cell.Share colour greatest number) = share_cell (class_of colour) greatest number

@@ -18,15 +18,6 @@ pub(crate) enum Colour {
     Held,
 }
 
-/// A bar over so many units, from one of them on and so many long.
-#[derive(Clone, Copy)]
-pub(crate) struct Bar {
-    pub colour: Colour,
-    pub units: u64,
-    pub from: u64,
-    pub length: u64,
-}
-
 impl Colour {
     /// The class of a bar of this colour.
     fn class(self) -> &'static str
@@ -81,13 +72,17 @@ pub(crate) fn stretch(page: &mut Page, from: u64, length: u64) -> Result<(), All
     path(page, shape)
 }
 
-/// Appends a bar.
+/// Appends a bar over so many units, from the first of them on and so many long.
 #[tactic(auto, unfolding(crate::specs::Bars::bar_of))]
-pub(crate) fn add_bar(page: &mut Page, bar: &Bar) -> Result<(), AllocError>
-    ensures { OnOk result (page.new
-        ≡ added page.old (bar_of (class_of bar.now.colour) bar.now.units bar.now.from bar.now.length)) }
+pub(crate) fn add_bar(
+    page: &mut Page,
+    colour: Colour,
+    units: u64,
+    length: u64,
+) -> Result<(), AllocError>
+    ensures { OnOk result (page.new ≡ added page.old (bar_of (class_of colour) units 0 length)) }
 {
-    begin_bars(page, bar.colour, bar.units)?;
-    stretch(page, bar.from, bar.length)?;
+    begin_bars(page, colour, units)?;
+    stretch(page, 0, length)?;
     page.close()
 }

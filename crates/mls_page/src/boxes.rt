@@ -1,6 +1,8 @@
 //! The boxes and the lines of a drawing, as inline SVG.
 use crate::drawing::{Drawing, LINE};
 use crate::lattice::Node;
+use crate::parts::{Part, add_parts};
+use crate::section::end_line;
 use crate::slot::{BOX, Place};
 use mls_lines::Names;
 use mls_markup::{Attribute, Page, Tag};
@@ -27,8 +29,7 @@ pub(crate) fn shape(page: &mut Page, class: &str, drawn: String) -> Result<(), A
     let done = page.open_all(Tag::Path, &attributes);
     drop(drawn);
     done?;
-    page.close()?;
-    page.line()
+    end_line(page)
 }
 
 /// A line between two points.
@@ -56,6 +57,19 @@ fn strokes(page: &mut Page, drawing: &Drawing) -> Result<(), AllocError> {
     Ok(())
 }
 
+/// As much of a text as fits into a box.
+fn front_of(text: &str) -> &str {
+    text.get(..FIT).unwrap_or(text)
+}
+
+/// What stands in place of what doesn't fit.
+fn dots_of(text: &str) -> &'static str {
+    match text.get(..FIT) {
+        Some(front) if front.len() < text.len() => "\u{2026}",
+        _ => "",
+    }
+}
+
 /// A line of text in a box, as far as it fits.
 pub(crate) fn box_line(
     page: &mut Page,
@@ -73,15 +87,13 @@ pub(crate) fn box_line(
     let done = page.open_all(Tag::Text, &attributes);
     drop(place);
     done?;
-    match text.get(..FIT) {
-        Some(front) if text.len() > FIT => {
-            page.text(front)?;
-            page.text("\u{2026}")?;
-        }
-        _ => page.text(text)?,
-    }
-    page.close()?;
-    page.line()
+    let parts = [
+        Part::Text(front_of(text)),
+        Part::Text(dots_of(text)),
+        Part::End,
+        Part::Line,
+    ];
+    add_parts(page, &parts)
 }
 
 /// The outline of a box.
@@ -198,11 +210,10 @@ pub(crate) fn begin_drawing(
 
 /// The end of a drawing.
 pub(crate) fn end_drawing(page: &mut Page) -> Result<(), AllocError> {
-    page.close()?;
-    page.line()?;
-    page.close()?;
-    page.close()?;
-    page.line()
+    add_parts(
+        page,
+        &[Part::End, Part::Line, Part::End, Part::End, Part::Line],
+    )
 }
 
 /// A drawing of labels.

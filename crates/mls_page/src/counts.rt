@@ -3,13 +3,11 @@ ghost use Rattle.std.specs.Prelude.{codes, OnOk};
 ghost use Rattle.mls_page.specs.Sections.{Lists};
 
 use crate::bar::Colour;
-use crate::named::subject_cell;
-use crate::section::{
-    COUNTS, add_listed, begin_appendix, end_appendix, heaviest, lighter, rest_of,
-};
+use crate::cell::{Cell, add_row};
+use crate::section::{COUNTS, add_listed, begin_appendix, end_line, heaviest, lighter, rest_of};
 use crate::share::{Share, Sums, greatest_of, shares_of, sums_of};
-use crate::table::{begin_row, begin_table, end_row, end_table, heading_cell, share_cell};
-use mls_groups::by_weight;
+use crate::table::{begin_table, end_table};
+use crate::weight::in_order;
 use mls_lines::Names;
 use mls_listings::{ReasonCount, Summary};
 use mls_markup::Page;
@@ -17,10 +15,8 @@ use std::alloc::{AllocError, Global};
 
 /// The row of a reason.
 fn reason_row(page: &mut Page, row: &ReasonCount, units: u64) -> Result<(), AllocError> {
-    begin_row(page)?;
-    heading_cell(page, row.reason.word())?;
-    share_cell(page, Colour::Denied, units, row.entries)?;
-    end_row(page)
+    let share = Cell::Share(Colour::Denied, units, row.entries);
+    add_row(page, &[Cell::Title(row.reason.word()), share])
 }
 
 /// The table of reasons, where there are such.
@@ -42,17 +38,12 @@ fn titled(title: &'static str, sum: u64) -> &'static str {
 }
 
 /// The cell of a number, where its column has something but zeros.
-fn cell_where(
-    page: &mut Page,
-    sum: u64,
-    colour: Colour,
-    units: u64,
-    number: u64,
-) -> Result<(), AllocError> {
+fn share_where(sum: u64, colour: Colour, units: u64, number: u64) -> Cell<'static> {
     if sum == 0 {
-        return Ok(());
+        Cell::Nothing
+    } else {
+        Cell::Share(colour, units, number)
     }
-    share_cell(page, colour, units, number)
 }
 
 /// The row of a subject.
@@ -63,18 +54,13 @@ fn subject_row(
     sums: &Sums,
     units: u64,
 ) -> Result<(), AllocError> {
-    begin_row(page)?;
-    subject_cell(page, names, share.subject)?;
-    cell_where(page, sums.granted, Colour::Granted, units, share.granted)?;
-    cell_where(page, sums.denied, Colour::Denied, units, share.denied)?;
-    cell_where(
-        page,
-        sums.undefined,
-        Colour::Undefined,
-        units,
-        share.undefined,
-    )?;
-    end_row(page)
+    let cells = [
+        Cell::Subject(names, share.subject),
+        share_where(sums.granted, Colour::Granted, units, share.granted),
+        share_where(sums.denied, Colour::Denied, units, share.denied),
+        share_where(sums.undefined, Colour::Undefined, units, share.undefined),
+    ];
+    add_row(page, &cells)
 }
 
 /// The table of some subjects, by their places.
@@ -114,20 +100,9 @@ fn subject_tables(
     if rest > 0 {
         begin_appendix(page, &COUNTS, rest)?;
         subject_table(page, names, shares, lighter(places))?;
-        end_appendix(page)?;
+        end_line(page)?;
     }
     Ok(())
-}
-
-/// The places of shares, by how many requests each has.
-fn in_order(alloc: Global, shares: &[Share]) -> Result<Vec<usize>, AllocError> {
-    let mut weights = Vec::new(alloc);
-    for share in shares {
-        weights.push(share.total())?;
-    }
-    let places = by_weight(alloc, &weights);
-    drop(weights);
-    places
 }
 
 /// The tables of subjects, those with most requests first.
@@ -138,14 +113,19 @@ fn by_subject(page: &mut Page, names: &Names, shares: &[Share]) -> Result<(), Al
     done
 }
 
+/// The tables of a summary: by reason and by subject.
+fn count_tables(page: &mut Page, names: &Names, summary: &Summary) -> Result<(), AllocError> {
+    reason_table(page, &summary.reasons)?;
+    let shares = shares_of(page.alloc(), &summary.replies)?;
+    let done = by_subject(page, names, &shares);
+    drop(shares);
+    done
+}
+
 /// A sheet with how many entries there are, and which.
 fn counts_sheet(alloc: Global, names: &Names, summary: &Summary) -> Result<Page, AllocError> {
     let mut sheet = Page::sheet(alloc);
-    reason_table(&mut sheet, &summary.reasons)?;
-    let shares = shares_of(alloc, &summary.replies)?;
-    let done = by_subject(&mut sheet, names, &shares);
-    drop(shares);
-    done?;
+    count_tables(&mut sheet, names, summary)?;
     Ok(sheet)
 }
 

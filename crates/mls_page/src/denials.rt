@@ -3,12 +3,13 @@ ghost use Rattle.std.specs.Prelude.{codes, OnOk};
 ghost use Rattle.mls_page.specs.Sections.{Lists};
 
 use crate::bar::Colour;
+use crate::cell::{Cell, add_cells};
 use crate::moment::moment_cell;
-use crate::named::{add_object, subject_cell};
+use crate::parts::{Part, add_parts};
 use crate::section::{
-    DENIALS, add_listed, add_paragraph, begin_appendix, end_appendix, heaviest, lighter, rest_of,
+    DENIALS, add_listed, add_paragraph, begin_appendix, end_line, heaviest, lighter, rest_of,
 };
-use crate::table::{begin_row, begin_table, end_row, end_table, share_cell, text_cell};
+use crate::table::{begin_table, end_table};
 use crate::walked::Walked;
 use mls_lines::Names;
 use mls_listings::push_asked;
@@ -30,49 +31,48 @@ fn reason_of(entry: &Entry) -> &'static str {
     }
 }
 
-/// The cells of who was denied what, and how often, where one of the entries is this.
-fn denial_cells(
+/// The cells of who was denied what, and how often; and of the last entry, where one of the entries is this.
+fn denial_cells<'a>(
     page: &mut Page,
-    names: &Names,
+    names: &'a Names,
+    marks: Option<&Marks>,
     entry: &Entry,
     count: u64,
     units: u64,
 ) -> Result<(), AllocError> {
-    subject_cell(page, names, entry.request.subject)?;
-    page.open(Tag::TableCell)?;
-    match object_about(&entry.request.action) {
-        Some(o) => add_object(page, names, o)?,
-        None => page.text("-")?,
-    }
-    page.close()?;
-    text_cell(page, reason_of(entry))?;
-    share_cell(page, Colour::Denied, units, count)
+    let object = match object_about(&entry.request.action) {
+        Some(o) => Cell::Object(names, o),
+        None => Cell::Text("-"),
+    };
+    let cells = [
+        Cell::Subject(names, entry.request.subject),
+        object,
+        Cell::Text(reason_of(entry)),
+        Cell::Share(Colour::Denied, units, count),
+    ];
+    add_cells(page, &cells)?;
+    moment_cell(page, marks, entry.number)?;
+    end_line(page)
 }
 
-/// What the last of some denied entries asked, and folded under it why it was denied.
-fn explanation(
-    page: &mut Page,
-    names: &Names,
-    entry: &Entry,
-    reason: &str,
-) -> Result<(), AllocError> {
+/// What the last of some denied entries asked, and the beginning of what is folded under it.
+fn begin_explanation(page: &mut Page, names: &Names, entry: &Entry) -> Result<(), AllocError> {
     let mut asked = String::new(page.alloc());
     push_asked(&mut asked, names, entry)?;
-    page.open(Tag::Details)?;
-    let told = page.leaf(Tag::Summary, &asked);
+    let parts = [
+        Part::BeginAs(Tag::TableRow, "why"),
+        Part::BeginWith(Tag::TableCell, Attribute::ColumnSpan, "5"),
+        Part::Begin(Tag::Details),
+        Part::Leaf(Tag::Summary, &asked),
+        Part::Line,
+        Part::Begin(Tag::Preformatted),
+    ];
+    let done = add_parts(page, &parts);
     drop(asked);
-    told?;
-    page.line()?;
-    page.open(Tag::Preformatted)?;
-    for line in reason.lines() {
-        page.text(line)?;
-        page.line()?;
-    }
-    page.close()?;
-    page.close()
+    done
 }
 
-/// The row that tells why the last of some entries was denied.
+/// The row that tells why the last of some entries was denied: what it asked, and folded under it the reason.
 fn why_row(
     page: &mut Page,
     names: &Names,
@@ -83,11 +83,14 @@ fn why_row(
     let Some(reason) = walked.reason_at(last) else {
         return Ok(());
     };
-    page.open_as(Tag::TableRow, "why")?;
-    page.open_with(Tag::TableCell, Attribute::ColumnSpan, "5")?;
-    explanation(page, names, entry, reason)?;
-    page.close()?;
-    end_row(page)
+    begin_explanation(page, names, entry)?;
+    for line in reason.lines() {
+        add_parts(page, &[Part::Text(line), Part::Line])?;
+    }
+    add_parts(
+        page,
+        &[Part::End, Part::End, Part::End, Part::End, Part::Line],
+    )
 }
 
 /// The rows of some denied entries, and why the last of them was.
@@ -104,9 +107,7 @@ fn denial_rows(
         return Ok(());
     };
     page.open_as(Tag::TableRow, "cause")?;
-    denial_cells(page, names, entry, denial.count, units)?;
-    moment_cell(page, marks, entry.number)?;
-    end_row(page)?;
+    denial_cells(page, names, marks, entry, denial.count, units)?;
     why_row(page, names, entry, walked, denial.last)
 }
 
@@ -122,10 +123,8 @@ fn lesser_row(
     let Some(entry) = entries.get(denial.last) else {
         return Ok(());
     };
-    begin_row(page)?;
-    denial_cells(page, names, entry, denial.count, units)?;
-    moment_cell(page, marks, entry.number)?;
-    end_row(page)
+    page.open(Tag::TableRow)?;
+    denial_cells(page, names, marks, entry, denial.count, units)
 }
 
 /// The table of the heaviest groups.
@@ -185,7 +184,7 @@ fn denial_tables(
     if rest > 0 {
         begin_appendix(page, &DENIALS, rest)?;
         second_table(page, names, entries, marks, denials, places)?;
-        end_appendix(page)?;
+        end_line(page)?;
     }
     Ok(())
 }

@@ -1,27 +1,22 @@
 //! Each permission, in the appendix.
-use crate::gets::{Gets, get_cells, titled};
+use crate::cell::{Cell, add_cells};
+use crate::gets::{Gets, number_where, titled};
 use crate::moment::last_cell;
-use crate::named::add_access;
-use crate::section::{LISTED, begin_folded, end_appendix};
-use crate::table::{begin_row, begin_table, end_row, end_table};
+use crate::section::{LISTED, begin_folded, end_line};
+use crate::table::{begin_table, end_table};
 use mls_lines::Names;
 use mls_marks::Marks;
-use mls_markup::{Attribute, Page, Tag};
+use mls_markup::{Page, Tag};
 use mls_spans::Usage;
 use std::alloc::AllocError;
 
-/// The cells of how a permission was used.
-fn use_cells(
-    page: &mut Page,
-    marks: Option<&Marks>,
-    all: &Gets,
-    usage: &Usage,
-) -> Result<(), AllocError> {
-    get_cells(page, all, usage.uses.granted, usage.uses.denied)?;
-    if usage.uses.last.is_none() && usage.is_held {
-        return last_cell(page, marks, None, "start");
+/// What is told of a permission that no entry got or was denied.
+fn never_of(usage: &Usage) -> &'static str {
+    if usage.is_held {
+        "start"
+    } else {
+        "never asked"
     }
-    last_cell(page, marks, usage.uses.last, "never asked")
 }
 
 /// The row of a permission.
@@ -32,12 +27,15 @@ fn permission_row(
     all: &Gets,
     usage: &Usage,
 ) -> Result<(), AllocError> {
-    begin_row(page)?;
-    page.open_with(Tag::TableHeading, Attribute::Scope, "row")?;
-    add_access(page, names, usage.access)?;
-    page.close()?;
-    use_cells(page, marks, all, usage)?;
-    end_row(page)
+    let cells = [
+        Cell::Access(names, usage.access),
+        number_where(all.granted, usage.uses.granted),
+        number_where(all.denied, usage.uses.denied),
+    ];
+    page.open(Tag::TableRow)?;
+    add_cells(page, &cells)?;
+    last_cell(page, marks, usage.uses.last, never_of(usage))?;
+    end_line(page)
 }
 
 /// The permissions, never granted ones or the others, as many as are listed.
@@ -91,5 +89,5 @@ pub(crate) fn add_each(
         usages.len().min(LISTED) as u64,
     )?;
     permission_table(page, names, marks, all, usages)?;
-    end_appendix(page)
+    end_line(page)
 }

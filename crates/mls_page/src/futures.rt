@@ -2,9 +2,10 @@
 ghost use Rattle.std.specs.Prelude.{codes, OnOk};
 ghost use Rattle.mls_page.specs.Sections.{Shows};
 
-use crate::grid::{add_grid, add_sign};
+use crate::grid::{add_grid, sign_at};
 use crate::hands::add_hands;
-use crate::section::{FUTURES, add_shown};
+use crate::parts::{Part, add_parts};
+use crate::section::{FUTURES, add_shown, end_line};
 use mls_grid::{Grid, Prospect};
 use mls_lines::Names;
 use mls_markup::{Page, Tag};
@@ -22,6 +23,10 @@ const FLOWS: &str =
      object on the left could come to a subject that a line leads to, and from it to an object on the right. A dashed \
      line goes down: the object's label does not dominate that of an object on the left that the subject could see. ";
 
+const CAPTION: &str = "Objects by subjects, those with most + first";
+
+const PLACES: &str = "The four places of a cell are for execute, read, append and write:";
+
 /// What the signs say, each in a line.
 const LEGEND: [(Prospect, &str); 4] = [
     (Prospect::Held, "held now"),
@@ -35,41 +40,47 @@ const LEGEND: [(Prospect, &str); 4] = [
 
 /// What the section is about.
 fn source(page: &mut Page) -> Result<(), AllocError> {
-    page.open_as(Tag::Paragraph, "source")?;
-    page.leaf(Tag::Code, COMMAND)?;
-    page.text(ACTING)?;
-    page.close()?;
-    page.line()
+    let parts = [
+        Part::BeginAs(Tag::Paragraph, "source"),
+        Part::Leaf(Tag::Code, COMMAND),
+        Part::Text(ACTING),
+        Part::End,
+        Part::Line,
+    ];
+    add_parts(page, &parts)
 }
 
 /// The line of a sign, which is there of each mode.
 fn sign_line(page: &mut Page, prospect: Prospect, told: &str) -> Result<(), AllocError> {
-    page.open(Tag::Item)?;
-    page.open(Tag::Code)?;
-    for place in 0..4usize {
-        add_sign(page, place, prospect)?;
-    }
-    page.close()?;
-    page.text(": ")?;
-    page.text(told)?;
-    page.close()?;
-    page.line()
+    let parts = [
+        Part::Begin(Tag::Item),
+        Part::Begin(Tag::Code),
+        sign_at(0, prospect),
+        sign_at(1, prospect),
+        sign_at(2, prospect),
+        sign_at(3, prospect),
+        Part::End,
+        Part::Text(": "),
+        Part::Text(told),
+        Part::End,
+        Part::Line,
+    ];
+    add_parts(page, &parts)
 }
 
 /// What the signs say.
 fn legend(page: &mut Page) -> Result<(), AllocError> {
-    page.leaf(
-        Tag::Paragraph,
-        "The four places of a cell are for execute, read, append and write:",
-    )?;
-    page.line()?;
-    page.open_as(Tag::Items, "legend")?;
-    page.line()?;
+    let parts = [
+        Part::Leaf(Tag::Paragraph, PLACES),
+        Part::Line,
+        Part::BeginAs(Tag::Items, "legend"),
+        Part::Line,
+    ];
+    add_parts(page, &parts)?;
     for (prospect, told) in &LEGEND {
         sign_line(page, *prospect, told)?;
     }
-    page.close()?;
-    page.line()
+    end_line(page)
 }
 
 /// How many objects and subjects the grid doesn't have, where there are such.
@@ -77,25 +88,45 @@ fn more(page: &mut Page, grid: &Grid) -> Result<(), AllocError> {
     if grid.more_objects == 0 && grid.more_subjects == 0 {
         return Ok(());
     }
-    page.open_as(Tag::Paragraph, "more")?;
-    page.number(grid.more_objects)?;
-    page.text(" more objects and ")?;
-    page.number(grid.more_subjects)?;
-    page.text(" more subjects, each with less: ")?;
-    page.leaf(Tag::Code, COMMAND)?;
-    page.text(" lists all subjects of an object.")?;
-    page.close()?;
-    page.line()
+    let parts = [
+        Part::BeginAs(Tag::Paragraph, "more"),
+        Part::Number(grid.more_objects),
+        Part::Text(" more objects and "),
+        Part::Number(grid.more_subjects),
+        Part::Text(" more subjects, each with less: "),
+        Part::Leaf(Tag::Code, COMMAND),
+        Part::Text(" lists all subjects of an object."),
+        Part::End,
+        Part::Line,
+    ];
+    add_parts(page, &parts)
 }
 
-/// How content could flow by one access of the first subjects and objects of a grid.
-fn drawn(page: &mut Page, names: &Names, state: &State, grid: &Grid) -> Result<(), AllocError> {
-    page.open_as(Tag::Paragraph, "source")?;
-    page.text(FLOWS)?;
-    page.leaf(Tag::Code, "mls flow --journal J START OBJECT")?;
-    page.text(" tells where content of an object could flow by many.")?;
-    page.close()?;
-    page.line()?;
+/// What the drawing of flows is of.
+fn flows(page: &mut Page) -> Result<(), AllocError> {
+    let parts = [
+        Part::BeginAs(Tag::Paragraph, "source"),
+        Part::Text(FLOWS),
+        Part::Leaf(Tag::Code, "mls flow --journal J START OBJECT"),
+        Part::Text(" tells where content of an object could flow by many."),
+        Part::End,
+        Part::Line,
+    ];
+    add_parts(page, &parts)
+}
+
+/// Appends what is under the heading.
+fn add_prospects(
+    page: &mut Page,
+    names: &Names,
+    state: &State,
+    grid: &Grid,
+) -> Result<(), AllocError> {
+    source(page)?;
+    legend(page)?;
+    add_grid(page, names, CAPTION, grid)?;
+    more(page, grid)?;
+    flows(page)?;
     add_hands(page, names, state, grid)
 }
 
@@ -107,16 +138,7 @@ fn futures_sheet(
     grid: &Grid,
 ) -> Result<Page, AllocError> {
     let mut sheet = Page::sheet(alloc);
-    source(&mut sheet)?;
-    legend(&mut sheet)?;
-    add_grid(
-        &mut sheet,
-        names,
-        "Objects by subjects, those with most + first",
-        grid,
-    )?;
-    more(&mut sheet, grid)?;
-    drawn(&mut sheet, names, state, grid)?;
+    add_prospects(&mut sheet, names, state, grid)?;
     Ok(sheet)
 }
 

@@ -1,8 +1,6 @@
 //! How many gets of permissions there are, in columns.
-use crate::table::number_cell;
-use mls_markup::Page;
+use crate::cell::Cell;
 use mls_spans::Usage;
-use std::alloc::AllocError;
 
 /// How many gets of permissions there are: a column that would have only zeros isn't there.
 #[derive(Clone, Copy)]
@@ -29,18 +27,11 @@ pub(crate) fn titled(title: &'static str, sum: u64) -> &'static str {
     if sum == 0 { "" } else { title }
 }
 
-/// The cells of how many gets were granted and denied, as far as there are columns.
-pub(crate) fn get_cells(
-    page: &mut Page,
-    all: &Gets,
-    granted: u64,
-    denied: u64,
-) -> Result<(), AllocError> {
-    if all.granted > 0 {
-        number_cell(page, granted)?;
+/// The cell of a number, where its column has something but zeros.
+pub(crate) fn number_where(sum: u64, number: u64) -> Cell<'static> {
+    if sum == 0 {
+        Cell::Nothing
+    } else {
+        Cell::Number(number)
     }
-    if all.denied > 0 {
-        number_cell(page, denied)?;
-    }
-    Ok(())
 }

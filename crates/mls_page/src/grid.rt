@@ -1,6 +1,7 @@
 //! A grid of objects and subjects, object by object.
-use crate::named::{add_object, add_subject};
-use crate::table::{begin_row, end_row, end_table};
+use crate::parts::{Part, add_parts};
+use crate::section::end_line;
+use crate::table::{begin_body, end_table};
 use mls_grid::{Cell, Grid, Prospect};
 use mls_lines::Names;
 use mls_markup::{Attribute, Page, Tag};
@@ -26,52 +27,55 @@ fn letters(place: usize) -> (&'static str, &'static str) {
 }
 
 /// What is to be expected of a mode, as a sign at its place.
-pub(crate) fn add_sign(
-    page: &mut Page,
-    place: usize,
-    prospect: Prospect,
-) -> Result<(), AllocError> {
+pub(crate) fn sign_at(place: usize, prospect: Prospect) -> Part<'static> {
     let (small, great) = letters(place);
     match prospect {
-        Prospect::Held => page.leaf_as(Tag::Span, "now", great),
-        Prospect::Permitted => page.text(small),
-        Prospect::Brought => page.leaf_as(Tag::Span, "new", "+"),
-        Prospect::Never => page.leaf_as(Tag::Span, "never", "\u{b7}"),
+        Prospect::Held => Part::LeafAs(Tag::Span, "now", great),
+        Prospect::Permitted => Part::Text(small),
+        Prospect::Brought => Part::LeafAs(Tag::Span, "new", "+"),
+        Prospect::Never => Part::LeafAs(Tag::Span, "never", "\u{b7}"),
     }
 }
 
 /// What a cell tells of the four modes.
 fn cell(page: &mut Page, cell: &Cell) -> Result<(), AllocError> {
-    page.open(Tag::TableCell)?;
-    add_sign(page, 0, cell.execute)?;
-    add_sign(page, 1, cell.read)?;
-    add_sign(page, 2, cell.append)?;
-    add_sign(page, 3, cell.write)?;
-    page.close()
+    let parts = [
+        Part::Begin(Tag::TableCell),
+        sign_at(0, cell.execute),
+        sign_at(1, cell.read),
+        sign_at(2, cell.append),
+        sign_at(3, cell.write),
+        Part::End,
+    ];
+    add_parts(page, &parts)
 }
 
 /// The heading of a subject's column.
 fn subject_heading(page: &mut Page, names: &Names, s: SubjectId) -> Result<(), AllocError> {
-    page.open_with(Tag::TableHeading, Attribute::Scope, "col")?;
-    page.open(Tag::Division)?;
-    add_subject(page, names, s)?;
-    page.close()?;
-    page.close()
+    let parts = [
+        Part::BeginWith(Tag::TableHeading, Attribute::Scope, "col"),
+        Part::Begin(Tag::Division),
+        Part::Subject(names, s),
+        Part::End,
+        Part::End,
+    ];
+    add_parts(page, &parts)
 }
 
-/// The headings of all columns.
+/// The headings of all columns, and the beginning of the rows.
 fn headings(page: &mut Page, names: &Names, subjects: &[SubjectId]) -> Result<(), AllocError> {
-    page.open(Tag::TableHead)?;
-    page.open(Tag::TableRow)?;
-    page.open_with(Tag::TableHeading, Attribute::Scope, "col")?;
-    page.text("Object")?;
-    page.close()?;
+    let parts = [
+        Part::Begin(Tag::TableHead),
+        Part::Begin(Tag::TableRow),
+        Part::BeginWith(Tag::TableHeading, Attribute::Scope, "col"),
+        Part::Text("Object"),
+        Part::End,
+    ];
+    add_parts(page, &parts)?;
     for s in subjects {
         subject_heading(page, names, *s)?;
     }
-    page.close()?;
-    page.close()?;
-    page.line()
+    begin_body(page)
 }
 
 /// The row of an object, which has these cells.
@@ -81,14 +85,17 @@ fn object_row(
     o: ObjectId,
     cells: &[Cell],
 ) -> Result<(), AllocError> {
-    begin_row(page)?;
-    page.open_with(Tag::TableHeading, Attribute::Scope, "row")?;
-    add_object(page, names, o)?;
-    page.close()?;
+    let parts = [
+        Part::Begin(Tag::TableRow),
+        Part::BeginWith(Tag::TableHeading, Attribute::Scope, "row"),
+        Part::Object(names, o),
+        Part::End,
+    ];
+    add_parts(page, &parts)?;
     for one in cells {
         cell(page, one)?;
     }
-    end_row(page)
+    end_line(page)
 }
 
 /// The cells of the object at a place.
@@ -102,8 +109,6 @@ fn cells_at(grid: &Grid, place: usize) -> &[Cell] {
 
 /// The rows of all objects.
 fn object_rows(page: &mut Page, names: &Names, grid: &Grid) -> Result<(), AllocError> {
-    page.open(Tag::TableBody)?;
-    page.line()?;
     for (place, o) in grid.objects.iter().enumerate() {
         object_row(page, names, *o, cells_at(grid, place))?;
     }
@@ -118,13 +123,15 @@ pub(crate) fn add_grid(
     grid: &Grid,
 ) -> Result<(), AllocError> {
     page.open_all(Tag::Division, &WIDE)?;
-    page.line()?;
-    page.open(Tag::Table)?;
-    page.leaf(Tag::Caption, caption)?;
-    page.line()?;
+    let parts = [
+        Part::Line,
+        Part::Begin(Tag::Table),
+        Part::Leaf(Tag::Caption, caption),
+        Part::Line,
+    ];
+    add_parts(page, &parts)?;
     headings(page, names, &grid.subjects)?;
     object_rows(page, names, grid)?;
     end_table(page)?;
-    page.close()?;
-    page.line()
+    end_line(page)
 }

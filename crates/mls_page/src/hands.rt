@@ -6,6 +6,7 @@ use mls_labels::SecLabel;
 use mls_lines::Names;
 use mls_markup::Page;
 use mls_state::State;
+use mls_tables::{ObjectId, SubjectId};
 use mls_wording::{push_object, push_subject};
 use std::alloc::{AllocError, Global};
 
@@ -123,36 +124,61 @@ fn object_lines(
     Ok(())
 }
 
-/// The names of the objects, in both columns.
-fn object_names(page: &mut Page, names: &Names, grid: &Grid) -> Result<(), AllocError> {
+/// A text in a row of both columns of objects.
+fn in_both(page: &mut Page, row: usize, text: &str) -> Result<(), AllocError> {
+    let y = height_of(row);
+    box_line(page, "from", (COLUMNS[0], y), text)?;
+    box_line(page, "to", (COLUMNS[2], y), text)
+}
+
+/// The name of an object, in a row of both columns.
+fn object_name(page: &mut Page, names: &Names, row: usize, o: ObjectId) -> Result<(), AllocError> {
+    let mut text = String::new(page.alloc());
+    push_object(&mut text, names, o)?;
+    let done = in_both(page, row, &text);
+    drop(text);
+    done
+}
+
+/// The name of a subject, in a row.
+fn subject_name(
+    page: &mut Page,
+    names: &Names,
+    row: usize,
+    s: SubjectId,
+) -> Result<(), AllocError> {
+    let mut text = String::new(page.alloc());
+    push_subject(&mut text, names, s)?;
+    let done = box_line(page, "label", (COLUMNS[1], height_of(row)), &text);
+    drop(text);
+    done
+}
+
+/// The names of the objects and of the subjects.
+fn all_names(page: &mut Page, names: &Names, grid: &Grid) -> Result<(), AllocError> {
     for (row, o) in grid.objects.iter().take(DRAWN).enumerate() {
-        let mut text = String::new(page.alloc());
-        push_object(&mut text, names, *o)?;
-        let y = height_of(row);
-        box_line(page, "from", (COLUMNS[0], y), &text)?;
-        box_line(page, "to", (COLUMNS[2], y), &text)?;
-        drop(text);
+        object_name(page, names, row, *o)?;
     }
-    Ok(())
-}
-
-/// The names of the subjects.
-fn subject_names(page: &mut Page, names: &Names, grid: &Grid) -> Result<(), AllocError> {
     for (row, s) in grid.subjects.iter().take(DRAWN).enumerate() {
-        let mut text = String::new(page.alloc());
-        push_subject(&mut text, names, *s)?;
-        box_line(page, "label", (COLUMNS[1], height_of(row)), &text)?;
-        drop(text);
+        subject_name(page, names, row, *s)?;
     }
     Ok(())
 }
 
-/// All lines.
+/// The lines of objects that have these labels.
 fn lines(page: &mut Page, grid: &Grid, labels: &[SecLabel]) -> Result<(), AllocError> {
     for (object, label) in labels.iter().enumerate() {
         object_lines(page, grid, labels, object, label)?;
     }
     Ok(())
+}
+
+/// All lines of a grid of a state.
+fn all_lines(page: &mut Page, state: &State, grid: &Grid) -> Result<(), AllocError> {
+    let labels = labels_of(page.alloc(), state, grid)?;
+    let done = lines(page, grid, &labels);
+    drop(labels);
+    done
 }
 
 /// Appends the drawing of the first objects and subjects of a grid of a state.
@@ -165,13 +191,9 @@ pub(crate) fn add_hands(
     state: &State,
     grid: &Grid,
 ) -> Result<(), AllocError> {
-    let labels = labels_of(page.alloc(), state, grid)?;
     let rows = grid.objects.len().max(grid.subjects.len()).min(DRAWN);
     begin_drawing(page, CALLED, WIDTH, height_of(rows))?;
-    let done = lines(page, grid, &labels);
-    drop(labels);
-    done?;
-    object_names(page, names, grid)?;
-    subject_names(page, names, grid)?;
+    all_lines(page, state, grid)?;
+    all_names(page, names, grid)?;
     end_drawing(page)
 }

@@ -2,13 +2,14 @@
 ghost use Rattle.std.specs.Prelude.{◌≡◌, ◌∷◌, ◌++◌, [], codes, string_bytes, IfOk, OnOk};
 ghost use Rattle.mls_markup.specs.Documents.{bottom_text};
 ghost use Rattle.mls_markup.specs.Drafts.{added, blank, closed, lined, opened};
-ghost use Rattle.mls_markup.specs.Trees.{all_of};
+ghost use Rattle.mls_markup.specs.Trees.{Both, Line, all_of};
 ghost use Rattle.mls_markup.specs.declared.tag.Tag.TheVariants as tag;
 ghost use Rattle.mls_markup.specs.declared.attribute.Attribute.TheVariants as attribute;
 ghost use Rattle.mls_page.specs.Heads.{all_links, begun_page, header, link_to, links, title};
 ghost use Rattle.mls_markup.specs.Pages.{IsPage};
 
-use crate::section::{SECTIONS, Section};
+use crate::parts::{Part, add_parts};
+use crate::section::{SECTIONS, Section, end_line};
 use mls_markup::{Attribute, Page, Tag};
 use std::alloc::{AllocError, Global};
 
@@ -35,24 +36,27 @@ fn titled(alloc: Global, journal: &str) -> Result<Page, AllocError>
 
 /// The heading of the page.
 #[tactic(auto, unfolding(crate::specs::Heads::header))]
-fn add_header(page: &mut Page, start: &str, journal: &str) -> Result<(), AllocError>
+fn add_header<'a>(page: &mut Page, start: &'a str, journal: &'a str) -> Result<(), AllocError>
     ensures { OnOk result (page.new ≡ added page.old (header start.now journal.now)) }
 {
-    page.open(Tag::Header)?;
-    page.line()?;
-    page.open(Tag::HeadingOfPage)?;
-    page.text("Report of ")?;
-    page.text(journal)?;
-    page.close()?;
-    page.line()?;
-    page.open(Tag::Paragraph)?;
-    page.text("A journal over the start file ")?;
-    page.leaf(Tag::Code, start)?;
-    page.text(". START and J below are these two files.")?;
-    page.close()?;
-    page.line()?;
-    page.close()?;
-    page.line()
+    let parts = [
+        Part::Begin(Tag::Header),
+        Part::Line,
+        Part::Begin(Tag::HeadingOfPage),
+        Part::Text("Report of "),
+        Part::Text(journal),
+        Part::End,
+        Part::Line,
+        Part::Begin(Tag::Paragraph),
+        Part::Text("A journal over the start file "),
+        Part::Leaf(Tag::Code, start),
+        Part::Text(". START and J below are these two files."),
+        Part::End,
+        Part::Line,
+        Part::End,
+        Part::Line,
+    ];
+    add_parts(page, &parts)
 }
 
 /// Begins the link to an address in the page.
@@ -74,10 +78,8 @@ fn add_link(page: &mut Page, section: &Section) -> Result<(), AllocError>
 {
     page.open(Tag::Item)?;
     begin_link(page, section.id)?;
-    page.text(section.title)?;
-    page.close()?;
-    page.close()?;
-    page.line()
+    let title = Part::Text(section.title);
+    add_parts(page, &[title, Part::End, Part::End, Part::Line])
 }
 
 /// The links to sections.
@@ -103,12 +105,24 @@ fn add_all(page: &mut Page) -> Result<(), AllocError>
 fn add_links(page: &mut Page) -> Result<(), AllocError>
     ensures { OnOk result (page.new ≡ added page.old links) }
 {
-    page.open_with(Tag::Navigation, Attribute::AriaLabel, "Sections")?;
-    page.open(Tag::Items)?;
-    page.line()?;
+    let parts = [
+        Part::BeginWith(Tag::Navigation, Attribute::AriaLabel, "Sections"),
+        Part::Begin(Tag::Items),
+        Part::Line,
+    ];
+    add_parts(page, &parts)?;
     add_all(page)?;
-    page.close()?;
-    page.close()?;
+    add_parts(page, &[Part::End, Part::End, Part::Line])
+}
+
+/// The page's heading and its links, and the beginning of what holds its sections.
+fn begin_main<'a>(page: &mut Page, start: &'a str, journal: &'a str) -> Result<(), AllocError>
+    ensures { OnOk result (page.new
+        ≡ added (opened (added page.old (Both (header start.now journal.now) links)) tag.Main []) Line) }
+{
+    add_header(page, start, journal)?;
+    add_links(page)?;
+    page.open(Tag::Main)?;
     page.line()
 }
 
@@ -116,14 +130,15 @@ fn add_links(page: &mut Page) -> Result<(), AllocError>
 ///
 /// # Errors
 /// `AllocError` where an allocation failed.
-pub(crate) fn begin_report(alloc: Global, start: &str, journal: &str) -> Result<Page, AllocError>
+pub(crate) fn begin_report<'a>(
+    alloc: Global,
+    start: &'a str,
+    journal: &'a str,
+) -> Result<Page, AllocError>
     ensures { IfOk result (λ page. page ≡ begun_page start.now journal.now) }
 {
     let mut page = titled(alloc, journal)?;
-    add_header(&mut page, start, journal)?;
-    add_links(&mut page)?;
-    page.open(Tag::Main)?;
-    page.line()?;
+    begin_main(&mut page, start, journal)?;
     Ok(page)
 }
 
@@ -136,7 +151,6 @@ pub(crate) fn end_report(page: Page) -> Result<Vec<u8>, AllocError>
     ensures bytes { IfOk result (λ html. html.items ≡ (lined (closed page)).bytes ++ bottom_text) }
 {
     let mut page = page;
-    page.close()?;
-    page.line()?;
+    end_line(&mut page)?;
     page.into_html()
 }

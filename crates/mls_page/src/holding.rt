@@ -4,7 +4,6 @@ ghost use Rattle.mls_spans.specs.Kept.{key_of};
 ghost use Rattle.mls_tables.specs.Mode.{mode_number};
 
 use mls_groups::{Group, Grouping, by_weight};
-use mls_requests::mode_word;
 use mls_spans::Span;
 use mls_tables::{Mode, ObjectId, SubjectId};
 use std::alloc::{AllocError, Global};
@@ -94,10 +93,4 @@ pub(crate) fn ends_of<'a>(
     let (_, first) = *members.first()?;
     let (_, last) = *members.last()?;
     Some((spans.get(first)?, spans.get(last)?))
-}
-
-/// The word of a span's mode.
-pub(crate) fn mode_of(span: &Span) -> &'static str {
-    let (_, _, x) = span.access;
-    mode_word(x)
 }

@@ -3,16 +3,18 @@ ghost use Rattle.std.specs.Prelude.{codes, OnOk};
 ghost use Rattle.mls_page.specs.Sections.{Lists};
 
 use crate::boxes::draw;
+use crate::cell::{Cell, add_cells};
 use crate::drawing::Drawing;
 use crate::lattice::{Lattice, Node};
+use crate::parts::{Part, add_parts};
 use crate::section::{
-    LATTICE, add_listed, begin_appendix, end_appendix, heaviest, lighter, rest_of,
+    LATTICE, add_listed, add_paragraph, begin_appendix, end_line, heaviest, lighter, rest_of,
 };
-use crate::table::{begin_row, begin_table, end_row, end_table};
-use mls_groups::by_weight;
+use crate::table::{begin_table, end_table};
+use crate::weight::in_order;
 use mls_labels::SecLabel;
 use mls_lines::Names;
-use mls_markup::{Attribute, Page, Tag};
+use mls_markup::{Page, Tag};
 use mls_review::{Holder, push_holder};
 use mls_start::Start;
 use mls_wording::push_security;
@@ -36,8 +38,7 @@ fn lattice_of(alloc: Global, start: &Start) -> Result<Lattice, AllocError> {
 /// The drawing of a lattice.
 fn drawing(page: &mut Page, names: &Names, lattice: &Lattice) -> Result<(), AllocError> {
     if lattice.nodes.len() > DRAWN {
-        page.leaf(Tag::Paragraph, "More than 60 labels are not drawn.")?;
-        return page.line();
+        return add_paragraph(page, "More than 60 labels are not drawn.");
     }
     let drawing = Drawing::of(page.alloc(), &lattice.nodes, &lattice.covers)?;
     let done = draw(page, names, &drawing, &lattice.nodes);
@@ -45,11 +46,20 @@ fn drawing(page: &mut Page, names: &Names, lattice: &Lattice) -> Result<(), Allo
     done
 }
 
-/// Appends a label.
-fn add_label(page: &mut Page, names: &Names, label: SecLabel) -> Result<(), AllocError> {
+/// The cell of a label that a row is called by.
+fn label_cell(page: &mut Page, names: &Names, label: SecLabel) -> Result<(), AllocError> {
     let mut text = String::new(page.alloc());
     push_security(&mut text, names, label)?;
-    let done = page.text(&text);
+    let done = add_cells(page, &[Cell::Title(&text)]);
+    drop(text);
+    done
+}
+
+/// The item of a label.
+fn label_item(page: &mut Page, names: &Names, label: SecLabel) -> Result<(), AllocError> {
+    let mut text = String::new(page.alloc());
+    push_security(&mut text, names, label)?;
+    let done = page.leaf(Tag::Item, &text);
     drop(text);
     done
 }
@@ -73,9 +83,7 @@ fn covered(
     for cover in &lattice.covers {
         if cover.upper == place {
             if let Some(lower) = lattice.nodes.get(cover.lower) {
-                page.open(Tag::Item)?;
-                add_label(page, names, lower.label)?;
-                page.close()?;
+                label_item(page, names, lower.label)?;
             }
         }
     }
@@ -91,11 +99,14 @@ fn holder_items(page: &mut Page, names: &Names, node: &Node) -> Result<(), Alloc
     if more == 0 {
         return Ok(());
     }
-    page.open(Tag::Item)?;
-    page.text("and ")?;
-    page.number(more)?;
-    page.text(" more")?;
-    page.close()
+    let parts = [
+        Part::Begin(Tag::Item),
+        Part::Text("and "),
+        Part::Number(more),
+        Part::Text(" more"),
+        Part::End,
+    ];
+    add_parts(page, &parts)
 }
 
 /// The row of the label at a place.
@@ -106,21 +117,19 @@ fn label_row(
     place: usize,
     node: &Node,
 ) -> Result<(), AllocError> {
-    begin_row(page)?;
-    page.open_with(Tag::TableHeading, Attribute::Scope, "row")?;
-    add_label(page, names, node.label)?;
-    page.close()?;
-    page.open(Tag::TableCell)?;
-    page.open_as(Tag::Items, "named")?;
+    page.open(Tag::TableRow)?;
+    label_cell(page, names, node.label)?;
+    let begins = [
+        Part::Begin(Tag::TableCell),
+        Part::BeginAs(Tag::Items, "named"),
+    ];
+    add_parts(page, &begins)?;
     covered(page, names, lattice, place)?;
     page.close()?;
     page.close()?;
-    page.open(Tag::TableCell)?;
-    page.open_as(Tag::Items, "named")?;
+    add_parts(page, &begins)?;
     holder_items(page, names, node)?;
-    page.close()?;
-    page.close()?;
-    end_row(page)
+    add_parts(page, &[Part::End, Part::End, Part::End, Part::Line])
 }
 
 /// The table of the labels at some places.
@@ -152,20 +161,9 @@ fn label_tables(
     if rest > 0 {
         begin_appendix(page, &LATTICE, rest)?;
         label_table(page, names, lattice, lighter(places))?;
-        end_appendix(page)?;
+        end_line(page)?;
     }
     Ok(())
-}
-
-/// The places of labels, by how many have each.
-fn in_order(alloc: Global, nodes: &[Node]) -> Result<Vec<usize>, AllocError> {
-    let mut weights = Vec::new(alloc);
-    for node in nodes {
-        weights.push(node.holders.len() as u64)?;
-    }
-    let places = by_weight(alloc, &weights);
-    drop(weights);
-    places
 }
 
 /// The labels of a lattice.
@@ -176,13 +174,18 @@ fn add_labels(page: &mut Page, names: &Names, lattice: &Lattice) -> Result<(), A
     done
 }
 
+/// The labels of a start's lattice.
+fn add_of(page: &mut Page, names: &Names, start: &Start) -> Result<(), AllocError> {
+    let lattice = lattice_of(page.alloc(), start)?;
+    let done = add_labels(page, names, &lattice);
+    drop(lattice);
+    done
+}
+
 /// A sheet with the labels of a start.
 fn lattice_sheet(alloc: Global, names: &Names, start: &Start) -> Result<Page, AllocError> {
     let mut sheet = Page::sheet(alloc);
-    let lattice = lattice_of(alloc, start)?;
-    let done = add_labels(&mut sheet, names, &lattice);
-    drop(lattice);
-    done?;
+    add_of(&mut sheet, names, start)?;
     Ok(sheet)
 }
 

@@ -1,4 +1,5 @@
 //! The labels of a state, and which of them covers which.
+use crate::weight::Weighed;
 use mls_labels::SecLabel;
 use mls_review::{Cover, Holder, SHOWN, covering_pairs, distinct_labels, holders};
 use mls_state::State;
@@ -36,6 +37,13 @@ impl Node {
         (self.named().len() as u64)
             .saturating_add(1)
             .saturating_add(rest)
+    }
+}
+
+impl Weighed for Node {
+    /// How many have the label.
+    fn weight(&self) -> u64 {
+        self.holders.len() as u64
     }
 }
 

@@ -3,6 +3,7 @@
 
 mod bar;
 mod boxes;
+mod cell;
 mod counts;
 mod denials;
 mod drawing;
@@ -18,6 +19,7 @@ mod lattice;
 mod moment;
 mod named;
 mod part;
+mod parts;
 mod permissions;
 mod powers;
 mod ranks;
@@ -35,6 +37,7 @@ mod trusted;
 mod usage;
 mod verified;
 mod walked;
+mod weight;
 
 pub use report::{Rows, report_page};
 pub use section::{ACROSS, SHOWN};

@@ -2,14 +2,14 @@
 ghost use Rattle.std.specs.Prelude.{codes, OnOk};
 ghost use Rattle.mls_page.specs.Sections.{Lists};
 
+use crate::cell::{Cell, add_cells};
 use crate::each::add_each;
-use crate::gets::{Gets, get_cells, gets_of, titled};
+use crate::gets::{Gets, gets_of, number_where, titled};
 use crate::moment::last_cell;
-use crate::named::subject_cell;
-use crate::section::{USAGE, add_listed, heaviest};
-use crate::table::{begin_row, begin_table, end_row, end_table, number_cell};
+use crate::section::{USAGE, add_listed, end_line, heaviest};
+use crate::table::{begin_table, end_table};
 use crate::usage::{Total, totals};
-use mls_groups::by_weight;
+use crate::weight::in_order;
 use mls_lines::Names;
 use mls_marks::Marks;
 use mls_markup::{Page, Tag};
@@ -24,13 +24,17 @@ fn total_row(
     all: &Gets,
     total: &Total,
 ) -> Result<(), AllocError> {
-    begin_row(page)?;
-    subject_cell(page, names, total.subject)?;
-    number_cell(page, total.permissions)?;
-    number_cell(page, total.unused)?;
-    get_cells(page, all, total.granted, total.denied)?;
+    let cells = [
+        Cell::Subject(names, total.subject),
+        Cell::Number(total.permissions),
+        Cell::Number(total.unused),
+        number_where(all.granted, total.granted),
+        number_where(all.denied, total.denied),
+    ];
+    page.open(Tag::TableRow)?;
+    add_cells(page, &cells)?;
     last_cell(page, marks, total.last, "-")?;
-    end_row(page)
+    end_line(page)
 }
 
 /// The table of subjects, in this order.
@@ -60,17 +64,6 @@ fn total_table(
     end_table(page)
 }
 
-/// The places of totals, by how many permissions were never granted.
-fn in_order(alloc: Global, totals: &[Total]) -> Result<Vec<usize>, AllocError> {
-    let mut weights = Vec::new(alloc);
-    for total in totals {
-        weights.push(total.unused)?;
-    }
-    let places = by_weight(alloc, &weights);
-    drop(weights);
-    places
-}
-
 /// The totals of subjects.
 fn add_totals(
     page: &mut Page,
@@ -95,21 +88,33 @@ fn permission_count(page: &mut Page, usages: &[Usage]) -> Result<(), AllocError>
     page.line()
 }
 
-/// The tables of permissions, where there are any.
+/// The totals of subjects, where there are permissions.
+fn total_tables(
+    page: &mut Page,
+    names: &Names,
+    marks: Option<&Marks>,
+    all: &Gets,
+    usages: &[Usage],
+) -> Result<(), AllocError> {
+    let totals = totals(page.alloc(), usages)?;
+    let done = add_totals(page, names, marks, all, &totals);
+    drop(totals);
+    done
+}
+
+/// How many permissions there are; and their tables, where there are any.
 fn usage_tables(
     page: &mut Page,
     names: &Names,
     marks: Option<&Marks>,
     usages: &[Usage],
 ) -> Result<(), AllocError> {
+    permission_count(page, usages)?;
     if usages.is_empty() {
         return Ok(());
     }
     let all = gets_of(usages);
-    let totals = totals(page.alloc(), usages)?;
-    let done = add_totals(page, names, marks, &all, &totals);
-    drop(totals);
-    done?;
+    total_tables(page, names, marks, &all, usages)?;
     add_each(page, names, marks, &all, usages)
 }
 
@@ -121,7 +126,6 @@ fn usage_sheet(
     usages: &[Usage],
 ) -> Result<Page, AllocError> {
     let mut sheet = Page::sheet(alloc);
-    permission_count(&mut sheet, usages)?;
     usage_tables(&mut sheet, names, marks, usages)?;
     Ok(sheet)
 }

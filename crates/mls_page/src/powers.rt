@@ -2,13 +2,14 @@
 ghost use Rattle.std.specs.Prelude.{codes, OnOk};
 ghost use Rattle.mls_page.specs.Sections.{Lists};
 
-use crate::named::subject_cell;
+use crate::cell::{Cell, add_cells};
+use crate::parts::{Part, add_parts};
 use crate::runs::{Run, Whole, runs_of, wholes_of};
 use crate::section::{
-    POWERS, add_listed, add_paragraph, begin_appendix, end_appendix, heaviest, lighter, rest_of,
+    POWERS, add_listed, add_paragraph, begin_appendix, end_line, heaviest, lighter, rest_of,
 };
-use crate::table::{begin_row, begin_table, end_row, end_table};
-use mls_groups::by_weight;
+use crate::table::{begin_table, end_table};
+use crate::weight::in_order;
 use mls_labels::SecLabel;
 use mls_lines::Names;
 use mls_markup::{Page, Tag};
@@ -54,9 +55,8 @@ fn add_cut(
     let done = add_change(page, names, &front);
     drop(front);
     done?;
-    page.text(" and ")?;
-    page.number(more)?;
-    page.text(" more")
+    let rest = Part::Text(" more");
+    add_parts(page, &[Part::Text(" and "), Part::Number(more), rest])
 }
 
 /// What a subject may change.
@@ -87,11 +87,14 @@ fn run_items(page: &mut Page, names: &Names, changes: &[Change]) -> Result<(), A
     if more == 0 {
         return Ok(());
     }
-    page.open(Tag::Item)?;
-    page.text("and ")?;
-    page.number(more as u64)?;
-    page.text(" more of this kind")?;
-    page.close()
+    let parts = [
+        Part::Begin(Tag::Item),
+        Part::Text("and "),
+        Part::Number(more as u64),
+        Part::Text(" more of this kind"),
+        Part::End,
+    ];
+    add_parts(page, &parts)
 }
 
 /// The row of a subject.
@@ -102,8 +105,8 @@ fn power_row(
     runs: &[Run],
     whole: &Whole,
 ) -> Result<(), AllocError> {
-    begin_row(page)?;
-    subject_cell(page, names, whole.subject)?;
+    page.open(Tag::TableRow)?;
+    add_cells(page, &[Cell::Subject(names, whole.subject)])?;
     page.open(Tag::TableCell)?;
     page.open(Tag::Items)?;
     for run in runs {
@@ -111,9 +114,7 @@ fn power_row(
             run_items(page, names, changes_of(changes, run))?;
         }
     }
-    page.close()?;
-    page.close()?;
-    end_row(page)
+    add_parts(page, &[Part::End, Part::End, Part::End, Part::Line])
 }
 
 /// The table of subjects, in this order.
@@ -148,20 +149,9 @@ fn power_tables(
     if rest > 0 {
         begin_appendix(page, &POWERS, rest)?;
         power_table(page, names, changes, runs, wholes, lighter(places))?;
-        end_appendix(page)?;
+        end_line(page)?;
     }
     Ok(())
-}
-
-/// The places of subjects, by how much each may change.
-fn in_order(alloc: Global, wholes: &[Whole]) -> Result<Vec<usize>, AllocError> {
-    let mut weights = Vec::new(alloc);
-    for whole in wholes {
-        weights.push(whole.count)?;
-    }
-    let places = by_weight(alloc, &weights);
-    drop(weights);
-    places
 }
 
 /// What subjects may change, of which there are these runs.

@@ -2,7 +2,7 @@
 ghost use Rattle.std.specs.Prelude.{◌≡◌, IfOk, OnOk};
 ghost use Rattle.mls_markup.specs.Drafts.{added};
 ghost use Rattle.mls_markup.specs.Pages.{IsPage};
-ghost use Rattle.mls_page.specs.Reports.{HasFirst, HasLast, IsReport, about};
+ghost use Rattle.mls_page.specs.Reports.{HasFirst, HasLast, HasSections, IsReport, about};
 
 use crate::counts::add_counts;
 use crate::denials::add_denials;
@@ -119,6 +119,16 @@ fn add_last(page: &mut Page, rows: &Rows<'_>) -> Result<(), AllocError>
     Ok(())
 }
 
+/// Appends which part of the journal the page is about, where it isn't about all of it, and all sections.
+fn add_sections(page: &mut Page, rows: &Rows<'_>) -> Result<(), AllocError>
+    ensures { OnOk result (HasSections rows.now page.old page.new) }
+{
+    add_about(page, rows.part)?;
+    add_first(page, rows)?;
+    add_last(page, rows)?;
+    Ok(())
+}
+
 /// The page about a journal, as HTML.
 ///
 /// # Errors
@@ -128,9 +138,7 @@ pub fn report_page(alloc: Global, rows: &Rows<'_>) -> Result<Vec<u8>, AllocError
     ensures report { IfOk result (λ html. IsReport rows.now html.items) }
 {
     let mut page = begin_report(alloc, rows.start, rows.journal)?;
-    add_about(&mut page, rows.part)?;
-    add_first(&mut page, rows)?;
-    add_last(&mut page, rows)?;
+    add_sections(&mut page, rows)?;
     let html = end_report(page)?;
     Ok(html)
 }

@@ -1,4 +1,5 @@
 //! Changes of one subject and one kind, which stand together.
+use crate::weight::Weighed;
 use mls_review::{Change, Power, Relabeling};
 use mls_tables::SubjectId;
 use std::alloc::{AllocError, Global};
@@ -28,6 +29,13 @@ pub(crate) struct Run {
 pub(crate) struct Whole {
     pub subject: SubjectId,
     pub count: u64,
+}
+
+impl Weighed for Whole {
+    /// How much it is.
+    fn weight(&self) -> u64 {
+        self.count
+    }
 }
 
 /// The kind of a power.

@@ -5,6 +5,7 @@ ghost use Rattle.mls_markup.specs.Trees.{Both};
 ghost use Rattle.mls_markup.specs.declared.tag.Tag.TheVariants as tag;
 ghost use Rattle.mls_page.specs.Sections.{Lists, Shows, heading, labelled, paragraph, source};
 
+use crate::parts::{Part, add_parts};
 use mls_markup::{Attribute, Page, Tag};
 use std::alloc::AllocError;
 
@@ -103,12 +104,15 @@ pub(crate) fn begin_section(page: &mut Page, section: &Section) -> Result<(), Al
     ensures { OnOk result (page.new ≡ added (opened page.old tag.Section (labelled section.now.id.now))
         (heading section.now.id.now section.now.title.now)) }
 {
-    page.open_with(Tag::Section, Attribute::AriaLabelledBy, section.id)?;
-    page.line()?;
-    page.open_with(Tag::Heading, Attribute::Id, section.id)?;
-    page.text(section.title)?;
-    page.close()?;
-    page.line()
+    let parts = [
+        Part::BeginWith(Tag::Section, Attribute::AriaLabelledBy, section.id),
+        Part::Line,
+        Part::BeginWith(Tag::Heading, Attribute::Id, section.id),
+        Part::Text(section.title),
+        Part::End,
+        Part::Line,
+    ];
+    add_parts(page, &parts)
 }
 
 /// Appends which command lists it all.
@@ -116,11 +120,14 @@ pub(crate) fn begin_section(page: &mut Page, section: &Section) -> Result<(), Al
 fn add_source(page: &mut Page, command: &str) -> Result<(), AllocError>
     ensures { OnOk result (page.new ≡ added page.old (source command.now)) }
 {
-    page.open_as(Tag::Paragraph, "source")?;
-    page.leaf(Tag::Code, command)?;
-    page.text(" lists it all.")?;
-    page.close()?;
-    page.line()
+    let parts = [
+        Part::BeginAs(Tag::Paragraph, "source"),
+        Part::Leaf(Tag::Code, command),
+        Part::Text(" lists it all."),
+        Part::End,
+        Part::Line,
+    ];
+    add_parts(page, &parts)
 }
 
 /// Begins a section with its heading, and the command that lists it all.
@@ -132,8 +139,8 @@ pub(crate) fn begin_listed(page: &mut Page, section: &Section) -> Result<(), All
     add_source(page, section.command)
 }
 
-/// Ends a section.
-pub(crate) fn end_section(page: &mut Page) -> Result<(), AllocError>
+/// Ends the innermost element, and the line that it ends on.
+pub(crate) fn end_line(page: &mut Page) -> Result<(), AllocError>
     ensures { OnOk result (page.new ≡ lined (closed page.old)) }
 {
     page.close()?;
@@ -156,23 +163,29 @@ pub(crate) fn rest_of(count: usize) -> usize {
 
 /// Tells how many more rows there are than the table that is printed has, and what lists them all.
 fn add_more(page: &mut Page, command: &str, rest: u64) -> Result<(), AllocError> {
-    page.open_as(Tag::Paragraph, "more")?;
-    page.number(rest)?;
-    page.text(" more, each with less: ")?;
-    page.leaf(Tag::Code, command)?;
-    page.text(" lists all.")?;
-    page.close()?;
-    page.line()
+    let parts = [
+        Part::BeginAs(Tag::Paragraph, "more"),
+        Part::Number(rest),
+        Part::Text(" more, each with less: "),
+        Part::Leaf(Tag::Code, command),
+        Part::Text(" lists all."),
+        Part::End,
+        Part::Line,
+    ];
+    add_parts(page, &parts)
 }
 
 /// Begins an appendix, which is called so.
 pub(crate) fn begin_folded(page: &mut Page, text: &str, count: u64) -> Result<(), AllocError> {
-    page.open_as(Tag::Details, "appendix")?;
-    page.open(Tag::Summary)?;
-    page.text(text)?;
-    page.number(count)?;
-    page.close()?;
-    page.line()
+    let parts = [
+        Part::BeginAs(Tag::Details, "appendix"),
+        Part::Begin(Tag::Summary),
+        Part::Text(text),
+        Part::Number(count),
+        Part::End,
+        Part::Line,
+    ];
+    add_parts(page, &parts)
 }
 
 /// Begins the appendix of the rows that are more than the table has that is printed.
@@ -183,12 +196,6 @@ pub(crate) fn begin_appendix(
 ) -> Result<(), AllocError> {
     add_more(page, section.command, rest as u64)?;
     begin_folded(page, "The next ", rest.min(LISTED) as u64)
-}
-
-/// Ends an appendix.
-pub(crate) fn end_appendix(page: &mut Page) -> Result<(), AllocError> {
-    page.close()?;
-    page.line()
 }
 
 /// The places that the table that is printed has, of those in the order of their weights.
@@ -211,7 +218,7 @@ pub(crate) fn add_shown(page: &mut Page, section: &Section, sheet: Page) -> Resu
 {
     begin_section(page, section)?;
     page.add_sheet(sheet)?;
-    end_section(page)?;
+    end_line(page)?;
     Ok(())
 }
 
@@ -224,6 +231,6 @@ pub(crate) fn add_listed(page: &mut Page, section: &Section, sheet: Page) -> Res
 {
     begin_listed(page, section)?;
     page.add_sheet(sheet)?;
-    end_section(page)?;
+    end_line(page)?;
     Ok(())
 }

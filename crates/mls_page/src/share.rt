@@ -1,4 +1,5 @@
 //! How many requests of a subject were granted, denied, or undefined.
+use crate::weight::Weighed;
 use mls_listings::ReplyCount;
 use mls_requests::ReplyWord;
 use mls_tables::SubjectId;
@@ -43,16 +44,18 @@ impl Share {
         }
     }
 
-    /// How many requests there are.
-    pub(crate) fn total(&self) -> u64 {
-        self.granted
-            .saturating_add(self.denied)
-            .saturating_add(self.undefined)
-    }
-
     /// The greatest of its numbers.
     fn greatest(&self) -> u64 {
         self.granted.max(self.denied).max(self.undefined)
+    }
+}
+
+impl Weighed for Share {
+    /// How many requests there are.
+    fn weight(&self) -> u64 {
+        self.granted
+            .saturating_add(self.denied)
+            .saturating_add(self.undefined)
     }
 }
 

@@ -3,6 +3,8 @@ ghost use Rattle.std.specs.Prelude.{◌≡◌, OnOk};
 ghost use Rattle.mls_markup.specs.Drafts.{added};
 ghost use Rattle.mls_page.specs.Short.{
   HasShort,
+  begun_short,
+  ended_short,
   entries_line,
   entries_word,
   mark_words,
@@ -11,8 +13,8 @@ ghost use Rattle.mls_page.specs.Short.{
   verified_line,
 };
 
-use crate::named::add_subject;
-use crate::section::{SHORT, begin_section, end_section};
+use crate::parts::{Part, add_parts};
+use crate::section::{SHORT, begin_section, end_line};
 use crate::trend::add_trend;
 use crate::trusted::Trusting;
 use crate::verified::Found;
@@ -50,36 +52,42 @@ fn entries_word(count: u64) -> &'static str
 fn entries_line(page: &mut Page, short: &Short) -> Result<(), AllocError>
     ensures { OnOk result (page.new ≡ added page.old (entries_line short.now)) }
 {
-    page.open(Tag::Item)?;
-    page.open(Tag::Bold)?;
-    page.number(short.entries)?;
-    page.text(entries_word(short.entries))?;
-    page.close()?;
-    page.text(": ")?;
-    page.number(short.granted)?;
-    page.text(" granted, ")?;
-    page.number(short.denied)?;
-    page.text(" denied, ")?;
-    page.number(short.undefined)?;
-    page.text(" undefined.")?;
-    page.close()?;
-    page.line()
+    let parts = [
+        Part::Begin(Tag::Item),
+        Part::Begin(Tag::Bold),
+        Part::Number(short.entries),
+        Part::Text(entries_word(short.entries)),
+        Part::End,
+        Part::Text(": "),
+        Part::Number(short.granted),
+        Part::Text(" granted, "),
+        Part::Number(short.denied),
+        Part::Text(" denied, "),
+        Part::Number(short.undefined),
+        Part::Text(" undefined."),
+        Part::End,
+        Part::Line,
+    ];
+    add_parts(page, &parts)
 }
 
 /// How often trust was used, and by whom most.
 fn trust_names(page: &mut Page, names: &Names, rows: &[Trusting]) -> Result<(), AllocError> {
     let mut before = ": ";
     for row in rows.iter().take(NAMED) {
-        page.text(before)?;
-        add_subject(page, names, row.subject)?;
-        page.text(" ")?;
-        page.number(row.count)?;
+        let parts = [
+            Part::Text(before),
+            Part::Subject(names, row.subject),
+            Part::Text(" "),
+            Part::Number(row.count),
+        ];
+        add_parts(page, &parts)?;
         before = ", ";
     }
     if rows.len() > NAMED {
         page.text(", and others")?;
     }
-    page.text(".")
+    Ok(())
 }
 
 /// The line of who used trust.
@@ -87,18 +95,16 @@ fn trust_line(page: &mut Page, names: &Names, rows: &[Trusting]) -> Result<(), A
     let count = rows
         .iter()
         .fold(0, |sum: u64, row| sum.saturating_add(row.count));
-    page.open(Tag::Item)?;
-    page.open(Tag::Bold)?;
-    page.number(count)?;
-    page.text(" granted by trust alone")?;
-    page.close()?;
-    if rows.is_empty() {
-        page.text(".")?;
-    } else {
-        trust_names(page, names, rows)?;
-    }
-    page.close()?;
-    page.line()
+    let parts = [
+        Part::Begin(Tag::Item),
+        Part::Begin(Tag::Bold),
+        Part::Number(count),
+        Part::Text(" granted by trust alone"),
+        Part::End,
+    ];
+    add_parts(page, &parts)?;
+    trust_names(page, names, rows)?;
+    add_parts(page, &[Part::Text("."), Part::End, Part::Line])
 }
 
 /// The line of what could be removed.
@@ -106,22 +112,25 @@ fn trust_line(page: &mut Page, names: &Names, rows: &[Trusting]) -> Result<(), A
 fn unused_line(page: &mut Page, short: &Short) -> Result<(), AllocError>
     ensures { OnOk result (page.new ≡ added page.old (unused_line short.now)) }
 {
-    page.open(Tag::Item)?;
-    page.open(Tag::Bold)?;
-    page.number(short.unused)?;
-    page.text(" of ")?;
-    page.number(short.permissions)?;
-    page.text(" permissions were never granted")?;
-    page.close()?;
-    page.text(" (")?;
-    page.leaf(Tag::Code, "mls usage --never")?;
-    page.text("). From START, ")?;
-    page.number(short.removable)?;
-    page.text(" of them could be removed (")?;
-    page.leaf(Tag::Code, "mls usage --tighten")?;
-    page.text("), unless they are young.")?;
-    page.close()?;
-    page.line()
+    let parts = [
+        Part::Begin(Tag::Item),
+        Part::Begin(Tag::Bold),
+        Part::Number(short.unused),
+        Part::Text(" of "),
+        Part::Number(short.permissions),
+        Part::Text(" permissions were never granted"),
+        Part::End,
+        Part::Text(" ("),
+        Part::Leaf(Tag::Code, "mls usage --never"),
+        Part::Text("). From START, "),
+        Part::Number(short.removable),
+        Part::Text(" of them could be removed ("),
+        Part::Leaf(Tag::Code, "mls usage --tighten"),
+        Part::Text("), unless they are young."),
+        Part::End,
+        Part::Line,
+    ];
+    add_parts(page, &parts)
 }
 
 /// What marks say, behind that the journal was verified.
@@ -129,11 +138,14 @@ fn unused_line(page: &mut Page, short: &Short) -> Result<(), AllocError>
 fn add_said(page: &mut Page, found: &Found<'_>) -> Result<(), AllocError>
     ensures { OnOk result (page.new ≡ added page.old (said_by found.now)) }
 {
-    page.text(" and its marks, up to the digest ")?;
-    page.leaf_as(Tag::Span, "digest", found.digest)?;
-    page.text("; entries behind the last mark: ")?;
-    page.number(found.behind)?;
-    page.text(".")
+    let parts = [
+        Part::Text(" and its marks, up to the digest "),
+        Part::LeafAs(Tag::Span, "digest", found.digest),
+        Part::Text("; entries behind the last mark: "),
+        Part::Number(found.behind),
+        Part::Text("."),
+    ];
+    add_parts(page, &parts)
 }
 
 /// What marks say, in the line of what was verified, or that none were looked at.
@@ -154,11 +166,22 @@ fn verified_line(page: &mut Page, found: Option<Found<'_>>) -> Result<(), AllocE
     page.open(Tag::Item)?;
     page.leaf(Tag::Bold, "The journal was verified")?;
     mark_words(page, found)?;
-    page.close()?;
-    page.line()
+    end_line(page)
 }
 
-/// A sheet with the lines of how denials went over time, and of who used trust.
+/// Appends the lines of how denials went over time, and of who used trust.
+fn add_told(
+    page: &mut Page,
+    names: &Names,
+    denied: u64,
+    trend: &Trend,
+    rows: &[Trusting],
+) -> Result<(), AllocError> {
+    add_trend(page, denied, trend)?;
+    trust_line(page, names, rows)
+}
+
+/// A sheet with these lines.
 fn told_sheet(
     alloc: Global,
     names: &Names,
@@ -167,9 +190,26 @@ fn told_sheet(
     rows: &[Trusting],
 ) -> Result<Page, AllocError> {
     let mut sheet = Page::sheet(alloc);
-    add_trend(&mut sheet, denied, trend)?;
-    trust_line(&mut sheet, names, rows)?;
+    add_told(&mut sheet, names, denied, trend, rows)?;
     Ok(sheet)
+}
+
+/// The beginning of the section, with the line of how many entries there are.
+fn begin_short(page: &mut Page, short: &Short) -> Result<(), AllocError>
+    ensures { OnOk result (page.new ≡ begun_short short.now page.old) }
+{
+    begin_section(page, &SHORT)?;
+    add_parts(page, &[Part::BeginAs(Tag::Items, "short"), Part::Line])?;
+    entries_line(page, short)
+}
+
+/// The last lines of the section, and its end.
+fn end_short(page: &mut Page, short: &Short, found: Option<Found<'_>>) -> Result<(), AllocError>
+    ensures { OnOk result (page.new ≡ ended_short short.now found.entry page.old) }
+{
+    unused_line(page, short)?;
+    verified_line(page, found)?;
+    add_parts(page, &[Part::End, Part::Line, Part::End, Part::Line])
 }
 
 /// Appends what matters, in five lines: how many entries there are, how denials went over time, who used trust, what
@@ -188,15 +228,8 @@ pub(crate) fn add_short(
     ensures { OnOk result (HasShort short.now found.entry page.old page.new) }
 {
     let sheet = told_sheet(page.alloc(), names, short.denied, trend, rows)?;
-    begin_section(page, &SHORT)?;
-    page.open_as(Tag::Items, "short")?;
-    page.line()?;
-    entries_line(page, short)?;
+    begin_short(page, short)?;
     page.add_sheet(sheet)?;
-    unused_line(page, short)?;
-    verified_line(page, found)?;
-    page.close()?;
-    page.line()?;
-    end_section(page)?;
+    end_short(page, short, found)?;
     Ok(())
 }

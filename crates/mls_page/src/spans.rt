@@ -3,17 +3,18 @@ ghost use Rattle.std.specs.Prelude.{codes, OnOk};
 ghost use Rattle.mls_page.specs.Sections.{Lists};
 
 use crate::bar::{Colour, begin_bars, stretch};
-use crate::holding::{access_keys, ends_of, first_state, in_order, length_of, mode_of};
+use crate::cell::{Cell, add_cells};
+use crate::holding::{access_keys, ends_of, first_state, in_order, length_of};
 use crate::moment::add_moment;
-use crate::named::{add_object, subject_cell};
 use crate::section::{
-    HELD, add_listed, add_paragraph, begin_appendix, end_appendix, heaviest, lighter, rest_of,
+    HELD, add_listed, add_paragraph, begin_appendix, end_line, heaviest, lighter, rest_of,
 };
-use crate::table::{begin_row, begin_table, end_row, end_table, number_cell, text_cell};
+use crate::table::{begin_table, end_table};
 use mls_groups::{Group, Grouping, grouped};
 use mls_lines::Names;
 use mls_marks::Marks;
 use mls_markup::{Page, Tag};
+use mls_requests::mode_word;
 use mls_spans::Span;
 use std::alloc::{AllocError, Global};
 
@@ -49,14 +50,28 @@ fn add_extent(
     }
 }
 
-/// The cells of who held what.
-fn access_cells(page: &mut Page, names: &Names, span: &Span) -> Result<(), AllocError> {
-    let (s, o, _) = span.access;
-    subject_cell(page, names, s)?;
-    text_cell(page, mode_of(span))?;
-    page.open(Tag::TableCell)?;
-    add_object(page, names, o)?;
+/// The cell of that.
+fn extent_cell(
+    page: &mut Page,
+    marks: Option<&Marks>,
+    first: &Span,
+    last: &Span,
+) -> Result<(), AllocError> {
+    page.open_as(Tag::TableCell, "number")?;
+    add_extent(page, marks, first, last)?;
     page.close()
+}
+
+/// The cells of who held what, and in how many spans.
+fn access_cells(page: &mut Page, names: &Names, span: &Span, count: u64) -> Result<(), AllocError> {
+    let (s, o, x) = span.access;
+    let cells = [
+        Cell::Subject(names, s),
+        Cell::Text(mode_word(x)),
+        Cell::Object(names, o),
+        Cell::Number(count),
+    ];
+    add_cells(page, &cells)
 }
 
 /// The time line of an access.
@@ -90,14 +105,11 @@ fn access_row(
     let Some((first, last)) = ends_of(spans, grouping, group) else {
         return Ok(());
     };
-    begin_row(page)?;
-    access_cells(page, names, first)?;
-    number_cell(page, group.count as u64)?;
-    page.open_as(Tag::TableCell, "number")?;
-    add_extent(page, marks, first, last)?;
-    page.close()?;
+    page.open(Tag::TableRow)?;
+    access_cells(page, names, first, group.count as u64)?;
+    extent_cell(page, marks, first, last)?;
     add_line(page, spans, grouping.members_of(group), entries)?;
-    end_row(page)
+    end_line(page)
 }
 
 /// The table of accesses, in this order.
@@ -150,7 +162,7 @@ fn access_tables(
             lighter(places),
             entries,
         )?;
-        end_appendix(page)?;
+        end_line(page)?;
     }
     Ok(())
 }

@@ -4,6 +4,7 @@ ghost use Rattle.mls_markup.specs.Drafts.{added};
 ghost use Rattle.mls_markup.specs.Trees.{all_of};
 ghost use Rattle.mls_page.specs.Terms.{term_lines, term_of, terms};
 
+use crate::parts::{Part, add_parts};
 use mls_markup::{Page, Tag};
 use std::alloc::AllocError;
 
@@ -86,12 +87,15 @@ const TERMS: [Term; 16] = [
 fn add_term(page: &mut Page, term: &Term) -> Result<(), AllocError>
     ensures { OnOk result (page.new ≡ added page.old (term_of term.now)) }
 {
-    page.open(Tag::Item)?;
-    page.leaf(Tag::Bold, term.word)?;
-    page.text(": ")?;
-    page.text(term.told)?;
-    page.close()?;
-    page.line()
+    let parts = [
+        Part::Begin(Tag::Item),
+        Part::Leaf(Tag::Bold, term.word),
+        Part::Text(": "),
+        Part::Text(term.told),
+        Part::End,
+        Part::Line,
+    ];
+    add_parts(page, &parts)
 }
 
 /// The lines of words.
@@ -120,12 +124,13 @@ fn add_all(page: &mut Page) -> Result<(), AllocError>
 pub(crate) fn add_terms(page: &mut Page) -> Result<(), AllocError>
     ensures { OnOk result (page.new ≡ added page.old terms) }
 {
-    page.open_as(Tag::Details, "terms")?;
-    page.leaf(Tag::Summary, "What the words mean")?;
-    page.open(Tag::Items)?;
-    page.line()?;
+    let parts = [
+        Part::BeginAs(Tag::Details, "terms"),
+        Part::Leaf(Tag::Summary, "What the words mean"),
+        Part::Begin(Tag::Items),
+        Part::Line,
+    ];
+    add_parts(page, &parts)?;
     add_all(page)?;
-    page.close()?;
-    page.close()?;
-    page.line()
+    add_parts(page, &[Part::End, Part::End, Part::Line])
 }

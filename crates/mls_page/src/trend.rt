@@ -1,5 +1,7 @@
 //! Denials over time, as inline SVG.
 use crate::bar::path;
+use crate::parts::{Part, add_parts};
+use crate::section::end_line;
 use mls_markup::{Attribute, Page, Tag};
 use mls_overview::{Trend, push_week};
 use std::alloc::AllocError;
@@ -87,22 +89,20 @@ fn add_day(page: &mut Page, week: u64) -> Result<(), AllocError> {
 
 /// What the columns are of.
 fn add_unit(page: &mut Page, trend: &Trend) -> Result<(), AllocError> {
+    let columns = trend.columns.len() as u64;
     let Some((first, width)) = trend.weeks else {
-        page.text("In ")?;
-        page.number(trend.columns.len() as u64)?;
-        return page.text(" equal parts of the entries, from the first to the last");
+        let rest = Part::Text(" equal parts of the entries, from the first to the last");
+        return add_parts(page, &[Part::Text("In "), Part::Number(columns), rest]);
     };
     match width {
         1 => page.text("By week, from ")?,
         _ => {
-            page.text("By ")?;
-            page.number(width)?;
-            page.text(" weeks, from ")?;
+            let rest = Part::Text(" weeks, from ");
+            add_parts(page, &[Part::Text("By "), Part::Number(width), rest])?;
         }
     }
     add_day(page, first)?;
     page.text(" to the one of ")?;
-    let columns = trend.columns.len() as u64;
     add_day(
         page,
         first.saturating_add(columns.saturating_sub(1).saturating_mul(width)),
@@ -117,10 +117,13 @@ fn add_comparison(page: &mut Page, columns: &[u64], which: &str) -> Result<(), A
     }
     let (before, last) = columns.split_at(count.saturating_sub(COMPARED));
     let (_, before) = before.split_at(before.len().saturating_sub(COMPARED));
-    page.text(which)?;
-    page.number(sum_of(last))?;
-    page.text(", in the four before ")?;
-    page.number(sum_of(before))
+    let parts = [
+        Part::Text(which),
+        Part::Number(sum_of(last)),
+        Part::Text(", in the four before "),
+        Part::Number(sum_of(before)),
+    ];
+    add_parts(page, &parts)
 }
 
 /// The same of a trend, where each denied entry is in a column: the last week may go on, so it isn't compared.
@@ -136,20 +139,24 @@ fn compare_last(page: &mut Page, trend: &Trend) -> Result<(), AllocError> {
     add_comparison(page, over, "; in the last four that are over ")
 }
 
+/// How many denied entries are in no column, where there are such.
+fn add_unmarked(page: &mut Page, count: u64) -> Result<(), AllocError> {
+    if count == 0 {
+        return Ok(());
+    }
+    let rest = Part::Text(" more behind the last mark");
+    add_parts(page, &[Part::Text("; "), Part::Number(count), rest])
+}
+
 /// What stands below the drawing.
 fn add_note(page: &mut Page, trend: &Trend) -> Result<(), AllocError> {
+    let greatest = trend.columns.iter().copied().max().unwrap_or(0);
     page.open_as(Tag::Span, "note")?;
     add_unit(page, trend)?;
-    page.text("; at most ")?;
-    page.number(trend.columns.iter().copied().max().unwrap_or(0))?;
+    add_parts(page, &[Part::Text("; at most "), Part::Number(greatest)])?;
     compare_last(page, trend)?;
-    if trend.unmarked > 0 {
-        page.text("; ")?;
-        page.number(trend.unmarked)?;
-        page.text(" more behind the last mark")?;
-    }
-    page.text(".")?;
-    page.close()
+    add_unmarked(page, trend.unmarked)?;
+    add_parts(page, &[Part::Text("."), Part::End])
 }
 
 /// Appends the drawing of columns, where there are two or more, and what stands below it.
@@ -163,15 +170,17 @@ fn add_columns(page: &mut Page, trend: &Trend) -> Result<(), AllocError> {
 
 /// Appends the line of how many entries were denied, and when.
 pub(crate) fn add_trend(page: &mut Page, denied: u64, trend: &Trend) -> Result<(), AllocError> {
-    page.open(Tag::Item)?;
-    page.open(Tag::Bold)?;
-    page.number(denied)?;
-    page.text(" denied")?;
-    page.close()?;
-    page.line()?;
+    let parts = [
+        Part::Begin(Tag::Item),
+        Part::Begin(Tag::Bold),
+        Part::Number(denied),
+        Part::Text(" denied"),
+        Part::End,
+        Part::Line,
+    ];
+    add_parts(page, &parts)?;
     if denied > 0 {
         add_columns(page, trend)?;
     }
-    page.close()?;
-    page.line()
+    end_line(page)
 }

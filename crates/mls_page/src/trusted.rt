@@ -5,10 +5,11 @@ ghost use Rattle.mls_markup.specs.Trees.{all_of};
 ghost use Rattle.mls_page.specs.Trusted.{most_of, trust, trust_filled, trust_row, trust_table};
 
 use crate::bar::Colour;
-use crate::named::subject_cell;
-use crate::section::{TRUST, add_paragraph, begin_listed, end_section};
-use crate::table::{begin_row, begin_table, end_row, end_table, share_cell};
-use mls_groups::{by_weight, grouped};
+use crate::cell::{Cell, add_row};
+use crate::section::{TRUST, add_paragraph, begin_listed, end_line};
+use crate::table::{begin_table, end_table};
+use crate::weight::{Weighed, in_order};
+use mls_groups::{Group, grouped};
 use mls_lines::Names;
 use mls_markup::Page;
 use mls_tables::SubjectId;
@@ -21,19 +22,32 @@ pub struct Trusting {
     pub count: u64,
 }
 
-/// The subjects of some grants, by number.
-fn counted(alloc: Global, subjects: &[u64]) -> Result<Vec<Trusting>, AllocError> {
-    let grouping = grouped(alloc, subjects)?;
+impl Weighed for Trusting {
+    /// How often it was.
+    fn weight(&self) -> u64 {
+        self.count
+    }
+}
+
+/// The rows of groups, which have the numbers of subjects as keys.
+fn of_groups(alloc: Global, groups: &[Group]) -> Result<Vec<Trusting>, AllocError> {
     let mut found = Vec::new(alloc);
-    for group in &grouping.groups {
+    for group in groups {
         let subject = SubjectId::new((group.key % 65_536) as u16);
         found.push(Trusting {
             subject,
             count: group.count as u64,
         })?;
     }
-    drop(grouping);
     Ok(found)
+}
+
+/// The subjects of some grants, by number.
+fn counted(alloc: Global, subjects: &[u64]) -> Result<Vec<Trusting>, AllocError> {
+    let grouping = grouped(alloc, subjects)?;
+    let found = of_groups(alloc, &grouping.groups);
+    drop(grouping);
+    found
 }
 
 /// The rows at some places, in this order.
@@ -53,12 +67,7 @@ fn ordered(
 
 /// Rows by how much each counts, the most first.
 fn heaviest_first(alloc: Global, rows: &[Trusting]) -> Result<Vec<Trusting>, AllocError> {
-    let mut weights = Vec::new(alloc);
-    for row in rows {
-        weights.push(row.count)?;
-    }
-    let places = by_weight(alloc, &weights)?;
-    drop(weights);
+    let places = in_order(alloc, rows)?;
     let found = ordered(alloc, rows, &places);
     drop(places);
     found
@@ -84,13 +93,14 @@ fn most_of(rows: &[Trusting]) -> u64
 
 /// The row of a subject.
 #[tactic(auto, unfolding(crate::specs::Trusted::trust_row, crate::specs::Tables::row))]
-fn add_row(page: &mut Page, names: &Names, units: u64, row: &Trusting) -> Result<(), AllocError>
+fn subject_row(page: &mut Page, names: &Names, units: u64, row: &Trusting) -> Result<(), AllocError>
     ensures { OnOk result (page.new ≡ added page.old (trust_row names.now units row.now)) }
 {
-    begin_row(page)?;
-    subject_cell(page, names, row.subject)?;
-    share_cell(page, Colour::Granted, units, row.count)?;
-    end_row(page)
+    let cells = [
+        Cell::Subject(names, row.subject),
+        Cell::Share(Colour::Granted, units, row.count),
+    ];
+    add_row(page, &cells)
 }
 
 /// The rows of subjects.
@@ -98,7 +108,7 @@ fn add_rows(page: &mut Page, names: &Names, units: u64, rows: &[Trusting]) -> Re
     ensures { OnOk result (page.new ≡ added page.old (all_of (trust_row names.now units) rows.now)) }
 {
     for row in rows {
-        add_row(page, names, units, row)?;
+        subject_row(page, names, units, row)?;
     }
     Ok(())
 }
@@ -135,5 +145,5 @@ pub(crate) fn add_trust(page: &mut Page, names: &Names, rows: &[Trusting]) -> Re
 {
     begin_listed(page, &TRUST)?;
     add_table(page, names, rows)?;
-    end_section(page)
+    end_line(page)
 }

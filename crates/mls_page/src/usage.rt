@@ -1,4 +1,5 @@
 //! How the permissions of a subject were used.
+use crate::weight::Weighed;
 use mls_spans::Usage;
 use mls_tables::SubjectId;
 use std::alloc::{AllocError, Global};
@@ -44,6 +45,13 @@ impl Total {
         self.granted = self.granted.saturating_add(usage.uses.granted);
         self.denied = self.denied.saturating_add(usage.uses.denied);
         self.last = later(self.last, usage.uses.last);
+    }
+}
+
+impl Weighed for Total {
+    /// How many permissions were never granted.
+    fn weight(&self) -> u64 {
+        self.unused
     }
 }
 

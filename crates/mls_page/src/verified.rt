@@ -13,8 +13,9 @@ ghost use Rattle.mls_page.specs.Verified.{
   verify_command,
 };
 
-use crate::section::{MARKED, Section, VERIFIED, begin_listed, end_section};
-use crate::table::{begin_row, end_row, heading_cell, number_cell};
+use crate::cell::{Cell, add_row};
+use crate::parts::{Part, add_parts};
+use crate::section::{MARKED, Section, VERIFIED, begin_listed, end_line};
 use mls_markup::{Page, Tag};
 use std::alloc::AllocError;
 
@@ -41,21 +42,15 @@ const WITHOUT_MARKS: &str = " No marks were looked at.";
 fn number_row(page: &mut Page, title: &str, number: u64) -> Result<(), AllocError>
     ensures { OnOk result (page.new ≡ added page.old (number_row title.now number)) }
 {
-    begin_row(page)?;
-    heading_cell(page, title)?;
-    number_cell(page, number)?;
-    end_row(page)
+    add_row(page, &[Cell::Title(title), Cell::Number(number)])
 }
 
 /// The row of a text.
 #[tactic(auto, unfolding(crate::specs::Verified::text_row, crate::specs::Tables::row))]
-fn text_row(page: &mut Page, title: &str, text: &str) -> Result<(), AllocError>
+fn text_row<'a>(page: &mut Page, title: &'a str, text: &'a str) -> Result<(), AllocError>
     ensures { OnOk result (page.new ≡ added page.old (text_row title.now text.now)) }
 {
-    begin_row(page)?;
-    heading_cell(page, title)?;
-    page.leaf_as(Tag::TableCell, "digest", text)?;
-    end_row(page)
+    add_row(page, &[Cell::Title(title), Cell::Digest(text)])
 }
 
 /// The rows of the times of marks, where there are any.
@@ -98,11 +93,14 @@ fn marks_text(found: Option<Found<'_>>) -> &'static str
 fn add_verdict(page: &mut Page, found: Option<Found<'_>>) -> Result<(), AllocError>
     ensures { OnOk result (page.new ≡ added page.old (verdict found.entry)) }
 {
-    page.open(Tag::Paragraph)?;
-    page.text(REPLAYED)?;
-    page.text(marks_text(found))?;
-    page.close()?;
-    page.line()
+    let parts = [
+        Part::Begin(Tag::Paragraph),
+        Part::Text(REPLAYED),
+        Part::Text(marks_text(found)),
+        Part::End,
+        Part::Line,
+    ];
+    add_parts(page, &parts)
 }
 
 /// The table of a journal of so many entries.
@@ -110,15 +108,16 @@ fn add_verdict(page: &mut Page, found: Option<Found<'_>>) -> Result<(), AllocErr
 fn add_table(page: &mut Page, entries: u64, found: Option<Found<'_>>) -> Result<(), AllocError>
     ensures { OnOk result (page.new ≡ added page.old (verified_table entries found.entry)) }
 {
-    page.open(Tag::Table)?;
-    page.leaf(Tag::Caption, "When this page was written")?;
-    page.open(Tag::TableBody)?;
-    page.line()?;
+    let parts = [
+        Part::Begin(Tag::Table),
+        Part::Leaf(Tag::Caption, "When this page was written"),
+        Part::Begin(Tag::TableBody),
+        Part::Line,
+    ];
+    add_parts(page, &parts)?;
     number_row(page, "Entries that were replayed", entries)?;
     found_rows(page, found)?;
-    page.close()?;
-    page.close()?;
-    page.line()
+    add_parts(page, &[Part::End, Part::End, Part::Line])
 }
 
 /// The section of what was verified, without marks or with marks.
@@ -149,5 +148,5 @@ pub(crate) fn add_verified(
     begin_listed(page, &section)?;
     add_verdict(page, found)?;
     add_table(page, entries, found)?;
-    end_section(page)
+    end_line(page)
 }

@@ -7,5 +7,5 @@ pub returns : goal.returns
 unfolding listed
 returns c = record {
   tree = c.in_ok-add_sheet.ensures.tree;
-  is = c.in_ok-end_section.ensures ∙ ap (λ d. lined (closed d)) (c.in_ok-add_sheet.ensures.is ∙ ap (λ d. added d c.in_ok-add_sheet.ensures.tree) c.in_ok-begin_listed.ensures);
+  is = c.in_ok-end_line.ensures ∙ ap (λ d. lined (closed d)) (c.in_ok-add_sheet.ensures.is ∙ ap (λ d. added d c.in_ok-add_sheet.ensures.tree) c.in_ok-begin_listed.ensures);
 }

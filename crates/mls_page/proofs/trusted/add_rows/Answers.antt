@@ -8,5 +8,5 @@ use Rattle.mls_page.proofs.trusted.add_rows.Goals as goal
 pub loop-row-preserved : goal.loop-row-preserved
 loop-row-preserved c =
     let shown = trust_row c.args.names.now c.args.units in
-    row_next c.args.page.now c.loop-row.page c.add_row.new.page shown c.args.rows.now c.loop-row.row-index c.row-item.result c.loop-row-test.true
-    c.loop-row.invariant (c.in_ok-add_row.ensures ∙ ap (λ (r : Trusting). added c.loop-row.page (shown r)) c.row-item.is)
+    row_next c.args.page.now c.loop-row.page c.subject_row.new.page shown c.args.rows.now c.loop-row.row-index c.row-item.result c.loop-row-test.true
+    c.loop-row.invariant (c.in_ok-subject_row.ensures ∙ ap (λ (r : Trusting). added c.loop-row.page (shown r)) c.row-item.is)
