@@ -64,11 +64,13 @@ done
   for what in denied held granted; do echo "$what, large pages: $(nanoseconds "$what" 5000000)"; done
   echo "granted, large pages: $(system)"
 )
+# A million rows in Python.
+MLS_LIBRARY="$folder/lib/libmls.so" python3 bench/rows.py examples/standard.json || exit 1
 # Threads come last: beside other work they take many minutes.
 cc -O2 -I"$folder/include" bench/office.c "$folder/lib/libmls.a" -pthread -o "$folder/office" || exit 1
 clock() { for _ in 1 2 3 4 5; do "$folder/office" examples/standard.json "$1" "$2" "$3"; done | sort -n | head -n 1; }
 echo "sessions of an office, a handle each: nanoseconds by the clock for each call of all threads, with 1 thread and with 4"
-for row in "decide 2000000" "denied 1000000" "granted 1000000"; do
+for row in "decide 2000000" "denied 1000000" "granted 1000000" "changes 20000000" "rows 16000000"; do
   read -r what count <<<"$row"
   echo "$what, a session each: $(clock "$what" 1 "$count"), $(clock "$what" 4 "$count")"
 done

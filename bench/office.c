@@ -1,6 +1,7 @@
 /* Calls sessions of an office many times: `office START WHAT THREADS COUNT`, where WHAT is check, decide, denied, held (a
- * get of what is held already) or granted (a get of what isn't, and its release, in turn). Each thread has a session and
- * makes COUNT calls, all from the same moment on. Prints nanoseconds by the clock for each call of all threads. */
+ * get of what is held already), granted (a get of what isn't, and its release, in turn), changes (the count of changes)
+ * or rows (a batch of 16 labels, of which each row counts as a call). Each thread has a session and makes COUNT calls,
+ * all from the same moment on. Prints nanoseconds by the clock for each call of all threads. */
 #define _POSIX_C_SOURCE 200112L
 #include "mls_shared.h"
 
@@ -9,7 +10,7 @@
 #include <string.h>
 #include <time.h>
 
-enum { THREADS = 64 };
+enum { THREADS = 64, ROWS = 16 };
 
 static mls_session sessions[THREADS];
 static pthread_barrier_t begin;
@@ -27,8 +28,13 @@ static void *work(void *session) {
     mls_request get = mls_request_of(MLS_GET, 0, 1, MLS_READ), release = get, denied = get;
     mls_answer a;
     unsigned long sum = 0;
+    uint64_t changes;
+    mls_labels rows[ROWS];
+    uint16_t replies[ROWS];
     int held;
     long n;
+    memset(rows, 0, sizeof rows);
+    for (n = 0; n < ROWS; n++) rows[n].security.level = (uint8_t)(n & 3);
     release.action = MLS_RELEASE;
     denied.subject = 1;
     pthread_barrier_wait(&begin);
@@ -37,6 +43,14 @@ static void *work(void *session) {
             sum += mls_wait_check(s, n & 3, n >> 2 & 3, MLS_READ, &held) == MLS_OK && held;
     else if (!strcmp(what, "decide"))
         for (n = 0; n < count; n++) sum += (unsigned)mls_wait_decide(s, &get, &a);
+    else if (!strcmp(what, "changes"))
+        for (n = 0; n < count; n++) sum += mls_session_changes(s, &changes) == MLS_OK && changes;
+    else if (!strcmp(what, "rows"))
+        for (n = 0; n < count; n += ROWS) {
+            unsigned round = 0;
+            while (mls_session_decide_labels(s, 0, MLS_READ, rows, ROWS, replies) == MLS_EBUSY) mls_pause(round++);
+            sum += replies[n & (ROWS - 1)];
+        }
     else if (!strcmp(what, "denied"))
         for (n = 0; n < count; n++) sum += (unsigned)mls_wait_submit(s, &denied, &a);
     else if (!strcmp(what, "held"))
