@@ -237,11 +237,11 @@ MLS_INLINE void mls_shared_destroy(mls_shared *s) {
 }
 
 /* How a session that got MLS_EBUSY pauses before it asks again: MLS_SHORTEST pause instructions, 1
- * or 2 microseconds, and twice as many each round up to round MLS_ROUNDS, 5 to 50 microseconds.
+ * to 4 microseconds, and twice as many each round up to round MLS_ROUNDS, 5 to 50 microseconds.
  * From round MLS_YIELDS on it first gives its time slice to other threads. Meanwhile the monitor
  * stays in the cache of the processor that has it: a thread that asks more often takes turns from
  * the others, and each turn costs more. */
-enum { MLS_SHORTEST = 32, MLS_YIELDS = 2, MLS_ROUNDS = 5 };
+enum { MLS_SHORTEST = 64, MLS_YIELDS = 1, MLS_ROUNDS = 4 };
 
 MLS_INLINE void mls_pause(unsigned round) {
     unsigned left = MLS_SHORTEST;

@@ -168,15 +168,15 @@ impl Session {
 }
 
 /// A session that waits pauses for so many spins at first.
-const SHORTEST: u32 = 32;
+const SHORTEST: u32 = 64;
 
 /// From this round on it first gives its time slice to other threads.
-const YIELDS: u32 = 2;
+const YIELDS: u32 = 1;
 
 /// From this round on its pauses are equally long.
-const ROUNDS: u32 = 5;
+const ROUNDS: u32 = 4;
 
-/// Pauses before a call is made again: 1 or 2 microseconds, and twice as long each round, up to 5 to 50. A thread that
+/// Pauses before a call is made again: 1 to 4 microseconds, and twice as long each round, up to 5 to 50. A thread that
 /// asks more often takes turns from the others, and each turn costs more.
 fn pause(round: u32) {
     if round >= YIELDS {
