@@ -14,6 +14,8 @@ mod one_line;
 #[cfg(test)]
 mod seen;
 #[cfg(test)]
+mod segments;
+#[cfg(test)]
 mod serving;
 #[cfg(test)]
 mod sessions;

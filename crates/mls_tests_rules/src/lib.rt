@@ -17,6 +17,8 @@ mod monitors;
 #[cfg(test)]
 mod refusals;
 #[cfg(test)]
+mod refuses;
+#[cfg(test)]
 mod replays;
 #[cfg(test)]
 mod requests;
