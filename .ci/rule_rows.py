@@ -140,6 +140,70 @@ SCRIPTS = [
     """),
 ]
 
+# The lines of the state that the standard start opens with.
+OPENING = """
+    profile 1
+    next 4
+    subject ann maximum S:A current S:A integrity hi
+    subject bob maximum C current U integrity lo
+    subject sec maximum T:A,B current U integrity hi trusted
+    subject aud maximum S:A current U integrity hi trusted
+    object root security U integrity hi
+    object plans security S:A integrity hi parent root
+    object memo security C integrity lo parent root
+    object tool security U integrity lo parent root
+    permit ann read plans
+    permit ann write plans
+    permit ann read memo
+    permit ann execute tool
+    permit bob append plans
+    permit bob read memo
+    permit bob execute tool
+    permit sec write root
+    permit sec write plans
+    permit sec append memo
+    permit sec write memo
+    permit aud read plans
+"""
+
+# Names, and scripts over the standard start: behind each line and its answer the lines of the state that it takes
+# away, each with a -, and those that it adds, each with a +. All others stay.
+CHANGES = [
+    ("permissions and accesses come and go, each alone", """
+        sec get-write root          yes         + access sec write root
+        sec give read bob plans     yes         + permit bob read plans
+        sec give read bob plans     yes
+        bob get-read plans          no simple
+        sec rescind read bob plans  yes         - permit bob read plans
+        sec rescind read bob plans  yes
+        ann get-read plans          yes         + access ann read plans
+        ann get-read plans          yes
+        ann release read plans      yes         - access ann read plans
+        ann release read plans      yes
+        ann get-read plans          yes         + access ann read plans
+        sec rescind read ann plans  yes         - permit ann read plans  - access ann read plans
+        ann release write plans     yes
+        sec get-write memo          no integrity
+    """),
+    ("labels change, and an object is made and deleted with the one above it", """
+        sec get-write root          yes         + access sec write root
+        ann level C                 yes         - subject ann maximum S:A current S:A integrity hi  \
+            + subject ann maximum S:A current C integrity hi
+        sec relabel memo T          yes         - object memo security C integrity lo parent root  \
+            + object memo security T integrity lo parent root
+        sec get-write plans         yes         + access sec write plans
+        sec create plans S:A hi     created 4   + object #4 security S:A integrity hi parent plans  - next 4  + next 5
+        sec give read ann #4        yes         + permit ann read #4
+        sec give write sec #4       yes         + permit sec write #4
+        sec get-write #4            yes         + access sec write #4
+        sec delete plans            yes         - object plans security S:A integrity hi parent root  \
+            - object #4 security S:A integrity hi parent plans  - permit ann read plans  - permit ann write plans  \
+            - permit ann read #4  - permit bob append plans  - permit sec write plans  - permit sec write #4  \
+            - permit aud read plans  - access sec write plans  - access sec write #4
+        sec create root U hi        created 5   + object #5 security U integrity hi parent root  - next 5  + next 6
+    """),
+]
+
 # The journal of a script as session 7.
 JOURNAL_SCRIPT = """
     ann get-read memo           no integrity

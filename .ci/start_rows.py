@@ -169,10 +169,25 @@ ACCESSES = [
 # An access of the standard file, and why it is then refused, or what is counted.
 STANDARD_ACCESSES = [
     ((4, 4, 12, 1), "ann", "plans", "read"), ((4, 4, 12, 1), "sec", "plans", "write"),
-    # (star, discretionary security, integrity)
+    # (star, discretionary security, integrity twice, all but integrity)
     ("7 Start 10 NotSecure", "bob", "memo", "read"), ("7 Start 10 NotSecure", "ann", "plans", "append"),
-    ("7 Start 10 NotSecure", "sec", "memo", "write"),
+    ("7 Start 10 NotSecure", "sec", "memo", "write"), ("7 Start 10 NotSecure", "ann", "memo", "read"),
+    ("7 Start 10 NotSecure", "bob", "plans", "read"),
 ]
+
+# Accesses of the standard file, of which one stands twice: what is counted, and the lines of the state for them.
+STANDARD_ACCESSES_TWICE = (
+    [("sec", "plans", "write"), ("ann", "plans", "read"), ("sec", "plans", "write")], (4, 4, 12, 2),
+    ["access ann read plans", "access sec write plans"])
+
+# Permissions of the standard file in the place of its own, of which each stands twice, before others or behind them:
+# what is counted, and the lines of the state for them.
+ALL_MODES = ["write", "append", "read", "execute"]
+STANDARD_CELLS_TWICE = (
+    [("bob", "tool", ALL_MODES), ("ann", "root", ALL_MODES), ("bob", "tool", ALL_MODES), ("ann", "root", ALL_MODES)],
+    (4, 4, 8), [f"permit {place}" for place in (
+        "ann execute root", "ann read root", "ann append root", "ann write root", "bob execute tool", "bob read tool",
+        "bob append tool", "bob write tool")])
 
 # What stands in the member profile of the small file, and why it is then refused, or what is counted.
 PROFILES = [((1, 2, 1), "1"), ((1, 2, 1), "2"),
