@@ -115,6 +115,9 @@ LABEL_PLACES = [('"maximum":', "U", ""), ('"current":', "U", ""), ('"integrity":
 LABEL_ENDS = [":", ":A,", ":A,,B", " ", ":C", ":A,C", ":A,A", ":B,A,B"]
 # Texts of which no level is known, or that are of another form.
 NO_LABELS = ["", "Q", "Q:A", ":A", "U,lo", "u"]
+# Texts in the place of bob's maximum of the standard file, and why each is no label.
+LABEL_FAULTS = [("", "bad form"), ("S:", "bad form"), ("Q:Z", "unknown level"), ("S:Z,Z", "unknown category"),
+                ("S:A,A", "repeated category"), ("Q:,", "bad form")]
 # Labels of the first place: the order of categories is free.
 LABELS_READ = ["U", "U:A", "U:B,A", "U:A,B"]
 
@@ -123,6 +126,11 @@ NO_NAMES = ['""', f'"{LONG}"', '"a b"', '"a.b"', '"a:b"', '"\\u00e9"', '"a\\u000
 NAMES = [*[row for name in "sro" for row in each('"name":', f'"{name}"', *NO_NAMES)],
          *each("", SUBJECT, f"{SUBJECT},{SUBJECT}"), *each('"name":', '"o"', '"r"'),
          *each("", CHILD, f"{CHILD},{CHILD}")]
+
+# Names of more subjects: the last stands twice; none does, though two differ only in their case.
+MORE_NAMES = [(wanted, [(SUBJECT, ",".join(SUBJECT.replace('"s"', f'"{name}"') for name in given))])
+              for wanted, given in (("4 Name", ["s", "ann", "ann"]), ("4 Name", ["ann", "bob", "eve", "bob"]),
+               ((3, 2, 1), ["s", "ann", "Ann"]), ((4, 2, 1), ["ann", "bob", "s", "an"]))]
 
 # A name of 32 bytes, and a subject and an object of one name.
 NAMES_READ = [[('"name":"s"', f'"name":"{LONG[1:]}"'), ('"subject":"s"', f'"subject":"{LONG[1:]}"')],

@@ -484,6 +484,63 @@ static void refused_requests(void) {
     CHECK(few >= 3 && many > few);
 }
 
+/* Has each allocation of an opening refused in turn, of the standard start with two accesses, of which one stands
+ * twice: it then opens as it should. */
+static void refused_openings(void) {
+    static const char *const accesses =
+        ", \"accesses\": [{\"subject\": \"sec\", \"object\": \"plans\", \"modes\": [\"write\"]}, "
+        "{\"subject\": \"ann\", \"object\": \"plans\", \"modes\": [\"read\"]}, "
+        "{\"subject\": \"sec\", \"object\": \"plans\", \"modes\": [\"write\"]}]}";
+    static char file[1 << 16], wanted[4096];
+    size_t end = start_len;
+    long k, before = live;
+    int status = MLS_ENOMEM;
+    while (end && start[end - 1] != '}') end--;
+    CHECK(end > 1 && end + strlen(accesses) < sizeof file);
+    sprintf(file, "%.*s%s", (int)(end - 1), (const char *)start, accesses);
+    sprintf(wanted, "%s4%saccess ann read plans\naccess sec write plans\n", opening_front, opening_rest);
+    for (k = 0; status == MLS_ENOMEM && k < 100000; k++) {
+        mls_monitor m = MLS_INIT;
+        mls_fault f = no_fault;
+        left = k;
+        status = mls_open(&m, (const uint8_t *)file, strlen(file), &f);
+        left = -1;
+        if (status == MLS_ENOMEM) {
+            CHECK(m.held == 0 && m.monitor == NULL && live == before);
+            CHECK(mls_open(&m, (const uint8_t *)file, strlen(file), &f) == MLS_OK);
+        }
+        CHECK(is_fault(&f, 55, 66, 77));
+        has_state(&m, wanted);
+        mls_close(&m);
+    }
+    CHECK(status == MLS_OK && k > 10 && live == before);
+}
+
+/* Has each allocation of a label's text refused in turn: nothing is written then, and the same call again writes it. */
+static void refused_labels(void) {
+    mls_monitor m = MLS_INIT;
+    mls_label l = {0, {0, 0, 0, 0}};
+    char text[8];
+    long k;
+    int status = MLS_ENOMEM;
+    open_standard(&m);
+    CHECK(mls_read_label(&m, MLS_SECURITY_LABEL, (const uint8_t *)"S:B,A", 5, &l) == MLS_OK);
+    for (k = 0; status == MLS_ENOMEM && k < 100; k++) {
+        size_t len = 77;
+        memset(text, '#', sizeof text);
+        left = k;
+        status = mls_write_label(&m, MLS_SECURITY_LABEL, &l, text, sizeof text, &len);
+        left = -1;
+        if (status == MLS_ENOMEM) {
+            CHECK(len == 77 && memcmp(text, "########", sizeof text) == 0);
+            CHECK(mls_write_label(&m, MLS_SECURITY_LABEL, &l, text, sizeof text, &len) == MLS_OK);
+        }
+        CHECK(len == 5 && memcmp(text, "S:A,B###", sizeof text) == 0);
+    }
+    CHECK(status == MLS_OK && k > 1);
+    mls_close(&m);
+}
+
 /* Has each allocation of a journal's replay refused in turn: it then ends so, with this state where it is one. */
 static void replays_refused(const char *text, const char *state, int status) {
     mls_monitor m = MLS_INIT;
@@ -597,6 +654,8 @@ int main(int argc, char **argv) {
     tell("conditions of gets", conditions_of_gets);
     tell("entries that are forgotten", entries_that_are_forgotten);
     tell("memory that is given back", memory_that_is_given_back);
+    tell("openings without memory", refused_openings);
+    tell("labels without memory", refused_labels);
     tell("requests without memory", refused_requests);
     tell("replays without memory", refused_replays);
     tell("the last numbers without memory", refused_last_numbers);

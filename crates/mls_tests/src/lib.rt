@@ -10,6 +10,8 @@ mod faults;
 mod feeds;
 mod journal;
 #[cfg(test)]
+mod monitors;
+#[cfg(test)]
 mod one_line;
 #[cfg(test)]
 mod seen;
@@ -28,4 +30,4 @@ mod tables;
 #[cfg(test)]
 mod vars;
 
-pub use journal::{Call, Memory, MemoryMarks, Shelf};
+pub use journal::{Call, Memory};

@@ -5,7 +5,7 @@ use mls_tables::{MAX_OBJECTS, Mode, Modes, ObjectId, SubjectId};
 use std::alloc::Allocator;
 use std::process::Abort;
 
-pub const MODES: [Mode; 4] = [Mode::Execute, Mode::Read, Mode::Append, Mode::Write];
+const MODES: [Mode; 4] = [Mode::Execute, Mode::Read, Mode::Append, Mode::Write];
 
 /// Whether two sets have the same modes.
 fn same_modes(a: Modes, b: Modes) -> bool {

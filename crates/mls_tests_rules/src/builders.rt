@@ -1,6 +1,5 @@
 //! A builder after a call whose allocation was refused: it builds what one builds that was given the calls before.
 use crate::alike::are_alike;
-use crate::refusals::opening;
 use crate::seen::sees;
 use crate::standard::{CALLS_WITH_ACCESSES, begun, give};
 use crate::starts::counts;
@@ -19,6 +18,14 @@ fn give_until_refused<A: Allocator>(builder: &mut StartBuilder<A>, count: usize)
         }
     }
     count
+}
+
+/// The opening of a start; where an allocation failed it is opened again.
+fn opening<A: Allocator + Copy>(heap: A, start: &Start<A>) -> Result<State<A>, AllocError> {
+    match start.opening(heap) {
+        Ok(state) => Ok(state),
+        Err(_) => start.opening(heap),
+    }
 }
 
 /// What a builder builds: a start, or its fault.

@@ -4,7 +4,6 @@ mod labels;
 mod lists;
 mod matrices;
 mod orders;
-mod schemes;
 mod seen;
 mod sets;
 mod trees;
