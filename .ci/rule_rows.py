@@ -140,6 +140,48 @@ SCRIPTS = [
     """),
 ]
 
+# What gets of the standard start are answered that the matrix permits; of all others it is `no discretionary`.
+PERMITTED_GETS = """
+    ann get-read plans          yes
+    ann get-write plans         yes
+    ann get-read memo           no integrity
+    ann get-execute tool        no integrity
+    bob get-append plans        no integrity
+    bob get-read memo           no star
+    bob get-execute tool        yes
+    sec get-write root          yes
+    sec get-write plans         yes
+    sec get-append memo         yes
+    sec get-write memo          no integrity
+    aud get-read plans          yes
+"""
+
+# The greatest level of each subject, and what is above it.
+GREATEST_LEVELS = """
+    ann level S:A               yes
+    ann level S:A,B             no ceiling
+    ann level T:A               no ceiling
+    bob level C                 yes
+    bob level C:A               no ceiling
+    bob level S                 no ceiling
+    sec level T:A,B             yes
+    aud level S:A               yes
+    aud level S:A,B             no ceiling
+    aud level T:A               no ceiling
+    aud level U                 yes
+"""
+
+# Scripts that are read line by line, and by a feed that looks ahead, with their answers.
+FED = [("", ""), ("\n; note\n\n", ""),
+       ("ann get-read plans\nann check read plans\nann frob\nzoe get-read plans\nann release read plans",
+        "yes\nheld\nbad form\nbad name\nyes\n"),
+       ("sec get-write root\n$x = sec create root S:B hi\nsec give read ann $x\nann get-read $x\nann get-read $y\n",
+        "yes\ncreated 4\nyes\nno simple\nbad name\n"),
+       ("$x = ann create root U hi\nann get-read $x\nsec create root Q hi\n#9 get-read plans\nann get-read #77\n",
+        "no authority\nbad name\nbad label\nundefined\nundefined\n"),
+       ("sec get-write root\n$x = sec create root U hi\n$x = sec create root U hi\n$x = ann create root U hi\n"
+        "sec delete $x\nann check read $x\n", "yes\ncreated 4\ncreated 5\nno authority\nyes\nnot held\n")]
+
 # The lines of the state that the standard start opens with.
 OPENING = """
     profile 1

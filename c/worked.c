@@ -643,6 +643,78 @@ static void conditions_of_gets(void) {
     mls_close(&m);
 }
 
+/* What each byte of a text is changed to. */
+static const uint8_t other_bytes[] = {0, 10, 32, 34, 48, 92, 123, 125, 255};
+
+/* The entries of a handle write its journal's text back. */
+static void is_written_back(mls_monitor *m, const char *text, size_t len) {
+    char line[512];
+    size_t at = 0, one = 0;
+    uint64_t n;
+    for (n = 0; n < mls_entries(m); n++, at += one)
+        CHECK(mls_entry_text(m, n, line, sizeof line, &one) == MLS_OK && at + one <= len &&
+              !memcmp(line, text + at, one));
+    CHECK(at == len);
+}
+
+/* The state of a handle is a secure one of a start file. */
+static void is_secure(mls_monitor *m, const uint8_t *file, size_t len) {
+    mls_monitor on = MLS_INIT;
+    mls_fault f = no_fault;
+    char *text = state_of(m);
+    CHECK(mls_open_state(&on, file, len, (const uint8_t *)text, strlen(text), 0, &f) == MLS_OK);
+    mls_close(&on);
+    free(text);
+}
+
+/* Each byte of a journal is changed: that is found by name, or the entries write the text back and the state is
+ * secure. */
+static void changed_bytes_of_a_journal(void) {
+    static const char *const text =
+        "0 0 1 get-read 2 no star\n1 0 1 level 1 yes\n2 0 1 get-read 2 yes\n3 0 1 level 0 no star\n"
+        "4 0 1 release read 2 yes\n5 0 1 level 0 yes\n";
+    mls_monitor m = MLS_INIT;
+    mls_fault f;
+    char other[256];
+    size_t place, k, len = strlen(text), whole = 0;
+    CHECK(len < sizeof other);
+    for (place = 0; place < len; place++)
+        for (k = 0; k < sizeof other_bytes; k++) {
+            int status;
+            memcpy(other, text, len);
+            other[place] = (char)other_bytes[k];
+            status = resume(&m, other, len, &f);
+            CHECK(status == MLS_OK || status == MLS_EJOURNAL || status == MLS_EREPLAY);
+            if (status != MLS_OK) continue;
+            is_written_back(&m, other, len);
+            is_secure(&m, start, start_len);
+            mls_close(&m);
+            whole++;
+        }
+    CHECK(whole > 0 && whole < len);
+}
+
+/* Each byte of a start file is changed: it is refused by name, or it opens secure. */
+static void changed_bytes_of_a_start(void) {
+    static uint8_t other[1 << 16];
+    mls_monitor m = MLS_INIT;
+    mls_fault f;
+    size_t place, k, whole = 0;
+    for (place = 0; place < start_len; place++)
+        for (k = 0; k < sizeof other_bytes; k++) {
+            int status;
+            memcpy(other, start, start_len);
+            other[place] = other_bytes[k];
+            status = mls_open(&m, other, start_len, &f);
+            CHECK(status == MLS_OK || status == MLS_ESTART);
+            if (status != MLS_OK) continue;
+            is_secure(&m, other, start_len);
+            mls_close(&m);
+            whole++;
+        }
+    CHECK(whole > 0 && whole < sizeof other_bytes * start_len / 2);
+}
+
 int main(int argc, char **argv) {
     FILE *file = argc > 1 ? fopen(argv[1], "rb") : NULL;
     if (!file) return 2;
@@ -659,6 +731,8 @@ int main(int argc, char **argv) {
     tell("requests without memory", refused_requests);
     tell("replays without memory", refused_replays);
     tell("the last numbers without memory", refused_last_numbers);
+    tell("changed bytes of a journal", changed_bytes_of_a_journal);
+    tell("changed bytes of a start", changed_bytes_of_a_start);
     printf("%d passed, %d failed\n", passed, failed);
     return failed > 0;
 }

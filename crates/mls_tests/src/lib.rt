@@ -1,13 +1,9 @@
-//! Tests that cross crates, of what only calls show: streams that fail, allocations that are refused, what is read
-//! beside the tables, journals and the services over them, and sessions.
+//! Tests that cross crates, of what only calls show: streams that fail, allocations that are refused, journals and the
+//! services over them, and sessions.
 #![tactic(auto)]
 
 #[cfg(test)]
-mod changes;
-#[cfg(test)]
 mod faults;
-#[cfg(test)]
-mod feeds;
 mod journal;
 #[cfg(test)]
 mod monitors;
@@ -23,10 +19,6 @@ mod serving;
 mod sessions;
 #[cfg(test)]
 mod standard;
-#[cfg(test)]
-mod standard_file;
-#[cfg(test)]
-mod tables;
 #[cfg(test)]
 mod vars;
 
