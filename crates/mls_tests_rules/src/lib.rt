@@ -1,12 +1,8 @@
-//! Tests of what only calls show of labels, tables, the tree and builders of starts. Worked scripts and journals, and the
-//! states that they lead to, are in .ci/check-rows, which the program answers, and in c/worked.c, which calls the
+//! Tests of what only calls show of labels, tables, the tree and starts that are built. Worked scripts and journals, and
+//! the states that they lead to, are in .ci/check-rows, which the program answers, and in c/worked.c, which calls the
 //! library for C and has its allocations refused.
 #![tactic(auto)]
 
-#[cfg(test)]
-mod alike;
-#[cfg(test)]
-mod builders;
 #[cfg(test)]
 mod refuses;
 #[cfg(test)]
