@@ -246,6 +246,124 @@ CHANGES = [
     """),
 ]
 
+# A start of three subjects, of one that may write the root, and of an object below that; and the lines of its state.
+def start_of_tables(profile):
+    subjects = [{"name": name, "maximum": "U", "current": "U", "integrity": "lo", "trusted": True}
+                for name in ("s0", "s1", "s2", "boss")]
+    objects = [{"name": "root", "parent": None, "security": "U", "integrity": "lo"},
+               {"name": "o1", "parent": "root", "security": "U", "integrity": "lo"}]
+    return {"profile": profile, "security": {"levels": ["U"], "categories": []},
+            "integrity": {"levels": ["lo"], "categories": []}, "subjects": subjects, "objects": objects,
+            "matrix": [{"subject": "boss", "object": "root", "modes": ["write"]}]}
+
+
+OPENING_OF_TABLES = """
+    next 2
+    subject s0 maximum U current U integrity lo trusted
+    subject s1 maximum U current U integrity lo trusted
+    subject s2 maximum U current U integrity lo trusted
+    subject boss maximum U current U integrity lo trusted
+    object root security U integrity lo
+    object o1 security U integrity lo parent root
+    permit boss write root
+"""
+
+# Profiles, names, and scripts over that start, as above.
+CHANGES_OF_TABLES = [
+    (1, "a mode that is given twice, and rescinded", """
+        boss get-write root         yes         + access boss write root
+        boss give read s0 o1        yes         + permit s0 read o1
+        boss give read s0 o1        yes
+        boss rescind read s0 o1     yes         - permit s0 read o1
+    """),
+    (1, "cells that stand side by side share no mode", """
+        boss get-write root         yes         + access boss write root
+        boss create root U lo       created 2   - next 2  + next 3  + object #2 security U integrity lo parent root
+        boss give execute s1 o1     yes         + permit s1 execute o1
+        boss give read s1 o1        yes         + permit s1 read o1
+        boss give append s1 o1      yes         + permit s1 append o1
+        boss give write s1 o1       yes         + permit s1 write o1
+        boss give append s2 #2      yes         + permit s2 append #2
+        boss give write s0 o1       yes         + permit s0 write o1
+        boss rescind write s1 o1    yes         - permit s1 write o1
+        boss rescind write s0 o1    yes         - permit s0 write o1
+        boss delete o1              yes         - object o1 security U integrity lo parent root  \
+            - permit s1 execute o1  - permit s1 read o1  - permit s1 append o1
+    """),
+    (1, "what is permitted on a branch goes with it", """
+        boss get-write root         yes         + access boss write root
+        boss create root U lo       created 2   - next 2  + next 3  + object #2 security U integrity lo parent root
+        boss create root U lo       created 3   - next 3  + next 4  + object #3 security U integrity lo parent root
+        boss give write boss #2     yes         + permit boss write #2
+        boss get-write #2           yes         + access boss write #2
+        boss create #2 U lo         created 4   - next 4  + next 5  + object #4 security U integrity lo parent #2
+        boss give read s2 o1        yes         + permit s2 read o1
+        boss give read s2 #2        yes         + permit s2 read #2
+        boss give read s2 #3        yes         + permit s2 read #3
+        boss give read s2 #4        yes         + permit s2 read #4
+        boss delete #2              yes         - object #2 security U integrity lo parent root  \
+            - object #4 security U integrity lo parent #2  - permit boss write #2  - access boss write #2  \
+            - permit s2 read #2  - permit s2 read #4
+    """),
+    (1, "one of two branches is taken out, and its numbers aren't given again", """
+        boss get-write root         yes         + access boss write root
+        boss give write boss o1     yes         + permit boss write o1
+        boss get-write o1           yes         + access boss write o1
+        boss create o1 U lo         created 2   - next 2  + next 3  + object #2 security U integrity lo parent o1
+        boss give write boss #2     yes         + permit boss write #2
+        boss get-write #2           yes         + access boss write #2
+        boss create #2 U lo         created 3   - next 3  + next 4  + object #3 security U integrity lo parent #2
+        boss create root U lo       created 4   - next 4  + next 5  + object #4 security U integrity lo parent root
+        boss delete o1              yes         - object o1 security U integrity lo parent root  \
+            - object #2 security U integrity lo parent o1  - object #3 security U integrity lo parent #2  \
+            - permit boss write o1  - access boss write o1  - permit boss write #2  - access boss write #2
+        boss create root U lo       created 5   - next 5  + next 6  + object #5 security U integrity lo parent root
+    """),
+    (1, "a branch of five is taken out", """
+        boss get-write root         yes         + access boss write root
+        boss give write boss o1     yes         + permit boss write o1
+        boss get-write o1           yes         + access boss write o1
+        boss create root U lo       created 2   - next 2  + next 3  + object #2 security U integrity lo parent root
+        boss create o1 U lo         created 3   - next 3  + next 4  + object #3 security U integrity lo parent o1
+        boss create root U lo       created 4   - next 4  + next 5  + object #4 security U integrity lo parent root
+        boss create o1 U lo         created 5   - next 5  + next 6  + object #5 security U integrity lo parent o1
+        boss give write boss #3     yes         + permit boss write #3
+        boss get-write #3           yes         + access boss write #3
+        boss create #3 U lo         created 6   - next 6  + next 7  + object #6 security U integrity lo parent #3
+        boss create o1 U lo         created 7   - next 7  + next 8  + object #7 security U integrity lo parent o1
+        boss give write boss #4     yes         + permit boss write #4
+        boss get-write #4           yes         + access boss write #4
+        boss delete o1              yes         - object o1 security U integrity lo parent root  \
+            - object #3 security U integrity lo parent o1  - object #5 security U integrity lo parent o1  \
+            - object #6 security U integrity lo parent #3  - object #7 security U integrity lo parent o1  \
+            - permit boss write o1  - access boss write o1  - permit boss write #3  - access boss write #3
+        boss create #4 U lo         created 8   - next 8  + next 9  + object #8 security U integrity lo parent #4
+    """),
+    (2, "numbers are given again, the least first, and hold nothing of what they were", """
+        boss get-write root         yes         + access boss write root
+        boss give write boss o1     yes         + permit boss write o1
+        boss get-write o1           yes         + access boss write o1
+        boss create o1 U lo         created 2   - next 2  + next 3  + object #2 security U integrity lo parent o1
+        boss give write boss #2     yes         + permit boss write #2
+        boss get-write #2           yes         + access boss write #2
+        boss create #2 U lo         created 3   - next 3  + next 4  + object #3 security U integrity lo parent #2
+        boss create root U lo       created 4   - next 4  + next 5  + object #4 security U integrity lo parent root
+        boss give write boss #4     yes         + permit boss write #4
+        boss get-write #4           yes         + access boss write #4
+        boss delete o1              yes         - object o1 security U integrity lo parent root  \
+            - object #2 security U integrity lo parent o1  - object #3 security U integrity lo parent #2  \
+            - permit boss write o1  - access boss write o1  - permit boss write #2  - access boss write #2  \
+            - next 5  + next 1
+        boss create #4 U lo         created 1   - next 1  + next 2  + object o1 security U integrity lo parent #4
+        boss create root U lo       created 2   - next 2  + next 3  + object #2 security U integrity lo parent root
+        boss create root U lo       created 3   - next 3  + next 5  + object #3 security U integrity lo parent root
+        boss create root U lo       created 5   - next 5  + next 6  + object #5 security U integrity lo parent root
+        boss delete #4              yes         - object #4 security U integrity lo parent root  \
+            - object o1 security U integrity lo parent #4  - permit boss write #4  - access boss write #4  \
+            - next 6  + next 1
+    """),
+]
+
 # The journal of a script as session 7.
 JOURNAL_SCRIPT = """
     ann get-read memo           no integrity

@@ -6,6 +6,7 @@ use mls_rules::tests_are_of_all;
 use mls_start::{Start, StartBuilder};
 use mls_state::{State, is_secure};
 use mls_tables::{Mode, ObjectId, SubjectId};
+use mls_tree::inferiors_reach;
 use std::alloc::{AllocError, Allocator, Global};
 use std::process::Abort;
 use std::test::Fail;
@@ -119,5 +120,6 @@ fn the_largest_start_with_a_full_matrix(rt: HostRuntime) -> Result<(), Fail> {
     drop(start);
     opened?;
     tests_are_of_all();
+    inferiors_reach();
     Ok(())
 }
