@@ -115,6 +115,9 @@ LABEL_PLACES = [('"maximum":', "U", ""), ('"current":', "U", ""), ('"integrity":
 LABEL_ENDS = [":", ":A,", ":A,,B", " ", ":C", ":A,C", ":A,A", ":B,A,B"]
 # Texts of which no level is known, or that are of another form.
 NO_LABELS = ["", "Q", "Q:A", ":A", "U,lo", "u"]
+# Texts in the place of bob's maximum of the standard file, and why each is no label.
+LABEL_FAULTS = [("", "bad form"), ("S:", "bad form"), ("Q:Z", "unknown level"), ("S:Z,Z", "unknown category"),
+                ("S:A,A", "repeated category"), ("Q:,", "bad form")]
 # Labels of the first place: the order of categories is free.
 LABELS_READ = ["U", "U:A", "U:B,A", "U:A,B"]
 
@@ -123,6 +126,11 @@ NO_NAMES = ['""', f'"{LONG}"', '"a b"', '"a.b"', '"a:b"', '"\\u00e9"', '"a\\u000
 NAMES = [*[row for name in "sro" for row in each('"name":', f'"{name}"', *NO_NAMES)],
          *each("", SUBJECT, f"{SUBJECT},{SUBJECT}"), *each('"name":', '"o"', '"r"'),
          *each("", CHILD, f"{CHILD},{CHILD}")]
+
+# Names of more subjects: the last stands twice; none does, though two differ only in their case.
+MORE_NAMES = [(wanted, [(SUBJECT, ",".join(SUBJECT.replace('"s"', f'"{name}"') for name in given))])
+              for wanted, given in (("4 Name", ["s", "ann", "ann"]), ("4 Name", ["ann", "bob", "eve", "bob"]),
+               ((3, 2, 1), ["s", "ann", "Ann"]), ((4, 2, 1), ["ann", "bob", "s", "an"]))]
 
 # A name of 32 bytes, and a subject and an object of one name.
 NAMES_READ = [[('"name":"s"', f'"name":"{LONG[1:]}"'), ('"subject":"s"', f'"subject":"{LONG[1:]}"')],
@@ -169,10 +177,25 @@ ACCESSES = [
 # An access of the standard file, and why it is then refused, or what is counted.
 STANDARD_ACCESSES = [
     ((4, 4, 12, 1), "ann", "plans", "read"), ((4, 4, 12, 1), "sec", "plans", "write"),
-    # (star, discretionary security, integrity)
+    # (star, discretionary security, integrity twice, all but integrity)
     ("7 Start 10 NotSecure", "bob", "memo", "read"), ("7 Start 10 NotSecure", "ann", "plans", "append"),
-    ("7 Start 10 NotSecure", "sec", "memo", "write"),
+    ("7 Start 10 NotSecure", "sec", "memo", "write"), ("7 Start 10 NotSecure", "ann", "memo", "read"),
+    ("7 Start 10 NotSecure", "bob", "plans", "read"),
 ]
+
+# Accesses of the standard file, of which one stands twice: what is counted, and the lines of the state for them.
+STANDARD_ACCESSES_TWICE = (
+    [("sec", "plans", "write"), ("ann", "plans", "read"), ("sec", "plans", "write")], (4, 4, 12, 2),
+    ["access ann read plans", "access sec write plans"])
+
+# Permissions of the standard file in the place of its own, of which each stands twice, before others or behind them:
+# what is counted, and the lines of the state for them.
+ALL_MODES = ["write", "append", "read", "execute"]
+STANDARD_CELLS_TWICE = (
+    [("bob", "tool", ALL_MODES), ("ann", "root", ALL_MODES), ("bob", "tool", ALL_MODES), ("ann", "root", ALL_MODES)],
+    (4, 4, 8), [f"permit {place}" for place in (
+        "ann execute root", "ann read root", "ann append root", "ann write root", "bob execute tool", "bob read tool",
+        "bob append tool", "bob write tool")])
 
 # What stands in the member profile of the small file, and why it is then refused, or what is counted.
 PROFILES = [((1, 2, 1), "1"), ((1, 2, 1), "2"),

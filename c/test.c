@@ -37,7 +37,13 @@ void *__real_malloc(size_t size);
 void *__real_realloc(void *at, size_t size);
 void __real_free(void *at);
 
+/* What is done, once, where memory is asked for the next time. */
+static void (*meanwhile)(void);
+
 static int refused(void) {
+    void (*deed)(void) = meanwhile;
+    meanwhile = NULL;
+    if (deed) deed();
     if (left == 0) return 1;
     if (left > 0) left--;
     return 0;
@@ -1861,6 +1867,115 @@ static void refused_offices(void) {
     CHECK(live == before);
 }
 
+/* Has each session of an office take turns at a monitor that has two entries of another one, with each allocation refused
+ * in turn after the first k: the same call then ends as it should. Returns whether one was refused, and counts those of the
+ * opening and of the turns. */
+static int turns_with_refusals(uint16_t count, long k, long *opened, long *asked_for) {
+    static const uint8_t actions[] = {MLS_GET, MLS_CREATE, MLS_CREATE, MLS_GET, MLS_CREATE};
+    mls_t m = MLS_INIT;
+    mls_office office = MLS_OFFICE_INIT;
+    mls_session s[3] = {MLS_SESSION_INIT, MLS_SESSION_INIT, MLS_SESSION_INIT};
+    mls_answer_t a;
+    mls_entry_t e;
+    mls_counts c;
+    uint64_t n = 2;
+    uint16_t object = 5, j;
+    size_t turn;
+    int was_refused;
+    open_standard(&m);
+    CHECK(asked(&m, request(MLS_GET, SEC, MLS_WRITE, ROOT)) == MLS_YES && asked(&m, request(MLS_CREATE, SEC, 0, ROOT)) == MLS_CREATED);
+    left = k;
+    if (mls_office_open(&office, &m, s, count) == MLS_ENOMEM) {
+        left = -1;
+        ++*opened;
+        CHECK(m.held == 1 && !office.held && !s[0].held && mls_entries(&m) == 2 && mls_check(&m, SEC, ROOT, MLS_WRITE) == 1);
+        CHECK(mls_count(&m, &c) == MLS_OK && c.next == 5 && mls_office_open(&office, &m, s, count) == MLS_OK);
+    }
+    for (j = 0; j < count; j++)
+        for (turn = 0; turn < sizeof actions; turn++, n++) {
+            mls_request_t q = request(actions[turn], SEC, MLS_WRITE, ROOT);
+            int status;
+            a = no_answer;
+            status = mls_session_submit(&s[j], &q, &a);
+            if (status == MLS_ENOMEM) {
+                left = -1;
+                ++*asked_for;
+                CHECK(same_answer(&a, &no_answer) && mls_session_count(&s[j], &c) == MLS_OK && c.entries == n && c.next == object);
+                status = mls_session_submit(&s[j], &q, &a);
+            }
+            CHECK(status == MLS_OK && a.number == n && a.reply == (q.action == MLS_GET ? MLS_YES : MLS_CREATED));
+            CHECK(a.object == (q.action == MLS_GET ? 0 : object));
+            object += q.action == MLS_CREATE;
+        }
+    was_refused = left < 0;
+    left = -1;
+    CHECK(mls_office_close(&office, s, &m) == MLS_OK && mls_entries(&m) == n && mls_count(&m, &c) == MLS_OK && c.next == object);
+    for (n = 0; n < mls_entries(&m); n++) CHECK(mls_entry(&m, n, &e) == MLS_OK && e.session == (n < 2 ? 5 : (n - 2) / 5));
+    CHECK(mls_check(&m, SEC, ROOT, MLS_WRITE) == 1);
+    mls_close(&m);
+    return was_refused;
+}
+
+/* The turns of one session and of three. */
+static void refused_turns(void) {
+    uint16_t count;
+    for (count = 1; count <= 3; count += 2) {
+        long k = 0, opened = 0, asked_for = 0, before = live;
+        while (turns_with_refusals(count, k, &opened, &asked_for) && k < 1000) k++;
+        CHECK(k < 1000 && opened >= 3 && asked_for >= 2 && live == before);
+    }
+}
+
+static mls_session pair[2] = {MLS_SESSION_INIT, MLS_SESSION_INIT};
+
+/* How often the second session asked while the first was at the monitor. */
+static int beside;
+
+/* The second session is told that the monitor is busy, except where it reads a word that is written. */
+static void ask_beside(void) {
+    mls_request_t q = request(MLS_GET, ANN, MLS_READ, PLANS);
+    mls_answer_t a = no_answer;
+    uint64_t next = 7;
+    size_t len = 7;
+    char line[64];
+    int held = 7;
+    CHECK(mls_session_forget(&pair[1], 1) == MLS_EBUSY && mls_session_submit(&pair[1], &q, &a) == MLS_EBUSY);
+    CHECK(mls_session_decide(&pair[1], &q, &a) == MLS_EBUSY && same_answer(&a, &no_answer));
+    CHECK(mls_session_entry_text(&pair[1], 0, line, sizeof line, &len, &next) == MLS_EBUSY && len == 7 && next == 7);
+    CHECK(mls_session_check(&pair[1], SEC, 4, MLS_READ, &held) == MLS_EBUSY && held == 0);
+    CHECK(mls_session_check(&pair[1], ANN, PLANS, MLS_READ, &held) == MLS_OK && held == 1);
+    beside++;
+}
+
+/* A session asks while another one is at the monitor, which then needs memory for its entry. A check that was answered has
+ * written the word of its object, and the word of an object that was deleted is blank. */
+static void busy_sessions(void) {
+    mls_t m = MLS_INIT;
+    mls_office office = MLS_OFFICE_INIT;
+    mls_request_t denied = request(MLS_GET, BOB, MLS_READ, MEMO);
+    mls_answer_t a;
+    uint64_t n, count = 7;
+    long before = live;
+    open_standard(&m);
+    CHECK(mls_office_open(&office, &m, pair, 2) == MLS_OK);
+    CHECK(entered(&pair[1], request(MLS_GET, ANN, MLS_READ, PLANS), 0) == MLS_YES && told(&pair[1], ANN, PLANS) == 1);
+    CHECK(entered(&pair[1], request(MLS_GET, SEC, MLS_WRITE, ROOT), 1) == MLS_YES);
+    CHECK(entered(&pair[1], request(MLS_CREATE, SEC, 0, ROOT), 2) == MLS_CREATED && told(&pair[1], SEC, 4) == 0);
+    CHECK(entered(&pair[1], request(MLS_DELETE, SEC, 0, 4), 3) == MLS_YES);
+    beside = 0;
+    for (n = 4; !beside && n < 10000; n++) {
+        meanwhile = ask_beside;
+        CHECK(mls_session_submit(&pair[0], &denied, &a) == MLS_OK && a.number == n && a.reply == MLS_DENIED + MLS_STAR);
+        meanwhile = NULL;
+    }
+    /* then the monitor is free */
+    CHECK(beside == 1 && told(&pair[1], SEC, 4) == 0 && entered(&pair[1], denied, n) == MLS_DENIED + MLS_STAR);
+    CHECK(mls_session_changes(&pair[1], &count) == MLS_OK && count == 1);
+    CHECK(mls_office_close(&office, pair, &m) == MLS_OK && mls_entries(&m) == n + 1 && mls_forgotten(&m) == 0);
+    mls_close(&m);
+    CHECK(live == before);
+}
+
 static void words(void) {
     CHECK(strcmp(mls_status_word(MLS_ENOTFOUND), "not found") == 0 && strcmp(mls_status_word(1), "?") == 0 && strcmp(mls_status_word(-13), "?") == 0);
     CHECK(strcmp(mls_status_word(MLS_ESTATE), "state refused") == 0 && strcmp(mls_status_word(MLS_EBUSY), "busy") == 0 && strcmp(mls_status_word(MLS_EAGAIN), "not yet") == 0);
@@ -1960,6 +2075,8 @@ int main(int argc, char **argv) {
     tell("going on without memory", refused_going_on);
     tell("offices", offices);
     tell("offices without memory", refused_offices);
+    tell("turns of sessions without memory", refused_turns);
+    tell("sessions beside one at the monitor", busy_sessions);
     tell("words", words);
     tell("words of lines", words_of_lines);
     printf("%d passed, %d failed\n", passed, failed);

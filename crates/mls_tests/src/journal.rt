@@ -9,6 +9,7 @@ mod entries;
 mod files;
 #[cfg(test)]
 mod journals;
+#[cfg(test)]
 mod keeper;
 #[cfg(test)]
 mod marked;
@@ -23,10 +24,13 @@ mod memory;
 mod refusals;
 #[cfg(test)]
 mod rows;
+#[cfg(test)]
 mod shelf;
 #[cfg(test)]
 mod tests;
 
-pub use keeper::MemoryMarks;
+#[cfg(test)]
+use keeper::MemoryMarks;
 pub use memory::{Call, Memory};
-pub use shelf::Shelf;
+#[cfg(test)]
+use shelf::Shelf;

@@ -6,4 +6,4 @@ mod offices;
 mod pair;
 mod runs;
 mod single;
-mod standard;
+pub mod standard;

@@ -1,12 +1,12 @@
-//! Starts that are built by calls: what they count, what they open with, and why they are refused.
+//! Starts that are built by calls: the largest, and why others are refused. What start files lead to is in
+//! .ci/check-starts.
 use crate::seen::{knows, sees};
-use crate::standard::{
-    ANN, PLANS, SEC, begun, built, give_rows, integrity, security, started, started_with_accesses,
-};
-use crate::steps::{Step, look_all};
+use crate::standard::{begun, built, integrity, security};
+use mls_rules::tests_are_of_all;
 use mls_start::{Start, StartBuilder};
 use mls_state::{State, is_secure};
 use mls_tables::{Mode, ObjectId, SubjectId};
+use mls_tree::inferiors_reach;
 use std::alloc::{AllocError, Allocator, Global};
 use std::process::Abort;
 use std::test::Fail;
@@ -28,24 +28,6 @@ pub fn counts<A: Allocator>(
     sees(rt, start.cell_count() == cells, "how many cells");
 }
 
-/// Asserts that a start has the standard bounds: four levels and two categories, and two levels.
-fn has_the_standard_bounds(rt: &impl Abort, start: &Start<Global>) {
-    let (security_bounds, integrity_bounds) = (start.security(), start.integrity());
-    sees(rt, security_bounds.has(security(3, 2).label()), "a label");
-    sees(rt, !security_bounds.has(security(4, 0).label()), "a level");
-    sees(rt, integrity_bounds.has(integrity(1).label()), "a label");
-    sees(rt, !integrity_bounds.has(integrity(2).label()), "a level");
-}
-
-#[test]
-fn the_standard_start_is_built(rt: HostRuntime) -> Result<(), Fail> {
-    let start = started(rt.alloc())?;
-    counts(&rt, &start, 4, 4, 12);
-    has_the_standard_bounds(&rt, &start);
-    drop(start);
-    Ok(())
-}
-
 /// Permits all modes to a subject at an object.
 fn allow_all<A: Allocator>(
     builder: &mut StartBuilder<A>,
@@ -58,86 +40,12 @@ fn allow_all<A: Allocator>(
     Ok(())
 }
 
-const BOB: SubjectId = SubjectId(1);
-
-const TOOL: ObjectId = ObjectId(3);
-
-/// Gives the subjects and the objects of the standard start, and before them and after them a matrix that permits all
-/// modes at two places.
-fn give_twice<A: Allocator>(builder: &mut StartBuilder<A>) -> Result<(), AllocError> {
-    allow_all(builder, BOB, TOOL)?;
-    allow_all(builder, SubjectId(0), ObjectId(0))?;
-    give_rows(builder)?;
-    allow_all(builder, BOB, TOOL)?;
-    allow_all(builder, SubjectId(0), ObjectId(0))
-}
-
-/// Asserts whether a state permits all modes or none.
-fn permits<A: Allocator>(rt: &impl Abort, state: &State<A>, s: SubjectId, o: ObjectId, all: bool) {
-    sees(rt, state.is_subject(s) && state.is_active(o), "a cell");
+/// Asserts that a state permits all modes.
+fn permits<A: Allocator>(rt: &impl Abort, state: &State<A>, s: SubjectId, o: ObjectId) {
+    knows(rt, state, s, o);
     let allowed = state.allowed(s, o);
-    sees(rt, MODES.iter().all(|x| allowed.has(*x) == all), "modes");
+    sees(rt, MODES.iter().all(|x| allowed.has(*x)), "modes");
     sees(rt, state.accesses(s, o).is_empty(), "no access");
-}
-
-/// A start of which each cell was given twice.
-fn given_twice(alloc: Global) -> Result<Start<Global>, AllocError> {
-    let mut builder = begun(alloc);
-    give_twice(&mut builder)?;
-    built(builder)
-}
-
-/// Asserts what the opening of that start permits.
-fn permits_two_cells(
-    rt: &impl Abort,
-    alloc: Global,
-    start: &Start<Global>,
-) -> Result<(), AllocError> {
-    let state = start.opening(alloc)?;
-    permits(rt, &state, BOB, TOOL, true);
-    permits(rt, &state, SubjectId(0), ObjectId(0), true);
-    permits(rt, &state, BOB, ObjectId(0), false);
-    permits(rt, &state, SubjectId(0), TOOL, false);
-    sees(rt, is_secure(&state), "a secure state");
-    drop(state);
-    Ok(())
-}
-
-#[test]
-fn a_triple_counts_once(rt: HostRuntime) -> Result<(), Fail> {
-    let start = given_twice(rt.alloc())?;
-    counts(&rt, &start, 4, 4, 8);
-    let opened = permits_two_cells(&rt, rt.alloc(), &start);
-    drop(start);
-    opened?;
-    Ok(())
-}
-
-/// Asserts which of some triples the opening of the standard start with accesses holds.
-fn opens_with_accesses(
-    rt: &impl Abort,
-    alloc: Global,
-    start: &Start<Global>,
-) -> Result<(), AllocError> {
-    let state = start.opening(alloc)?;
-    sees(rt, state.has_access(ANN, PLANS, Mode::Read), "ann reads");
-    sees(rt, state.has_access(SEC, PLANS, Mode::Write), "sec writes");
-    sees(rt, !state.has_access(ANN, PLANS, Mode::Write), "no more");
-    sees(rt, !state.has_access(SEC, PLANS, Mode::Read), "no more");
-    sees(rt, is_secure(&state), "a secure state");
-    drop(state);
-    Ok(())
-}
-
-#[test]
-fn an_access_counts_once(rt: HostRuntime) -> Result<(), Fail> {
-    let start = started_with_accesses(rt.alloc())?;
-    counts(&rt, &start, 4, 4, 12);
-    sees(&rt, start.access_count() == 2, "how many accesses");
-    let opened = opens_with_accesses(&rt, rt.alloc(), &start);
-    drop(start);
-    opened?;
-    Ok(())
 }
 
 /// Permits all modes to a subject at all objects.
@@ -168,31 +76,38 @@ fn give_chain<A: Allocator>(builder: &mut StartBuilder<A>) -> Result<(), AllocEr
     Ok(())
 }
 
-/// A start of 256 subjects, 4,096 objects in a chain, and the full matrix.
+/// A start of 256 subjects, 4,096 objects in a chain, and the full matrix, which comes before them and whose last cell
+/// stands once more behind them.
 fn largest(alloc: Global) -> Result<Start<Global>, AllocError> {
     let mut builder = begun(alloc);
     allow_table(&mut builder)?;
     give_chain(&mut builder)?;
+    allow_all(&mut builder, SubjectId(255), ObjectId(4095))?;
     built(builder)
 }
 
-/// What the opening of that start has: the chain.
-const CHAIN: &[Step] = &[
-    Step::Secure(true),
-    Step::Next(4096),
-    Step::Is(4095, (0, 0), 1, 4094),
-    Step::Is(1, (0, 0), 1, 0),
-    Step::Children(0, &[1]),
-    Step::Children(4095, &[]),
-];
+/// Asserts that an object U hi stands below another, with this right below it.
+fn stands(rt: &impl Abort, state: &State<Global>, o: u16, parent: u16, children: &[ObjectId]) {
+    let o = ObjectId(o);
+    knows(rt, state, SubjectId(255), o);
+    sees(rt, state.object_label(o) == security(0, 0), "a label");
+    sees(rt, state.object_integrity(o) == integrity(1), "integrity");
+    sees(rt, state.parent(o) == Some(ObjectId(parent)), "a parent");
+    sees(rt, state.children(o) == children, "children");
+}
 
 /// Asserts what the opening of that start has and permits.
 fn opens_largest(rt: &impl Abort, alloc: Global, start: &Start<Global>) -> Result<(), AllocError> {
     let state = start.opening(alloc)?;
-    look_all(rt, &state, CHAIN);
+    sees(rt, is_secure(&state), "a secure state");
+    sees(rt, state.next() == 4096, "the next number");
+    stands(rt, &state, 4095, 4094, &[]);
+    stands(rt, &state, 1, 0, &[ObjectId(2)]);
     knows(rt, &state, SubjectId(255), ObjectId(0));
     sees(rt, state.parent(ObjectId(0)).is_none(), "the root");
-    permits(rt, &state, SubjectId(255), ObjectId(4095), true);
+    let below = state.children(ObjectId(0));
+    sees(rt, below == [ObjectId(1)].as_slice(), "below the root");
+    permits(rt, &state, SubjectId(255), ObjectId(4095));
     drop(state);
     Ok(())
 }
@@ -204,5 +119,7 @@ fn the_largest_start_with_a_full_matrix(rt: HostRuntime) -> Result<(), Fail> {
     let opened = opens_largest(&rt, rt.alloc(), &start);
     drop(start);
     opened?;
+    tests_are_of_all();
+    inferiors_reach();
     Ok(())
 }

@@ -1,10 +1,7 @@
-//! Tests of labels, tables and the tree, each mostly a table of steps.
+//! Tests of labels and tables, each mostly a table of steps.
 mod beside;
 mod labels;
 mod lists;
-mod matrices;
 mod orders;
-mod schemes;
 mod seen;
 mod sets;
-mod trees;

@@ -2,7 +2,5 @@
 #![tactic(auto)]
 
 mod allocator;
-#[cfg(test)]
-mod tests;
 
 pub use allocator::Refusing;

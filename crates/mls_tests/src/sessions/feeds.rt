@@ -1,10 +1,13 @@
 //! Runs of feeds, in threads.
 use super::asker::Manner;
 use super::runs::{Left, Plan, run};
-use mls_sessions::{MAX_SESSIONS, RunFaultKind};
+use mls_sessions::{Backoff, MAX_SESSIONS, RunFaultKind};
+use std::alloc::{AllocError, Global};
 use std::process::Abort;
+use std::sync::Wait;
 use std::sync::atomic::AtomicBool;
 use std::test::Fail;
+use std::thread::Threads;
 
 /// How many asks a session takes to the gate at most.
 const AHEAD: usize = 64;
@@ -91,9 +94,40 @@ fn is_done(left: &Left, plan: &Plan, entries: usize) -> bool {
 fn each_feed_is_told_its_own_entries_in_their_order(rt: HostRuntime) -> Result<(), Fail> {
     for (plan, entries) in &PLANS {
         let flag = AtomicBool::new(false);
-        let left = run(&rt, rt.alloc(), plan, &flag)?;
+        let left = run(&rt, rt.alloc(), plan, Backoff::standard(), &flag)?;
         sees_left(&rt, is_done(&left, plan, *entries), &left);
     }
+    Ok(())
+}
+
+/// Four sessions and 64 that back off so come to their end: the first two plans.
+fn all_end<R: Threads + Wait + Sync + Abort>(
+    rt: &R,
+    alloc: Global,
+    backoff: Backoff,
+) -> Result<(), AllocError> {
+    for (plan, entries) in &PLANS[..2] {
+        let flag = AtomicBool::new(false);
+        let left = run(rt, alloc, plan, backoff, &flag)?;
+        sees_left(rt, is_done(&left, plan, *entries), &left);
+    }
+    Ok(())
+}
+
+/// Sessions that look at a held gate never, once or often before they nap or sleep.
+#[test]
+fn waits_end_however_often_they_look(rt: HostRuntime) -> Result<(), Fail> {
+    for looks in [0, 1, 10_000] {
+        for naps in [0, 1] {
+            let backoff = Backoff {
+                looks,
+                races: 0,
+                naps,
+            };
+            all_end(&rt, rt.alloc(), backoff)?;
+        }
+    }
+    all_end(&rt, rt.alloc(), Backoff::standard())?;
     Ok(())
 }
 
@@ -106,7 +140,7 @@ fn asks_ahead_are_answered_in_their_order_and_stand_together(rt: HostRuntime) ->
         manner: Manner::Ahead,
     };
     let flag = AtomicBool::new(false);
-    let left = run(&rt, rt.alloc(), &plan, &flag)?;
+    let left = run(&rt, rt.alloc(), &plan, Backoff::standard(), &flag)?;
     sees_left(&rt, is_done(&left, &plan, 4096), &left);
     // each asked as far ahead as it may, and what was asked in one turn stands together
     sees_left(&rt, left.ahead as usize == AHEAD, &left);
@@ -124,7 +158,7 @@ fn a_run_has_one_to_sixty_four_feeds(rt: HostRuntime) -> Result<(), Fail> {
             manner: Manner::Single,
         };
         let flag = AtomicBool::new(false);
-        let left = run(&rt, rt.alloc(), &plan, &flag)?;
+        let left = run(&rt, rt.alloc(), &plan, Backoff::standard(), &flag)?;
         sees_left(&rt, left.fault == Some(RunFaultKind::BadCount), &left);
         sees_left(&rt, left.feeds == *feeds && left.entries == 0, &left);
     }

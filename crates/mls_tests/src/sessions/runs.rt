@@ -6,7 +6,7 @@ use super::asker::{Asker, Manner, asked};
 use crate::standard::standard_monitor;
 use mls_monitor::Monitor;
 use mls_requests::Entry;
-use mls_sessions::{RunFaultKind, Stage, run_sessions};
+use mls_sessions::{Backoff, RunFaultKind, Stage, run_sessions};
 use std::alloc::{AllocError, Global};
 use std::sync::Wait;
 use std::sync::atomic::AtomicBool;
@@ -140,17 +140,18 @@ fn left_by(
     }
 }
 
-/// Runs feeds over a monitor.
+/// Runs feeds over a monitor, in sessions that back off so.
 fn run_over<R: Threads + Wait + Sync>(
     rt: &R,
     alloc: Global,
     monitor: Monitor,
     feeds: Vec<Asker<'_>>,
     plan: &Plan,
+    backoff: Backoff,
 ) -> Left
     requires { AllAt (λ f. f.stage) Stage.Ready feeds.items }
 {
-    match run_sessions(rt, alloc, monitor, feeds) {
+    match run_sessions(rt, alloc, monitor, feeds, backoff) {
         Ok(run) => {
             let left = left_by(None, run.monitor.entries(), &run.feeds, plan);
             drop(run);
@@ -169,16 +170,17 @@ fn run_over<R: Threads + Wait + Sync>(
     }
 }
 
-/// Runs the feeds of a plan over a standard monitor.
+/// Runs the feeds of a plan over a standard monitor, in sessions that back off so.
 pub fn run<R: Threads + Wait + Sync>(
     rt: &R,
     alloc: Global,
     plan: &Plan,
+    backoff: Backoff,
     flag: &AtomicBool,
 ) -> Result<Left, AllocError> {
     let feeds = make_feeds(alloc, plan, flag)?;
     match standard_monitor(alloc) {
-        Ok(monitor) => Ok(run_over(rt, alloc, monitor, feeds, plan)),
+        Ok(monitor) => Ok(run_over(rt, alloc, monitor, feeds, plan, backoff)),
         Err(error) => {
             drop(feeds);
             Err(error)

@@ -40,7 +40,7 @@ pub fn level(subject: SubjectId, level: u8) -> Request {
 }
 
 /// A journal: bob is denied the memo, goes up a level, gets it, can't go down before he releases it, and then does.
-fn six_entries() -> [Entry; 6] {
+pub fn six_entries() -> [Entry; 6] {
     [
         Entry::new(0, 0, get(BOB, Mode::Read, MEMO), Reply::No(Reason::Star)),
         Entry::new(1, 0, level(BOB, 1), Reply::Yes),

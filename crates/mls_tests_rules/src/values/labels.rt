@@ -1,10 +1,8 @@
-//! Labels by calls: sets of categories, dominance, bounds, and sets of names.
+//! Labels by calls: sets of categories, dominance and bounds.
 ghost use Rattle.std.specs.Prelude.{◌≡◌, ◌↔◌, IsTrue};
 
 use crate::values::seen::sees;
-use mls_labels::{Bounds, CatSet, IntLabel, Label, NameSet, NameSetFault, SecLabel};
-use std::alloc::Global;
-use std::process::Abort;
+use mls_labels::{Bounds, CatSet, IntLabel, Label, SecLabel};
 
 /// `==` on labels is equality of values, to a caller's proof too.
 fn is_same(a: Label, b: Label) -> bool
@@ -111,50 +109,4 @@ fn bounds_are_counts(rt: HostRuntime) {
         bounds == Bounds::new(4, 2) && bounds != Bounds::new(4, 3),
         "equal bounds",
     );
-}
-
-/// Names, and whether one of them is there twice.
-const NAMES: [(&[&str], bool); 4] = [
-    (&[], false),
-    (&["ann", "Ann"], false),
-    (&["ann", "ann"], true),
-    (&["ann", "bob", "eve", "bob"], true),
-];
-
-/// Asserts whether a set can't be made of these names, since one is there twice.
-fn is_repeated(rt: &impl Abort, alloc: Global, names: &[&str], repeated: bool) {
-    match NameSet::from_names(alloc, names) {
-        Ok(_) => sees(rt, !repeated, "a set"),
-        Err(fault) => sees(rt, repeated && fault == NameSetFault::Repeated, "a fault"),
-    }
-}
-
-/// Asserts that three names have the places in which they were given, and others none.
-fn are_in_their_places(rt: &impl Abort, names: &NameSet) {
-    sees(rt, names.len() == 3, "how many");
-    sees(
-        rt,
-        names.name(0) == "ann" && names.name(1) == "bob" && names.name(2) == "",
-        "names",
-    );
-    sees(
-        rt,
-        names.place("bob") == Some(1) && names.place("") == Some(2),
-        "places",
-    );
-    sees(
-        rt,
-        names.place("eve").is_none() && names.place("an").is_none(),
-        "no places",
-    );
-}
-
-#[test]
-fn names_have_their_places(rt: HostRuntime) {
-    let names = NameSet::from_names(rt.alloc(), &["ann", "bob", ""]).expect(&rt, "names");
-    are_in_their_places(&rt, &names);
-    drop(names);
-    for (names, repeated) in &NAMES {
-        is_repeated(&rt, rt.alloc(), names, *repeated);
-    }
 }

@@ -1,5 +1,5 @@
 //! The second allocation of three is refused, and the ones beside it are not.
-use super::Refusing;
+use refusing::Refusing;
 use std::test::Fail;
 
 #[test]
