@@ -24,7 +24,8 @@ fn three() -> [(Request, Reply); 3] {
 fn are_answered_in_room(rt: &impl Abort, monitor: &mut Monitor) {
     let is_made = monitor.reserve(3).is_ok() && monitor.spare() >= 3;
     sees(rt, is_made, "room for three");
-    for (number, (request, reply)) in three().iter().enumerate() {
+    for (number, row) in three().iter().enumerate() {
+        let (request, reply) = row;
         let entry = Entry::new(number as u64, 7, *request, *reply);
         sees(rt, monitor.submit(7, *request) == Ok(entry), "an answer");
         let left = 2usize.saturating_sub(number);
