@@ -2,6 +2,7 @@ pub mod Orders
 pub mod Reading
 pub mod Renaming
 pub mod Renumbering
+pub mod Saying
 pub mod Schemes
 pub mod Starts
 pub mod States

@@ -6,10 +6,9 @@ use mls_state::{ObjectLabels, Subject, Table};
 use mls_tables::{MAX_OBJECTS, Mode, ObjectId, SubjectId};
 use mls_tree::Profile;
 
-/// An object of a state's text.
+/// What a line says of an object.
 #[derive(Clone, Copy)]
-pub(crate) struct ObjectLine {
-    pub id: ObjectId,
+pub(crate) struct ObjectParts {
     pub labels: ObjectLabels,
     pub parent: Option<ObjectId>,
 }
@@ -19,7 +18,7 @@ pub(crate) enum StateLine {
     Profile(Profile),
     Next(u16),
     Subject(Subject),
-    Object(ObjectLine),
+    Object(ObjectId, ObjectParts),
     Triple(Table, (SubjectId, ObjectId, Mode)),
 }
 
@@ -85,8 +84,8 @@ fn subject_parts(names: &Names, text: &str) -> Option<Subject> {
     })
 }
 
-/// What a line says of an object.
-fn object_line(names: &Names, text: &str) -> Option<ObjectLine> {
+/// An object and what a line says of it.
+fn object_line(names: &Names, text: &str) -> Option<(ObjectId, ObjectParts)> {
     let (name, text) = cut(text);
     let (label, text) = keyed(text, "security")?;
     let (own, text) = keyed(text, "integrity")?;
@@ -99,7 +98,7 @@ fn object_line(names: &Names, text: &str) -> Option<ObjectLine> {
         None => None,
     };
     let id = object(names, name)?;
-    Some(ObjectLine { id, labels, parent })
+    Some((id, ObjectParts { labels, parent }))
 }
 
 /// The triple of a line.
@@ -121,7 +120,10 @@ pub(crate) fn read_line(names: &Names, line: &str) -> Option<StateLine> {
         "profile" => Some(StateLine::Profile(profile(text)?)),
         "next" => Some(StateLine::Next(number(text)?)),
         "subject" => Some(StateLine::Subject(subject_parts(names, cut(text).1)?)),
-        "object" => Some(StateLine::Object(object_line(names, text)?)),
+        "object" => {
+            let (o, parts) = object_line(names, text)?;
+            Some(StateLine::Object(o, parts))
+        }
         "permit" => Some(StateLine::Triple(Table::Matrix, triple(names, text)?)),
         "access" => Some(StateLine::Triple(Table::Accesses, triple(names, text)?)),
         _ => None,
