@@ -4,6 +4,7 @@ mod Joins
 mod Lines
 pub mod Modes
 mod OneText
+pub mod Rebuilt
 mod Rows
 mod RowsOf
 mod RowsSay

@@ -1,5 +1,6 @@
 pub mod Orders
 pub mod Reading
+pub mod Rebuilding
 pub mod Renaming
 pub mod Renumbering
 pub mod Saying

@@ -40,6 +40,19 @@ impl StateRows {
         }
     }
 
+    /// Adds a triple of a table.
+    fn push(
+        &mut self,
+        table: Table,
+        triple: (SubjectId, ObjectId, Mode),
+    ) -> Result<(), AllocError> {
+        match table {
+            Table::Matrix => self.cells.push(triple)?,
+            Table::Accesses => self.accesses.push(triple)?,
+        }
+        Ok(())
+    }
+
     /// Adds what a line says.
     fn add(&mut self, line: StateLine) -> Result<(), AllocError> {
         match line {
@@ -47,8 +60,7 @@ impl StateRows {
             StateLine::Next(next) => self.next = next,
             StateLine::Subject(subject) => self.subjects.push(subject)?,
             StateLine::Object(o, parts) => self.enter(o, parts),
-            StateLine::Triple(Table::Matrix, triple) => self.cells.push(triple)?,
-            StateLine::Triple(Table::Accesses, triple) => self.accesses.push(triple)?,
+            StateLine::Triple(table, triple) => self.push(table, triple)?,
         }
         Ok(())
     }
