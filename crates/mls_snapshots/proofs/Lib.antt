@@ -1,6 +1,8 @@
+pub mod Cuts
 pub mod Gets
-pub mod Likes
 mod Joins
+pub mod Likes
+pub mod LineReads
 mod Lines
 pub mod Modes
 mod OneText
@@ -8,6 +10,7 @@ pub mod Rebuilt
 mod Rows
 mod RowsOf
 mod RowsSay
+pub mod RowsSeen
 pub mod SchemeNames
 pub mod SchemeTexts
 mod StartNames
