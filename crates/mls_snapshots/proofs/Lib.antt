@@ -1,12 +1,16 @@
+pub mod Cuts
 pub mod Gets
-pub mod Likes
 mod Joins
+pub mod Likes
+pub mod LineReads
 mod Lines
 pub mod Modes
 mod OneText
+pub mod Rebuilt
 mod Rows
 mod RowsOf
 mod RowsSay
+pub mod RowsSeen
 pub mod SchemeNames
 pub mod SchemeTexts
 mod StartNames

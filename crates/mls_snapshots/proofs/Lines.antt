@@ -4,6 +4,7 @@ use Rattle.std.specs.List.{list_all}
 use Rattle.std.proofs.lemmas.Bool.{and_parts, both_ways}
 use Rattle.std.proofs.lemmas.List.{append_assoc}
 use Rattle.mls_lines.specs.Labels.{is_label_byte}
+pub use Rattle.mls_snapshots.specs.Rows.{spaced, are_seen}
 
 -- nothing, or what begins with a byte that doesn't pass
 abbrev Stops : (ℕ → Bool) → List ℕ → Type 0
@@ -26,15 +27,6 @@ fronts_alike p (a ∷ x) (b ∷ y) r t h k m n e =
     let rest : x ++ r ≡ y ++ t = cc in
     let more = fronts_alike p x y r t first.1 second.1 m n rest in
     ((λ i. byte i ∷ more.0 i), more.1)
-
--- tokens with one space between each two
-abbrev pub spaced : List ℕ → List (List ℕ) → List ℕ
-spaced t [] = t
-spaced t (u ∷ us) = t ++ 32 ∷ spaced u us
-
--- each byte of each token is seen when printed
-abbrev pub are_seen : List (List ℕ) → Bool
-are_seen tokens = list_all (list_all is_label_byte) tokens
 
 -- what stands behind the first token of a line, and the next ones
 abbrev behind : List (List ℕ) → List ℕ → List ℕ

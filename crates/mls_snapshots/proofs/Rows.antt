@@ -19,41 +19,10 @@ use Rattle.mls_wording.specs.ReadBack.{HasNames, IsOf}
 use Rattle.mls_wording.specs.Wording.{subject_text, object_text, security_text, integrity_text}
 use Rattle.mls_wording.proofs.Laws.{WrittenLaw, OneLaw, mode_token, decimal_seen, label_token, number_token, numbers_apart, labels_apart}
 use Rattle.mls_snapshots.specs.States.{profile_number, word_of}
+pub use Rattle.mls_snapshots.specs.Rows.{Row, Kind, Next, Subject, Object, Triple, first_of, trust_tokens, parent_tokens, rest_of, joined}
 use Rattle.mls_snapshots.proofs.Lines.{spaced, are_seen, lines_alike, not_empty}
 
-pub data Row : Type 0 where
-  Kind : Profile → Row
-  Next : ℕ → Row
-  Subject : ℕ → Label → Label → Label → Bool → Row
-  Object : ℕ → Label → Label → Option ℕ → Row
-  Triple : Table → ℕ → ℕ → Mode → Row
-
--- the first token of a row's line, and the others
-
-abbrev pub first_of : Row → List ℕ
-first_of (Kind p) = codes "profile"
-first_of (Next n) = codes "next"
-first_of (Subject s m c i t) = codes "subject"
-first_of (Object o l i p) = codes "object"
-first_of (Triple table s o x) = word_of table
-
-abbrev pub trust_tokens : Bool → List (List ℕ)
-trust_tokens true = codes "trusted" ∷ []
-trust_tokens false = []
-
-abbrev pub parent_tokens : Names → Option ℕ → List (List ℕ)
-parent_tokens names None = []
-parent_tokens names (Some p) = codes "parent" ∷ object_text names p ∷ []
-
-abbrev pub rest_of : Names → Row → List (List ℕ)
-rest_of names (Kind p) = decimal (profile_number p) ∷ []
-rest_of names (Next n) = decimal n ∷ []
-rest_of names (Subject s m c i t) =
-    subject_text names s ∷ codes "maximum" ∷ security_text names m ∷ codes "current" ∷ security_text names c ∷ codes "integrity" ∷ integrity_text names i ∷ trust_tokens t
-rest_of names (Object o l i p) =
-    object_text names o ∷ codes "security" ∷ security_text names l ∷ codes "integrity" ∷ integrity_text names i ∷ parent_tokens names p
-rest_of names (Triple table s o x) = subject_text names s ∷ mode_word x ∷ object_text names o ∷ []
-
+-- the words of a row's line
 abbrev pub tokens_of : Names → Row → List (List ℕ)
 tokens_of names row = first_of row ∷ rest_of names row
 
@@ -64,11 +33,6 @@ Fits names (Next n) = n < 2 ^ 16
 Fits names (Subject s m c i t) = (s < 2 ^ 16) × IsOf names.security m × IsOf names.security c × IsOf names.integrity i
 Fits names (Object o l i p) = (o < 2 ^ 16) × IsOf names.security l × IsOf names.integrity i × IfSome p (λ q. q < 2 ^ 16)
 Fits names (Triple table s o x) = (s < 2 ^ 16) × (o < 2 ^ 16)
-
--- the lines of rows
-abbrev pub joined : Names → List Row → List ℕ
-joined names [] = []
-joined names (row ∷ rows) = spaced (first_of row) (rest_of names row) ++ 10 ∷ joined names rows
 
 abbrev pub AllFit : Names → List Row → Type 0
 AllFit names [] = Unit {0}

@@ -1,5 +1,6 @@
 -- Tables of subjects are the same where they are the same at each subject.
-use Rattle.std.proofs.Common.{◌≡◌, ℕ, ◌<◌, Bool, true, false, Option, Some, None, refl, sym, ap, ◌∙◌, arith}
+use Rattle.std.proofs.Common.{◌≡◌, ℕ, ◌<◌, ◌≤◌, ◌⊎◌, inl, inr, Bool, true, false, Option, Some, None, refl, sym, ap, ◌∙◌, arith}
+use Rattle.std.proofs.lemmas.Bool.{cases_lt}
 use Rattle.std.proofs.lemmas.Bool.Decides.{nat_tests}
 use Rattle.std.specs.Prelude.{nat_lt, is_some, IsTrue}
 use Rattle.std.specs.Cmp.{nat_cmp_total}
@@ -48,6 +49,40 @@ same_trusted v w count first second whole others same =
     (λ s. by_count count s (set.contains w.trusted s ≡ set.contains v.trusted s) (same s)
     (λ above. untrusted w.trusted s (is_subject w s) (second s ∙ above) (others.trusted s)
     ∙ sym (untrusted v.trusted s (is_subject v s) (first s ∙ above) (whole.trusted s))))
+
+-- numbers below which there are the same numbers are one
+pub one_count : (m n : ℕ) → ((s : ℕ) → nat_lt s m ≡ nat_lt s n) → m ≡ n
+one_count m n same = from (cases_lt m n) (cases_lt n m) where
+  from : (m < n) ⊎ (n ≤ m) → (n < m) ⊎ (m ≤ n) → m ≡ n
+  from (inl less) other =
+      let within : nat_lt m n ≡ true = grind (arith, nat_tests, less) in
+      let past : nat_lt m m ≡ false = grind (arith, nat_tests) in
+      absurd (let no : true ≡ false = sym within ∙ sym (same m) ∙ past in cc)
+  from (inr more) (inl less) =
+      let within : nat_lt n m ≡ true = grind (arith, nat_tests, less) in
+      let past : nat_lt n n ≡ false = grind (arith, nat_tests) in
+      absurd (let no : true ≡ false = sym within ∙ same n ∙ past in cc)
+  from (inr more) (inr less) = omega (arith, more, less)
+
+-- where the subjects are fixed each is
+pub fixed_at : (v w : State) (s : ℕ) → HasFixedSubjects v w → IsFixedSubject v w s
+fixed_at v w s fixed = record {
+  maximum = ap (λ m. map.get m s) fixed.maximum;
+  integrity = ap (λ m. map.get m s) fixed.integrity;
+  trusted = ap (λ t. set.contains t s) fixed.trusted;
+}
+
+-- a number below the count is that of a subject
+pub known_below : (v : State) (count q s : ℕ) → ((s : ℕ) → is_subject v s ≡ nat_lt s count) → q ≡ s → s < count → is_subject v q ≡ true
+known_below v count q s known is below =
+    let within : nat_lt s count ≡ true = grind (arith, nat_tests, below) in
+    ap (is_subject v) is ∙ known s ∙ within
+
+-- states with the same subjects have as many
+pub counts_alike : (v w : State) (first second : ℕ) → ((s : ℕ) → is_subject v s ≡ nat_lt s first) → ((s : ℕ) → is_subject w s ≡ nat_lt s second)
+    → HasFixedSubjects v w → second ≡ first
+counts_alike v w first second known others fixed =
+    one_count second first (λ s. sym (others s) ∙ ap (λ m. map.contains_key m s) fixed.maximum ∙ known s)
 
 -- states with as many subjects, each of which is the same, have the same subjects
 pub subjects_same : (v w : State) (count : ℕ) → ((s : ℕ) → is_subject v s ≡ nat_lt s count) → ((s : ℕ) → is_subject w s ≡ nat_lt s count)

@@ -12,6 +12,10 @@ use Rattle.mls_snapshots.proofs.SubjectTables.{by_count}
 pub some_within : (b : Bounds) (o : Option Label) (l : Label) → o ≡ Some l → has_label b l ≡ true → IfSome o (λ k. IsTrue (has_label b k))
 some_within b o l is has = subst (λ (q : Option Label). IfSome q (λ k. IsTrue (has_label b k))) (sym is) has
 
+-- a label that is there is within where none that is there is outside
+pub some_has : (b : Bounds) (o : Option Label) (l : Label) → o ≡ Some l → IfSome o (λ k. IsTrue (has_label b k)) → has_label b l ≡ true
+some_has b o l is within = subst (λ (q : Option Label). IfSome q (λ k. IsTrue (has_label b k))) is within
+
 -- where none is there
 none_within : (b : Bounds) (o : Option Label) → is_some o ≡ false → IfSome o (λ k. IsTrue (has_label b k))
 none_within b None none = tt

@@ -1,7 +1,11 @@
+pub mod LineReading
 pub mod Orders
 pub mod Reading
+pub mod Rebuilding
 pub mod Renaming
 pub mod Renumbering
+pub mod Rows
+pub mod Saying
 pub mod Schemes
 pub mod Starts
 pub mod States

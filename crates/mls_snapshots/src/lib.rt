@@ -19,6 +19,7 @@ mod state_lines;
 mod state_reading;
 mod state_rows;
 mod state_start;
+mod state_words;
 mod state_writing;
 mod subjects;
 mod table_lines;

@@ -11,7 +11,8 @@ use std::alloc::{AllocError, Global};
 
 /// Whether two texts are the same.
 pub(crate) fn is_same_text(one: &str, other: &str) -> bool
-    ensures { IsTrue result → one.now ≡ other.now }
+    ensures same { IsTrue result → one.now ≡ other.now }
+    ensures accepted { one.now ≡ other.now → IsTrue result }
 {
     one == other
 }

@@ -1,172 +1,192 @@
-//! States of rows. No clause says which: what is built is written again, and compared with the text of the rows.
-use crate::state_line::ObjectLine;
+//! States of rows.
+ghost use Rattle.std.specs.Prelude.{◌≡◌, ◌<◌, ℕ, None, IsTrue, IsSome, IfSome, IfOk, OnOk, All, slice_index_or};
+ghost use Rattle.std.specs.FinSet as set;
+ghost use Rattle.mls_tables.specs.declared.limits.TheConstants.{MAX_OBJECTS};
+ghost use Rattle.mls_state.specs.First.{with_triples};
+ghost use Rattle.mls_state.specs.Properties.{HasTree, HasWholeTables, is_known};
+ghost use Rattle.mls_state.specs.State.{State as StateView, is_active};
+ghost use Rattle.mls_tree.specs.Tree.{reaches_within};
+ghost use Rattle.mls_snapshots.specs.Rebuilding.{IsNamed, AreObjectsOf, IsPart, IsBelow};
+ghost use Rattle.mls_snapshots.specs.Saying.{SaysAll};
+
+use crate::state_line::ObjectParts;
 use crate::state_rows::StateRows;
 use mls_lines::Names;
-use mls_state::State;
+use mls_state::{ObjectLabels, State};
 use mls_tables::{MAX_OBJECTS, MAX_SUBJECTS, Mode, ObjectId, SubjectId};
-use mls_tree::Profile;
 use std::alloc::{AllocError, Global};
 
 /// The root.
 const ROOT: ObjectId = ObjectId(0);
 
-/// The objects of a state that is built: each is added when its number is the next one. In the place of a number that
-/// no object has stands a filler, below the first of them, and they are taken out together at the end. An object whose
-/// parent has a greater number stands below the root until the parent is there.
-#[derive(Drop)]
-struct Objects {
-    state: State,
-    filler: Option<ObjectId>,
-    /// Whether the object of a number is where it belongs.
-    placed: Vec<bool>,
-}
-
-impl Objects {
-    /// Adds an object of the next number below an active one. Returns whether there is room.
-    fn add(&mut self, line: &ObjectLine, parent: ObjectId) -> Result<bool, AllocError> {
-        if self.state.next() >= MAX_OBJECTS || !self.state.is_active(parent) {
-            return Ok(false);
-        }
-        let labels = &line.labels;
-        self.state
-            .add_object(parent, &labels.security, &labels.integrity)?;
-        Ok(true)
-    }
-
-    /// Adds fillers until the next number is this one, or above it.
-    fn fill(&mut self, number: u16, root: &ObjectLine) -> Result<(), AllocError> {
-        for _n in 0..MAX_OBJECTS {
-            let next = self.state.next();
-            if next >= number {
-                break;
-            }
-            let parent = self.filler.unwrap_or(ROOT);
-            if self.add(root, parent)? && self.filler.is_none() {
-                self.filler = Some(ObjectId::new(next));
-            }
-        }
-        Ok(())
-    }
-
-    /// Whether an object is where it belongs.
-    fn is_placed(&self, o: ObjectId) -> bool {
-        matches!(self.placed.get(o.number() as usize), Some(true))
-    }
-
-    /// Adds an object where its number is the next one: below its parent, if that is where it belongs, else below the
-    /// root. Returns whether it was added.
-    fn place(&mut self, line: &ObjectLine) -> Result<bool, AllocError> {
-        let Some(parent) = line.parent else {
-            return Ok(false);
-        };
-        if self.state.next() != line.id.number() {
-            return Ok(false);
-        }
-        if !self.is_placed(parent) {
-            return self.add(line, ROOT);
-        }
-        if !self.add(line, parent)? {
-            return Ok(false);
-        }
-        if let Some(is_placed) = self.placed.get_mut(line.id.number() as usize) {
-            *is_placed = true;
-        }
-        Ok(true)
-    }
-
-    /// Takes an object out, where it is there and isn't the root.
-    fn remove(&mut self, o: ObjectId) -> Result<(), AllocError> {
-        if o.number() != 0 && self.state.is_active(o) {
-            self.state.remove_object(o)?;
-        }
-        Ok(())
-    }
-
-    /// Places each object whose parent is where it belongs by now. Returns whether one was placed.
-    fn place_late(&mut self, lines: &[ObjectLine]) -> Result<bool, AllocError> {
-        let mut is_any = false;
-        for line in lines {
-            let Some(parent) = line.parent else {
-                continue;
-            };
-            if self.is_placed(line.id) || !self.is_placed(parent) {
-                continue;
-            }
-            self.remove(line.id)?;
-            if !self.place(line)? {
-                return Ok(false);
-            }
-            is_any = true;
-        }
-        Ok(is_any)
-    }
-
-    /// Adds the objects of rows behind the root. Returns whether all were added; some may stand below the root that
-    /// belong elsewhere.
-    fn grow(&mut self, rows: &StateRows, root: &ObjectLine) -> Result<bool, AllocError> {
-        for line in rows.objects.iter().skip(1) {
-            self.fill(line.id.number(), root)?;
-            if !self.place(line)? {
-                return Ok(false);
-            }
-        }
-        if rows.profile == Profile::One {
-            self.fill(rows.next, root)?;
-        }
-        for _n in 0..rows.objects.len() {
-            if !self.place_late(&rows.objects)? {
-                break;
-            }
-        }
-        if let Some(filler) = self.filler {
-            self.remove(filler)?;
-        }
-        Ok(true)
-    }
-
-    /// Adds what rows say behind the root.
-    fn complete(&mut self, rows: &StateRows, root: &ObjectLine) -> Result<(), AllocError> {
-        self.grow(rows, root)?;
-        put_triples(&mut self.state, rows)
-    }
-
-    /// The state that was built.
-    fn into_state(self) -> State {
-        self.state
+/// What is said of an object.
+fn said_of(objects: &[Option<ObjectParts>], o: ObjectId) -> Option<ObjectParts>
+    ensures { result ≡ slice_index_or objects.now o None }
+{
+    match objects.get(o.number() as usize) {
+        Some(said) => *said,
+        None => None,
     }
 }
 
-/// Puts the triples of rows into a state, as far as they name what is there.
-fn put_triples(state: &mut State, rows: &StateRows) -> Result<(), AllocError> {
-    for (s, o, x) in &rows.cells {
-        if state.is_subject(*s) && state.is_active(*o) {
-            state.give(*s, *o, *x);
-        }
+/// Adds an object below another, where that one is active and the object isn't.
+fn add_below(
+    state: &mut State,
+    o: ObjectId,
+    parent: ObjectId,
+    labels: &ObjectLabels,
+) -> Result<(), AllocError>
+    ensures part { OnOk result ((v : StateView) → HasTree v → IsBelow v o labels.now parent
+        → IsPart v state.old → IsPart v state.new) }
+    ensures kept { OnOk result ((q : ℕ) → IsTrue (is_active state.old q) → IsTrue (is_active state.new q)) }
+    ensures there { OnOk result
+        (o < MAX_OBJECTS → IsTrue (is_active state.old parent) → IsTrue (is_active state.new o)) }
+{
+    if o.number() >= MAX_OBJECTS || state.is_active(o) || !state.is_active(parent) {
+        return Ok(());
     }
-    for (s, o, x) in &rows.accesses {
-        if state.is_subject(*s) && state.is_active(*o) {
-            state.put_access(*s, *o, *x)?;
-        }
+    state.add_object_at(o, parent, &labels.security, &labels.integrity)?;
+    Ok(())
+}
+
+/// Adds an object below its parent, and first its parent, where that isn't there yet: so many steps up at most.
+fn place(
+    state: &mut State,
+    objects: &[Option<ObjectParts>],
+    o: ObjectId,
+    steps: u16,
+) -> Result<(), AllocError>
+    ensures part { OnOk result ((v : StateView) → AreObjectsOf v objects.now
+        → IsPart v state.old → IsPart v state.new) }
+    ensures kept { OnOk result ((q : ℕ) → IsTrue (is_active state.old q) → IsTrue (is_active state.new q)) }
+    ensures there { OnOk result ((v : StateView) → AreObjectsOf v objects.now → IsPart v state.old
+        → IsTrue (reaches_within v.parent steps o 0) → IsTrue (is_active state.new o)) }
+{
+    if state.is_active(o) {
+        return Ok(());
+    }
+    if steps == 0 {
+        return Ok(());
+    }
+    let Some(parts) = said_of(objects, o) else {
+        return Ok(());
+    };
+    let Some(parent) = parts.parent else {
+        return Ok(());
+    };
+    place(state, objects, parent, steps - 1)?;
+    add_below(state, o, parent, &parts.labels)?;
+    Ok(())
+}
+
+/// Adds each object that rows say, below its parent.
+fn place_all(state: &mut State, objects: &[Option<ObjectParts>]) -> Result<(), AllocError>
+    ensures part { OnOk result ((v : StateView) → AreObjectsOf v objects.now
+        → IsPart v state.old → IsPart v state.new) }
+    ensures all { OnOk result ((v : StateView) → AreObjectsOf v objects.now → IsPart v state.old
+        → (o : ℕ) → IsTrue (is_active v o) → IsTrue (is_active state.new o)) }
+{
+    for n in 0..MAX_OBJECTS {
+        place(state, objects, ObjectId::new(n), MAX_OBJECTS)?;
     }
     Ok(())
 }
 
-/// The subjects and the root of rows, if these are as many as a state has.
-fn first_objects(
-    alloc: Global,
-    names: &Names,
-    rows: &StateRows,
-    root: &ObjectLine,
-) -> Result<Option<Objects>, AllocError> {
+/// Puts a triple into the matrix, where it names what is there.
+fn give_known(state: &mut State, cell: &(SubjectId, ObjectId, Mode))
+    ensures known { IsTrue (is_known state.old cell.now)
+        → state.new ≡ record state.old { matrix = set.insert state.old.matrix cell.now } }
+    ensures rest { state.new ≡ record state.old { matrix = state.new.matrix } }
+{
+    if !state.is_subject(cell.0) {
+        return;
+    }
+    if !state.is_active(cell.1) {
+        return;
+    }
+    state.give(cell.0, cell.1, cell.2);
+}
+
+/// Adds a current access, where it names what is there.
+fn access_known(state: &mut State, triple: &(SubjectId, ObjectId, Mode)) -> Result<(), AllocError>
+    ensures known { OnOk result (IsTrue (is_known state.old triple.now)
+        → state.new ≡ record state.old { accesses = set.insert state.old.accesses triple.now }) }
+    ensures rest { OnOk result (state.new ≡ record state.old { accesses = state.new.accesses }) }
+{
+    if !state.is_subject(triple.0) {
+        return Ok(());
+    }
+    if !state.is_active(triple.1) {
+        return Ok(());
+    }
+    state.put_access(triple.0, triple.1, triple.2)?;
+    Ok(())
+}
+
+/// Puts triples into the matrix, as far as they name what is there.
+fn give_each(state: &mut State, cells: &[(SubjectId, ObjectId, Mode)])
+    ensures { All (λ t. IsTrue (is_known state.old t)) cells.now
+        → state.new ≡ record state.old { matrix = with_triples state.old.matrix cells.now } }
+{
+    for cell in cells {
+        give_known(state, cell);
+    }
+}
+
+/// Adds current accesses, as far as they name what is there.
+fn access_each(state: &mut State, triples: &[(SubjectId, ObjectId, Mode)]) -> Result<(), AllocError>
+    ensures { OnOk result (All (λ t. IsTrue (is_known state.old t)) triples.now
+        → state.new ≡ record state.old { accesses = with_triples state.old.accesses triples.now }) }
+{
+    for triple in triples {
+        access_known(state, triple)?;
+    }
+    Ok(())
+}
+
+/// Adds the objects that rows say, and takes the numbers below their next one as used.
+fn add_objects(state: &mut State, rows: &StateRows) -> Result<(), AllocError>
+    ensures { OnOk result ((v : StateView) → HasTree v → HasWholeTables v → SaysAll v rows.now
+        → IsPart v state.old → state.new ≡ record v { accesses = set.empty; matrix = set.empty }) }
+{
+    place_all(state, &rows.objects)?;
+    let next = rows.next;
+    if next > MAX_OBJECTS {
+        return Ok(());
+    }
+    state.agrees();
+    state.skip_to(next)?;
+    Ok(())
+}
+
+/// Adds what rows say behind the subjects and the root.
+fn complete(state: &mut State, rows: &StateRows) -> Result<(), AllocError>
+    ensures { OnOk result ((v : StateView) → HasTree v → HasWholeTables v → SaysAll v rows.now
+        → IsPart v state.old → state.new ≡ v) }
+{
+    add_objects(state, rows)?;
+    give_each(state, &rows.cells);
+    access_each(state, &rows.accesses)?;
+    Ok(())
+}
+
+/// The state of the subjects and the root of rows, if these are as many as a state has.
+fn first_state(alloc: Global, names: &Names, rows: &StateRows) -> Result<Option<State>, AllocError>
+    ensures some { (v : StateView) → IsNamed names.now v → SaysAll v rows.now → IfOk result (λ begun. IsSome begun) }
+    ensures part { (v : StateView) → IsNamed names.now v → SaysAll v rows.now
+        → IfOk result (λ begun. IfSome begun (λ u. IsPart v u)) }
+{
     let count = rows.subjects.len();
-    if count == 0 || count > MAX_SUBJECTS as usize || root.id.number() != 0 {
+    if count == 0 {
         return Ok(None);
     }
-    let bounds = (names.security().bounds(), names.integrity().bounds());
-    let mut placed = vec![in alloc; false; MAX_OBJECTS as usize]?;
-    if let Some(is_placed) = placed.get_mut(0) {
-        *is_placed = true;
+    if count > MAX_SUBJECTS as usize {
+        return Ok(None);
     }
+    let Some(root) = said_of(&rows.objects, ROOT) else {
+        return Ok(None);
+    };
+    let bounds = (names.security().bounds(), names.integrity().bounds());
     let state = State::first(
         alloc,
         &rows.subjects,
@@ -175,29 +195,25 @@ fn first_objects(
         bounds.1,
         rows.profile,
     )?;
-    Ok(Some(Objects {
-        state,
-        filler: None,
-        placed,
-    }))
+    Ok(Some(state))
 }
 
-/// The state that rows say, if they say one; any other where they don't.
+/// The state that rows say, if they say all of one; any other where they don't.
 pub(crate) fn rebuild(
     alloc: Global,
     names: &Names,
     rows: &StateRows,
-) -> Result<Option<State>, AllocError> {
-    let Some(root) = rows.objects.first() else {
+) -> Result<Option<State>, AllocError>
+    ensures { (v : StateView) → IsNamed names.now v → SaysAll v rows.now
+        → IfOk result (λ rebuilt. rebuilt ≡ Some v) }
+{
+    let Some(mut state) = first_state(alloc, names, rows)? else {
         return Ok(None);
     };
-    let Some(mut objects) = first_objects(alloc, names, rows, root)? else {
-        return Ok(None);
-    };
-    match objects.complete(rows, root) {
-        Ok(()) => Ok(Some(objects.into_state())),
+    match complete(&mut state, rows) {
+        Ok(()) => Ok(Some(state)),
         Err(AllocError) => {
-            drop(objects);
+            drop(state);
             Err(AllocError)
         }
     }

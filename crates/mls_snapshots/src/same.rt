@@ -22,6 +22,8 @@ pub(crate) fn has_same_kind(state: &State, other: &State) -> bool
     ensures profile { IsTrue result → other.now.profile ≡ state.now.profile }
     ensures security { IsTrue result → other.now.security ≡ state.now.security }
     ensures integrity { IsTrue result → other.now.integrity ≡ state.now.integrity }
+    ensures accepted { other.now.profile ≡ state.now.profile → other.now.security ≡ state.now.security
+        → other.now.integrity ≡ state.now.integrity → IsTrue result }
 {
     state.profile() == other.profile()
         && state.security() == other.security()

@@ -17,6 +17,7 @@ pub(crate) fn is_over(alloc: Global, start: &Start, state: &State) -> Result<boo
     ensures start { IfOk result (λ is. IsTrue is → IsOfStart start.now state.now) }
     ensures within { IfOk result (λ is. IsTrue is → HasLabelsWithin state.now) }
     ensures over { IfOk result (λ is. IsTrue is → IsOver start.now state.now) }
+    ensures accepted { IfOk result (λ is. IsOver start.now state.now → IsTrue is) }
 {
     state.agrees();
     let opening = start.opening(alloc)?;

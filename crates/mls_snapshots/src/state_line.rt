@@ -1,15 +1,20 @@
 //! A line of a state's text.
-use mls_labels::{IntLabel, SecLabel};
+ghost use Rattle.std.specs.Prelude.{◌≡◌, Some};
+ghost use Rattle.mls_wording.specs.ReadBack.{HasNames};
+ghost use Rattle.mls_snapshots.specs.LineReading.{subject_in, parent_in, parts_in, triple_in, said_behind, said_in};
+ghost use Rattle.mls_snapshots.specs.Rows.{Row, IsWithin, row_line, said_of};
+
+use crate::state_words::{cut, integrity, keyed, number, object, profile, security};
+use mls_labels::{a_text_is_read_as_it_is_spelled, a_written_label_is_spelled};
 use mls_lines::Names;
-use mls_requests::{read_decimal, read_mode};
+use mls_requests::read_mode;
 use mls_state::{ObjectLabels, Subject, Table};
-use mls_tables::{MAX_OBJECTS, Mode, ObjectId, SubjectId};
+use mls_tables::{Mode, ObjectId, SubjectId};
 use mls_tree::Profile;
 
-/// An object of a state's text.
+/// What a line says of an object.
 #[derive(Clone, Copy)]
-pub(crate) struct ObjectLine {
-    pub id: ObjectId,
+pub(crate) struct ObjectParts {
     pub labels: ObjectLabels,
     pub parent: Option<ObjectId>,
 }
@@ -19,61 +24,14 @@ pub(crate) enum StateLine {
     Profile(Profile),
     Next(u16),
     Subject(Subject),
-    Object(ObjectLine),
+    Object(ObjectId, ObjectParts),
     Triple(Table, (SubjectId, ObjectId, Mode)),
 }
 
-/// The first word of a text, and what stands behind its space.
-fn cut(text: &str) -> (&str, &str) {
-    match text.split_once(' ') {
-        Some((word, rest)) => (word, rest),
-        None => (text, ""),
-    }
-}
-
-/// The word behind a key, and what stands behind it.
-fn keyed<'a>(text: &'a str, key: &str) -> Option<(&'a str, &'a str)> {
-    let (word, rest) = cut(text);
-    if word == key { Some(cut(rest)) } else { None }
-}
-
-/// The number that a word writes, at most the number of objects.
-fn number(word: &str) -> Option<u16> {
-    let number = read_decimal(word.as_bytes(), u64::from(MAX_OBJECTS))?;
-    Some(number as u16)
-}
-
-/// The object of a word: by its name, or by its number behind a `#`.
-fn object(names: &Names, word: &str) -> Option<ObjectId> {
-    match word.strip_prefix('#') {
-        Some(digits) => Some(ObjectId::new(number(digits)?)),
-        None => names.object(word),
-    }
-}
-
-/// The security label of a word.
-fn security(names: &Names, word: &str) -> Option<SecLabel> {
-    let label = names.security().read(word).ok()?;
-    Some(SecLabel::of(label))
-}
-
-/// The integrity label of a word.
-fn integrity(names: &Names, word: &str) -> Option<IntLabel> {
-    let label = names.integrity().read(word).ok()?;
-    Some(IntLabel::of(label))
-}
-
-/// The profile of a word.
-fn profile(word: &str) -> Option<Profile> {
-    match word {
-        "1" => Some(Profile::One),
-        "2" => Some(Profile::Two),
-        _ => None,
-    }
-}
-
 /// What a line says of a subject behind its name.
-fn subject_parts(names: &Names, text: &str) -> Option<Subject> {
+fn subject_parts(names: &Names, text: &str) -> Option<Subject>
+    ensures { result ≡ subject_in names.now text.now }
+{
     let (maximum, text) = keyed(text, "maximum")?;
     let (current, text) = keyed(text, "current")?;
     let (own, text) = keyed(text, "integrity")?;
@@ -85,45 +43,79 @@ fn subject_parts(names: &Names, text: &str) -> Option<Subject> {
     })
 }
 
-/// What a line says of an object.
-fn object_line(names: &Names, text: &str) -> Option<ObjectLine> {
-    let (name, text) = cut(text);
+/// The parent that a text says; `None` within where it says none.
+fn parent(names: &Names, text: &str) -> Option<Option<ObjectId>>
+    ensures { result ≡ parent_in names.now text.now }
+{
+    match keyed(text, "parent") {
+        Some((parent, _)) => Some(Some(object(names, parent)?)),
+        None => Some(None),
+    }
+}
+
+/// What a line says of an object behind its name.
+fn object_parts(names: &Names, text: &str) -> Option<ObjectParts>
+    ensures { result ≡ parts_in names.now text.now }
+{
     let (label, text) = keyed(text, "security")?;
     let (own, text) = keyed(text, "integrity")?;
     let labels = ObjectLabels {
         security: security(names, label)?,
         integrity: integrity(names, own)?,
     };
-    let parent = match keyed(text, "parent") {
-        Some((parent, _)) => Some(object(names, parent)?),
-        None => None,
-    };
-    let id = object(names, name)?;
-    Some(ObjectLine { id, labels, parent })
+    let parent = parent(names, text)?;
+    Some(ObjectParts { labels, parent })
 }
 
 /// The triple of a line.
-fn triple(names: &Names, text: &str) -> Option<(SubjectId, ObjectId, Mode)> {
-    let (subject, text) = cut(text);
-    let (mode, o) = cut(text);
-    Some((
-        names.subject(subject)?,
-        object(names, o)?,
-        read_mode(mode.as_bytes())?,
-    ))
+fn triple(names: &Names, text: &str) -> Option<(SubjectId, ObjectId, Mode)>
+    ensures { result ≡ triple_in names.now text.now }
+{
+    let (subject, text) = cut(text, ' ');
+    let (mode, o) = cut(text, ' ');
+    let subject = names.subject(subject)?;
+    let o = object(names, o)?;
+    let mode = read_mode(mode.as_bytes())?;
+    Some((subject, o, mode))
 }
 
-/// What a line of a state's text says, with the names of a start. No clause says so, and more than such lines is read:
-/// what is read is written again, and compared.
-pub(crate) fn read_line(names: &Names, line: &str) -> Option<StateLine> {
-    let (word, text) = cut(line);
+/// What a line says by its first word and what stands behind it.
+fn said_behind(names: &Names, word: &str, text: &str) -> Option<StateLine>
+    ensures { result ≡ said_behind names.now word.now text.now }
+{
     match word {
         "profile" => Some(StateLine::Profile(profile(text)?)),
-        "next" => Some(StateLine::Next(number(text)?)),
-        "subject" => Some(StateLine::Subject(subject_parts(names, cut(text).1)?)),
-        "object" => Some(StateLine::Object(object_line(names, text)?)),
+        "next" => Some(StateLine::Next(number(text.as_bytes())?)),
+        "subject" => Some(StateLine::Subject(subject_parts(names, cut(text, ' ').1)?)),
+        "object" => {
+            let (name, text) = cut(text, ' ');
+            let o = object(names, name)?;
+            Some(StateLine::Object(o, object_parts(names, text)?))
+        }
         "permit" => Some(StateLine::Triple(Table::Matrix, triple(names, text)?)),
         "access" => Some(StateLine::Triple(Table::Accesses, triple(names, text)?)),
         _ => None,
     }
+}
+
+/// What a line says.
+fn said(names: &Names, line: &str) -> Option<StateLine>
+    ensures { result ≡ said_in names.now line.now }
+{
+    let (word, text) = cut(line, ' ');
+    said_behind(names, word, text)
+}
+
+/// What a line of a state's text says, with the names of a start. More than the lines of rows is read: what is read is
+/// written again, and compared.
+pub(crate) fn read_line(names: &Names, line: &str) -> Option<StateLine>
+    ensures { (row : Row) → HasNames names.now → IsWithin names.now row → line.now ≡ row_line names.now row
+        → result ≡ Some (said_of row) }
+{
+    // both schemes are sound, as their bounds tell
+    let _ = names.security().bounds();
+    let _ = names.integrity().bounds();
+    a_text_is_read_as_it_is_spelled();
+    a_written_label_is_spelled();
+    said(names, line)
 }

@@ -1,5 +1,5 @@
 //! States read from their text.
-ghost use Rattle.std.specs.Prelude.{◌≡◌, IfOk, OnOk, string_bytes};
+ghost use Rattle.std.specs.Prelude.{◌≡◌, IfOk, IfErr, OnOk, string_bytes};
 ghost use Rattle.mls_snapshots.specs.Reading.{IsOfStart, IsOver, HasLabelsWithin};
 ghost use Rattle.mls_snapshots.specs.Renumbering.{HasSameSubjects};
 ghost use Rattle.mls_snapshots.specs.States.{state_text};
@@ -52,7 +52,9 @@ fn compare_text(
     state: &State,
     text: &str,
 ) -> Result<(), ReadStateFault>
-    ensures { OnOk result (state_text names.now state.now ≡ text.now) }
+    ensures text { OnOk result (state_text names.now state.now ≡ text.now) }
+    ensures accepted { IfErr result
+        (λ fault. state_text names.now state.now ≡ text.now → fault ≡ ReadStateFault.Memory) }
 {
     let written = state_text(alloc, names, state)?;
     if !is_same_text(written.as_str(), text) {
@@ -82,6 +84,7 @@ fn read_text(alloc: Global, names: &Names, text: &str) -> Result<State, ReadStat
 fn begin(alloc: Global, state: State) -> Result<Start, ReadStateFault>
     ensures state { IfOk result (λ begun. begun ≡ state) }
     ensures secure { OnOk result (IsSecure state) }
+    ensures accepted { IfErr result (λ fault. IsSecure state → fault ≡ ReadStateFault.Memory) }
 {
     match Start::of_state(alloc, state) {
         Ok(begun) => Ok(begun),

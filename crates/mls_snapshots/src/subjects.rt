@@ -1,5 +1,6 @@
 //! Whether two states have the same subjects.
 ghost use Rattle.std.specs.Prelude.{IsTrue};
+ghost use Rattle.mls_state.specs.State.{is_subject};
 ghost use Rattle.mls_snapshots.specs.Reading.{IsFixedSubject, HasFixedSubjects};
 ghost use Rattle.mls_snapshots.specs.Renumbering.{IsSameSubject, HasSameSubjects};
 
@@ -43,7 +44,9 @@ pub(crate) fn has_same_subjects(state: &State, other: &State) -> bool
 /// neither.
 #[tactic(auto, using(mls_labels::proofs::Laws::labels_same))]
 fn is_fixed_subject(state: &State, other: &State, s: SubjectId) -> bool
-    ensures { IsTrue result → IsFixedSubject state.now other.now s }
+    ensures fixed { IsTrue result → IsFixedSubject state.now other.now s }
+    ensures accepted { IsTrue (is_subject state.now s) → IsTrue (is_subject other.now s)
+        → IsFixedSubject state.now other.now s → IsTrue result }
 {
     if !state.is_subject(s) || !other.is_subject(s) {
         return false;
@@ -54,7 +57,8 @@ fn is_fixed_subject(state: &State, other: &State, s: SubjectId) -> bool
 
 /// Whether two states have the same subjects, with the same maximum and integrity labels and trust.
 pub(crate) fn has_fixed_subjects(state: &State, other: &State) -> bool
-    ensures { IsTrue result → HasFixedSubjects state.now other.now }
+    ensures fixed { IsTrue result → HasFixedSubjects state.now other.now }
+    ensures accepted { HasFixedSubjects state.now other.now → IsTrue result }
 {
     state.agrees();
     other.agrees();
