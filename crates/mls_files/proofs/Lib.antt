@@ -3,3 +3,5 @@ mod Compared
 mod Closing
 mod Stopped
 mod Ending
+mod Begun
+mod Judged

@@ -1,3 +1,4 @@
+pub mod Comparing
 pub mod Folders
 pub mod Following
 pub mod Origins
