@@ -5,3 +5,4 @@ mod lists;
 mod orders;
 mod seen;
 mod sets;
+mod trees;

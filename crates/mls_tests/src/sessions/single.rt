@@ -1,4 +1,5 @@
 //! One session of an office, and offices of no session and of too many.
+ghost use Rattle.std.specs.Prelude.{◌≡◌, false};
 ghost use Rattle.mls_sessions.specs.Sessions.{IsOf, Ascending};
 
 use super::pair::knows;
@@ -37,7 +38,7 @@ fn an_office_has_one_to_sixty_four_sessions(rt: HostRuntime) {
 }
 
 /// Whether a session is told that the access is held in this mode, where it is told: nobody else asks beside.
-fn held(office: &Office, session: &mut Session, mode: Mode) -> Option<bool>
+pub fn held(office: &Office, session: &mut Session, mode: Mode) -> Option<bool>
     requires { IsOf office.now session.old }
     ensures { IsOf office.now session.new }
 {
@@ -47,15 +48,26 @@ fn held(office: &Office, session: &mut Session, mode: Mode) -> Option<bool>
     }
 }
 
-/// Asks for read access, which nobody else does beside: whether that made entry `number` of session 0, and was granted.
-fn is_granted(office: &Office, session: &mut Session, number: u64) -> bool
+/// Asks for read access, which nobody else does beside: whether that made entry `number` of session `made_by`, and was
+/// granted.
+pub fn is_let_read(office: &Office, session: &mut Session, number: u64, made_by: u32) -> bool
     requires { IsOf office.now session.old }
     ensures { IsOf office.now session.new }
 {
     match session.try_submit(office, get(ANN, Mode::Read, PLANS)) {
-        Ok(entry) => entry.number == number && entry.session == 0 && entry.reply == Reply::Yes,
+        Ok(entry) => {
+            entry.number == number && entry.session == made_by && entry.reply == Reply::Yes
+        }
         Err(_) => false,
     }
+}
+
+/// Whether the first entry is forgotten, which nobody else asks beside.
+pub fn forgets_first(office: &Office, session: &mut Session) -> bool
+    requires { IsOf office.now session.old × (office.now.charter.lasts ≡ false) }
+    ensures { IsOf office.now session.new }
+{
+    session.try_forget(office, 1).is_ok()
 }
 
 /// What a journal comes to that an office is opened over.
@@ -68,24 +80,26 @@ pub struct Before {
 
 /// The only session tries, and is answered: over a journal, which it has seen and goes on with.
 fn tries(rt: &impl Abort, office: &Office, session: &mut Session, before: Before)
-    requires { IsOf office.now session.old }
+    requires { IsOf office.now session.old × (office.now.charter.lasts ≡ false) }
 {
     let base = before.entries;
     sees(rt, knows(session, base, 0), "what it has seen");
     let reads = held(office, session, Mode::Read);
     sees(rt, reads == Some(before.is_held), "what is read");
-    sees(rt, is_granted(office, session, base), "an entry");
+    sees(rt, is_let_read(office, session, base, 0), "an entry");
     let reads = held(office, session, Mode::Read);
     sees(rt, reads == Some(true), "what is read");
     let writes = held(office, session, Mode::Write);
     sees(rt, writes == Some(false), "what is written");
+    sees(rt, forgets_first(office, session), "what is forgotten");
     sees(rt, knows(session, base.wrapping_add(1), 1), "what it made");
 }
 
 /// The only session of an office tries.
 #[tactic(auto, using(crate::proofs::Lists::ascending_last))]
 pub fn over_one(rt: &impl Abort, office: Office, mut sessions: Vec<Session>, before: Before)
-    requires { Ascending office 0 sessions.items }
+    requires sessions { Ascending office 0 sessions.items }
+    requires forgets { office.charter.lasts ≡ false }
 {
     sees(rt, office.base() == before.entries, "the base");
     let Some(mut only) = sessions.pop() else {
