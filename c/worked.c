@@ -1,5 +1,6 @@
-/* Tests journals that were worked out by hand from docs/POLICY.md: what each request is answered, the state that all
- * lead to, a replay, entries that are forgotten, and each allocation refused in turn.
+/* Tests journals that were worked out by hand from docs/POLICY.md, in both profiles: what each request is answered, the
+ * state that all lead to, the objects below one, a replay, entries that are forgotten, and each allocation refused in
+ * turn.
  *
  *     worked START
  *
