@@ -1,4 +1,4 @@
-//! Tests of labels and tables, each mostly a table of steps.
+//! Tests of labels, tables and trees, each mostly a table of steps.
 mod beside;
 mod labels;
 mod lists;

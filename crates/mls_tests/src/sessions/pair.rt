@@ -2,7 +2,7 @@
 ghost use Rattle.std.specs.Prelude.{◌≡◌, false};
 ghost use Rattle.mls_sessions.specs.Sessions.{IsOf, Ascending};
 
-use super::single::{forgets_first, held, is_let_read};
+use super::at_once::{forgets_first, held, is_let_read};
 use super::standard::{ANN, BOB, PLANS, get, level, release};
 use crate::seen::sees;
 use mls_requests::{Entry, Reply, Request};

@@ -2,12 +2,11 @@
 ghost use Rattle.std.specs.Prelude.{◌≡◌, false};
 ghost use Rattle.mls_sessions.specs.Sessions.{IsOf, Ascending};
 
+use super::at_once::{forgets_first, held, is_let_read};
 use super::pair::knows;
-use super::standard::{ANN, PLANS, get};
 use crate::seen::sees;
 use crate::standard::ample_monitor;
 use mls_monitor::Monitor;
-use mls_requests::Reply;
 use mls_sessions::{MAX_SESSIONS, Office, OfficeFaultKind, Session};
 use mls_tables::Mode;
 use std::alloc::Global;
@@ -35,39 +34,6 @@ fn an_office_has_one_to_sixty_four_sessions(rt: HostRuntime) {
         let monitor = ample_monitor(&rt, rt.alloc());
         sees(&rt, is_bad_count(rt.alloc(), monitor, *n), "a bad count");
     }
-}
-
-/// Whether a session is told that the access is held in this mode, where it is told: nobody else asks beside.
-pub fn held(office: &Office, session: &mut Session, mode: Mode) -> Option<bool>
-    requires { IsOf office.now session.old }
-    ensures { IsOf office.now session.new }
-{
-    match session.try_check(office, ANN, PLANS, mode) {
-        Ok(held) => Some(held),
-        Err(_) => None,
-    }
-}
-
-/// Asks for read access, which nobody else does beside: whether that made entry `number` of session `made_by`, and was
-/// granted.
-pub fn is_let_read(office: &Office, session: &mut Session, number: u64, made_by: u32) -> bool
-    requires { IsOf office.now session.old }
-    ensures { IsOf office.now session.new }
-{
-    match session.try_submit(office, get(ANN, Mode::Read, PLANS)) {
-        Ok(entry) => {
-            entry.number == number && entry.session == made_by && entry.reply == Reply::Yes
-        }
-        Err(_) => false,
-    }
-}
-
-/// Whether the first entry is forgotten, which nobody else asks beside.
-pub fn forgets_first(office: &Office, session: &mut Session) -> bool
-    requires { IsOf office.now session.old × (office.now.charter.lasts ≡ false) }
-    ensures { IsOf office.now session.new }
-{
-    session.try_forget(office, 1).is_ok()
 }
 
 /// What a journal comes to that an office is opened over.
