@@ -58,7 +58,8 @@ ANSWERED_ALIKE = [
     # sessions of large numbers
     (CLIMB, ["0 4294967295 1 get-read 2 no star", "1 65536 1 level 1 yes", "3 64 1 level 0 no star",
      "5 4294967294 1 level 0 yes"]),
-    # an entry that no script asks for, since no level of the start has that number
+    # entries that no script asks for, since no level of the start has that number: the next ones, and another
+    (CLIMB, ["5 0 0 level 4 undefined"]), (CLIMB, ["5 0 2 create 0 0 2 undefined"]),
     (CLIMB, ["5 0 0 level 9 undefined"]),
     # nor any category beyond the first two, up to the last of 256
     (CLIMB, ["5 0 0 level 0:63,64,255 undefined"]), (CLIMB, ["5 0 0 level 0:200 undefined"]),

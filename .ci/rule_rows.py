@@ -95,6 +95,14 @@ SCRIPTS = [
         ann relabel plans T:A       no authority
         ann level C                 no star
     """),
+    ("objects are relabelled, one of them with another above it", """
+        ann get-write plans         yes
+        ann create plans S:A hi     created 4
+        ann relabel #4 T:A          yes
+        sec relabel plans C         no star
+        ann release write plans     yes
+        sec relabel plans C         yes
+    """),
     ("creations", """
         sec get-write plans         yes
         sec create plans C hi       no compatibility
@@ -246,10 +254,11 @@ CHANGES = [
     """),
 ]
 
-# A start of three subjects, of one that may write the root, and of an object below that; and the lines of its state.
+# A start of five subjects, one of which may write the root, and of an object below that; and the lines of its state. In
+# a table with a byte for two subjects the last one, s2, has a byte of its own.
 def start_of_tables(profile):
     subjects = [{"name": name, "maximum": "U", "current": "U", "integrity": "lo", "trusted": True}
-                for name in ("s0", "s1", "s2", "boss")]
+                for name in ("s0", "s1", "boss", "other", "s2")]
     objects = [{"name": "root", "parent": None, "security": "U", "integrity": "lo"},
                {"name": "o1", "parent": "root", "security": "U", "integrity": "lo"}]
     return {"profile": profile, "security": {"levels": ["U"], "categories": []},
@@ -261,8 +270,9 @@ OPENING_OF_TABLES = """
     next 2
     subject s0 maximum U current U integrity lo trusted
     subject s1 maximum U current U integrity lo trusted
-    subject s2 maximum U current U integrity lo trusted
     subject boss maximum U current U integrity lo trusted
+    subject other maximum U current U integrity lo trusted
+    subject s2 maximum U current U integrity lo trusted
     object root security U integrity lo
     object o1 security U integrity lo parent root
     permit boss write root

@@ -1,5 +1,6 @@
-/* Tests journals that were worked out by hand from docs/POLICY.md: what each request is answered, the state that all
- * lead to, a replay, entries that are forgotten, and each allocation refused in turn.
+/* Tests journals that were worked out by hand from docs/POLICY.md, in both profiles: what each request is answered, the
+ * state that all lead to, the objects below one, a replay, entries that are forgotten, and each allocation refused in
+ * turn.
  *
  *     worked START
  *
@@ -70,8 +71,27 @@ void __wrap_free(void *at) {
 enum { ANN, BOB, SEC, AUD };
 enum { ROOT, PLANS, MEMO, TOOL };
 
+/* The start file, and which profile it is of. */
 static uint8_t start[1 << 16];
 static size_t start_len;
+static int profile = 1;
+
+/* Makes the start that of the other profile. */
+static void change_profile(void) {
+    static const char *const member = "\"profile\": 2,";
+    size_t len = strlen(member);
+    if (profile == 1) {
+        CHECK(start[0] == '{' && start_len + len < sizeof start);
+        memmove(start + 1 + len, start + 1, start_len - 1);
+        memcpy(start + 1, member, len);
+        start_len += len;
+    } else {
+        CHECK(memcmp(start + 1, member, len) == 0);
+        memmove(start + 1, start + 1 + len, start_len - 1 - len);
+        start_len -= len;
+    }
+    profile = 3 - profile;
+}
 
 static const mls_fault no_fault = {55, 66, 77};
 
@@ -155,8 +175,57 @@ static const worked relabels = {
     "5", {"object plans security S:A ", "permit ann read plans\n"},
     {"object plans security C ", "object #4 security T:A integrity hi parent plans\npermit ann read plans\n"}, ""};
 
-/* The text of the state that the standard start opens with: before the number after `next`, and behind it. */
-static const char *const opening_front = "profile 1\nnext ";
+/* A branch of five is deleted, whose numbers lie among others. */
+static const worked branched = {
+    "0 7 2 get-write 0 yes\n"
+    "1 7 2 create 0 0 1 created 4\n"
+    "2 7 2 give write 2 4 yes\n"
+    "3 7 2 get-write 4 yes\n"
+    "4 7 2 create 0 0 1 created 5\n"
+    "5 7 2 create 4 0 1 created 6\n"
+    "6 7 2 create 0 0 1 created 7\n"
+    "7 7 2 create 4 0 1 created 8\n"
+    "8 7 2 give write 2 6 yes\n"
+    "9 7 2 get-write 6 yes\n"
+    "10 7 2 create 6 0 1 created 9\n"
+    "11 7 2 create 4 0 1 created 10\n"
+    "12 7 2 give write 2 7 yes\n"
+    "13 7 2 get-write 7 yes\n"
+    "14 7 2 delete 4 yes\n"
+    "15 7 2 create 7 0 1 created 11\n",
+    "12", {"permit ann read plans\n", "permit aud read plans\n"},
+    {"object #5 security U integrity hi parent root\nobject #7 security U integrity hi parent root\n"
+     "object #11 security U integrity hi parent #7\npermit ann read plans\n",
+     "permit sec write #7\npermit aud read plans\n"},
+    "access sec write root\naccess sec write #7\n"};
+
+/* In profile 2: a branch of three is deleted. Its numbers are given again, the least first, also below an object with a
+ * larger one, and hold nothing of what they were. */
+static const worked reused = {
+    "0 7 2 get-write 0 yes\n"
+    "1 7 2 create 0 0 1 created 4\n"
+    "2 7 2 give write 2 4 yes\n"
+    "3 7 2 get-write 4 yes\n"
+    "4 7 2 create 4 0 1 created 5\n"
+    "5 7 2 give write 2 5 yes\n"
+    "6 7 2 get-write 5 yes\n"
+    "7 7 2 create 5 0 1 created 6\n"
+    "8 7 2 create 0 0 1 created 7\n"
+    "9 7 2 give write 2 7 yes\n"
+    "10 7 2 get-write 7 yes\n"
+    "11 7 2 delete 4 yes\n"
+    "12 7 2 create 7 0 1 created 4\n"
+    "13 7 2 create 0 0 1 created 5\n"
+    "14 7 2 create 0 0 1 created 6\n"
+    "15 7 2 create 0 0 1 created 8\n",
+    "9", {"permit ann read plans\n", "permit aud read plans\n"},
+    {"object #4 security U integrity hi parent #7\nobject #5 security U integrity hi parent root\n"
+     "object #6 security U integrity hi parent root\nobject #7 security U integrity hi parent root\n"
+     "object #8 security U integrity hi parent root\npermit ann read plans\n",
+     "permit sec write #7\npermit aud read plans\n"},
+    "access sec write root\naccess sec write #7\n"};
+
+/* The text of the state that the standard start opens with, behind the number after `next`. */
 static const char *const opening_rest =
     "\n"
     "subject ann maximum S:A current S:A integrity hi\n"
@@ -193,7 +262,7 @@ static const char *state_after(const worked *w) {
     char first[2048], second[2048];
     change(first, opening_rest, w->old[0], w->now[0]);
     change(second, first, w->old[1], w->now[1]);
-    sprintf(text, "%s%s%s%s", opening_front, w->next, second, w->accesses);
+    sprintf(text, "profile %d\nnext %s%s%s", profile, w->next, second, w->accesses);
     return text;
 }
 
@@ -322,6 +391,7 @@ static void states_of_journals(void) {
     leads(&climb);
     leads(&family);
     leads(&relabels);
+    leads(&branched);
 }
 
 /* Accesses, and whether they are held after the gets and releases. */
@@ -358,6 +428,42 @@ static void fronts_of_the_climb(void) {
     }
 }
 
+/* The objects right below one are just these: a text with a space behind each. */
+static void has_children(mls_monitor *m, uint16_t object, const char *wanted) {
+    char found[256] = "";
+    uint16_t child = 0;
+    size_t len = 0;
+    while ((child = mls_child_after(m, object, child)) != 0 && len < sizeof found - 8)
+        len += (size_t)sprintf(found + len, "%d ", child);
+    CHECK(mls_is_active(m, object) && strcmp(found, wanted) == 0);
+}
+
+/* Behind so many entries of a journal the objects right below the root and below another one are just these. */
+static void lists_children(const char *text, int count, const char *below_root, uint16_t object, const char *below) {
+    mls_monitor m = MLS_INIT;
+    mls_fault f;
+    CHECK(resume(&m, text, lines(text, count), &f) == MLS_OK);
+    has_children(&m, ROOT, below_root);
+    has_children(&m, object, below);
+    mls_close(&m);
+}
+
+static void children_of_objects(void) {
+    lists_children(family.text, 8, "1 2 3 4 ", 4, "5 ");
+    lists_children(family.text, 12, "1 2 3 7 ", 7, "");
+    lists_children(branched.text, 14, "1 2 3 4 5 7 ", 4, "6 8 10 ");
+    lists_children(branched.text, 15, "1 2 3 5 7 ", 7, "");
+    lists_children(branched.text, 16, "1 2 3 5 7 ", 7, "11 ");
+    /* where numbers are given again, one comes before greater ones */
+    change_profile();
+    lists_children(reused.text, 11, "1 2 3 4 7 ", 4, "5 ");
+    lists_children(reused.text, 12, "1 2 3 7 ", 7, "");
+    lists_children(reused.text, 13, "1 2 3 7 ", 4, "");
+    lists_children(reused.text, 14, "1 2 3 5 7 ", 5, "");
+    lists_children(reused.text, 16, "1 2 3 5 6 7 8 ", 7, "4 ");
+    change_profile();
+}
+
 /* What is read of the first count entries of a journal, of which so many are forgotten. */
 static void is_kept(mls_monitor *m, const mls_journal_entry *all, uint64_t most, uint64_t count, uint64_t gone) {
     mls_journal_entry e;
@@ -391,7 +497,8 @@ static void entries_that_are_forgotten(void) {
     mls_close(&m);
 }
 
-/* Memory is given back where entries are forgotten: of five times the room that is kept, at most twice that stays. */
+/* Memory is given back where entries are forgotten. Five times as many as room is kept for have room for eight times as
+ * many at most, and at most a quarter of it stays: twice the room that is kept. */
 static void memory_that_is_given_back(void) {
     enum { ROOM = 4096 };
     mls_monitor m = MLS_INIT;
@@ -406,7 +513,7 @@ static void memory_that_is_given_back(void) {
         CHECK(mls_submit(&m, 7, &q, &a) == MLS_OK && a.reply == MLS_DENIED + MLS_INTEGRITY);
     full = live - before;
     CHECK(full > 5 * ROOM && mls_forget(&m, UINT64_MAX) == MLS_OK && mls_entries(&m) == 5 * ROOM);
-    CHECK(5 * (live - before) <= 2 * full);
+    CHECK(4 * (live - before) <= full);
     mls_close(&m);
 }
 
@@ -436,7 +543,7 @@ static int open_as(mls_monitor *m, int by_state) {
     mls_fault f = no_fault;
     static char text[4096];
     if (!by_state) return mls_open(m, start, start_len, &f);
-    sprintf(text, "%s4%s", opening_front, opening_rest);
+    sprintf(text, "profile %d\nnext 4%s", profile, opening_rest);
     return go_on(m, text, 0);
 }
 
@@ -478,10 +585,10 @@ static long refused_in_turn(const worked *w, int by_state) {
 static void refused_requests(void) {
     /* the room made at first, the room made later, and the growth for a new access; and for a new object */
     long few = refused_in_turn(&reading, 0), many = refused_in_turn(&family, 0);
-    CHECK(few >= 3 && many > few);
+    CHECK(few >= 3 && many > few && refused_in_turn(&branched, 0) > few);
     few = refused_in_turn(&reading, 1);
     many = refused_in_turn(&family, 1);
-    CHECK(few >= 3 && many > few);
+    CHECK(few >= 3 && many > few && refused_in_turn(&branched, 1) > few);
 }
 
 /* Has each allocation of an opening refused in turn, of the standard start with two accesses, of which one stands
@@ -498,7 +605,7 @@ static void refused_openings(void) {
     while (end && start[end - 1] != '}') end--;
     CHECK(end > 1 && end + strlen(accesses) < sizeof file);
     sprintf(file, "%.*s%s", (int)(end - 1), (const char *)start, accesses);
-    sprintf(wanted, "%s4%saccess ann read plans\naccess sec write plans\n", opening_front, opening_rest);
+    sprintf(wanted, "profile %d\nnext 4%saccess ann read plans\naccess sec write plans\n", profile, opening_rest);
     for (k = 0; status == MLS_ENOMEM && k < 100000; k++) {
         mls_monitor m = MLS_INIT;
         mls_fault f = no_fault;
@@ -541,6 +648,18 @@ static void refused_labels(void) {
     mls_close(&m);
 }
 
+/* How a replay of a journal ended: with this state and an entry for each line; the forged one, with the reply that is
+ * due. */
+static void is_ended(mls_monitor *m, const mls_fault *f, int status, const char *text, const char *state) {
+    uint64_t count = 0;
+    if (status == MLS_OK) {
+        for (; *text; text++) count += *text == '\n';
+        CHECK(mls_entries(m) == count && is_fault(f, 55, 66, 77));
+        has_state(m, state);
+    } else
+        CHECK(m->held == 0 && is_fault(f, 2, MLS_DENIED + MLS_STAR, 3));
+}
+
 /* Has each allocation of a journal's replay refused in turn: it then ends so, with this state where it is one. */
 static void replays_refused(const char *text, const char *state, int status) {
     mls_monitor m = MLS_INIT;
@@ -555,16 +674,15 @@ static void replays_refused(const char *text, const char *state, int status) {
         CHECK(m.held == 0 && m.monitor == NULL && is_fault(&f, 55, 66, 77) && live == before);
         ended = resume(&m, text, strlen(text), &f);
         CHECK(ended == status);
-        if (ended == MLS_OK) has_state(&m, state);
+        is_ended(&m, &f, ended, text, state);
         mls_close(&m);
         f = no_fault;
         ended = MLS_ENOMEM;
     }
     CHECK(ended == status && k > 20);
-    if (status == MLS_OK) has_state(&m, state);
-    /* the reply that is forged: the start takes the true journal */
+    is_ended(&m, &f, ended, text, state);
+    /* the start of the forged journal takes the true one */
     if (status == MLS_EREPLAY) {
-        CHECK(is_fault(&f, 2, MLS_DENIED + MLS_STAR, 3) && m.held == 0);
         open_replayed(&m, climb.text);
         has_state(&m, state_after(&climb));
     }
@@ -575,7 +693,18 @@ static void replays_refused(const char *text, const char *state, int status) {
 static void refused_replays(void) {
     replays_refused(climb.text, state_after(&climb), MLS_OK);
     replays_refused(family.text, state_after(&family), MLS_OK);
+    replays_refused(branched.text, state_after(&branched), MLS_OK);
     replays_refused(forged, NULL, MLS_EREPLAY);
+}
+
+/* Numbers that are given again, each allocation refused in turn: of openings and requests, and of replays. */
+static void refused_numbers_again(void) {
+    change_profile();
+    leads(&reused);
+    /* the room made at first, and the growth for a new object, of which some have room that others left */
+    CHECK(refused_in_turn(&reused, 0) >= 4 && refused_in_turn(&reused, 1) >= 4);
+    replays_refused(reused.text, state_after(&reused), MLS_OK);
+    change_profile();
 }
 
 /* The last numbers of objects, each allocation refused in turn: three are given out, and a fourth request is denied. */
@@ -616,7 +745,8 @@ static void refused_last_numbers(void) {
         mls_close(&on);
         mls_close(&ample);
     }
-    CHECK(met > 0 && !is_refused);
+    /* the entries, and the tables of labels, permissions and parents: a state that was read leaves no spare room */
+    CHECK(met >= 4 && !is_refused);
     free(text);
 }
 
@@ -723,6 +853,7 @@ int main(int argc, char **argv) {
     tell("states that journals lead to", states_of_journals);
     tell("accesses that are held", accesses_that_are_held);
     tell("fronts of a journal", fronts_of_the_climb);
+    tell("children of objects", children_of_objects);
     tell("conditions of gets", conditions_of_gets);
     tell("entries that are forgotten", entries_that_are_forgotten);
     tell("memory that is given back", memory_that_is_given_back);
@@ -730,6 +861,7 @@ int main(int argc, char **argv) {
     tell("labels without memory", refused_labels);
     tell("requests without memory", refused_requests);
     tell("replays without memory", refused_replays);
+    tell("numbers that are given again, without memory", refused_numbers_again);
     tell("the last numbers without memory", refused_last_numbers);
     tell("changed bytes of a journal", changed_bytes_of_a_journal);
     tell("changed bytes of a start", changed_bytes_of_a_start);

@@ -1,5 +1,5 @@
 //! A program for checks and benchmarks; where it is given no word, it begins with an example of the library in use
-//! (`example.rt`). It makes the calls that take the global allocator, each once more where it was out of memory:
+//! (`example.rt`). It has feeds run, and makes the calls of a script's feed, each once more where it was out of memory:
 //! `.ci/check-refusals` has always the same of its allocations refused; the first word says how many it makes before
 //! the calls, so that each of theirs has its turn, and the second which call it makes. Where the first word is `gate`,
 //! `mutex` or `alone`, threads take turns at one monitor, or one session calls, for `bench/gate_turns.sh` and

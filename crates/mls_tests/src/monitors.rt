@@ -1,6 +1,6 @@
 //! What only calls show of a monitor: room that was reserved, and starts that come back from it.
 use crate::seen::sees;
-use crate::sessions::standard::{ANN, MEMO, PLANS, get, six_entries};
+use crate::sessions::standard::{ANN, BOB, MEMO, PLANS, get, six_entries};
 use crate::standard::{ample_monitor, standard_alone};
 use mls_monitor::{Monitor, ReplayFault, ReplayRefused, replay};
 use mls_requests::{Entry, Reason, Reply, Request};
@@ -40,15 +40,53 @@ fn room_that_was_reserved_is_there(rt: HostRuntime) {
     drop(monitor);
 }
 
-/// Asserts that a start takes the journal of six entries.
+/// Asserts that a monitor has the six entries, that bob doesn't read the memo, and that he is at the lowest level,
+/// where he is denied it.
+fn has_six(rt: &impl Abort, monitor: &mut Monitor) {
+    let is_taken = monitor.entries() == six_entries().as_slice();
+    sees(rt, is_taken, "the journal");
+    sees(rt, !monitor.check(BOB, MEMO, Mode::Read), "what is read");
+    let read = get(BOB, Mode::Read, MEMO);
+    let denied = Entry::new(6, 0, read, Reply::No(Reason::Star));
+    sees(rt, monitor.submit(0, read) == Ok(denied), "the level");
+}
+
+/// Asserts what the standard start counts.
+fn has_counts(rt: &impl Abort, start: &Start) {
+    sees(rt, start.subject_count() == 4, "how many subjects");
+    sees(rt, start.object_count() == 4, "how many objects");
+    sees(rt, start.cell_count() == 12, "how many cells");
+}
+
+/// Asserts that the standard start takes the journal of six entries.
 fn takes_six(rt: &impl Abort, alloc: Global, start: Start) {
+    has_counts(rt, &start);
     match replay(alloc, start, &six_entries()) {
-        Ok(monitor) => {
-            let is_taken = monitor.entries() == six_entries().as_slice();
+        Ok(mut monitor) => {
+            has_six(rt, &mut monitor);
             drop(monitor);
-            sees(rt, is_taken, "the journal");
         }
         Err(_) => sees(rt, false, "a replay"),
+    }
+}
+
+/// Asserts that a monitor answers as the six entries say.
+fn answers_six(rt: &impl Abort, monitor: &mut Monitor) {
+    for entry in six_entries().iter() {
+        let answer = monitor.submit(0, entry.request);
+        sees(rt, answer == Ok(*entry), "an answer");
+    }
+    has_six(rt, monitor);
+}
+
+/// Asserts that a start opens a monitor that answers so, and comes back from it as it was.
+fn opens(rt: &impl Abort, alloc: Global, start: Start) {
+    match Monitor::open(alloc, start) {
+        Ok(mut monitor) => {
+            answers_six(rt, &mut monitor);
+            takes_six(rt, alloc, monitor.into_start());
+        }
+        Err(_) => sees(rt, false, "an opening"),
     }
 }
 
@@ -77,7 +115,7 @@ fn come_back(rt: &impl Abort, alloc: Global) -> Result<(), AllocError> {
         Err(refused) => takes_the_true_journal(rt, alloc, refused),
     }
     match replay(alloc, standard_alone(alloc)?, &six_entries()) {
-        Ok(monitor) => takes_six(rt, alloc, monitor.into_start()),
+        Ok(monitor) => opens(rt, alloc, monitor.into_start()),
         Err(_) => sees(rt, false, "a replay"),
     }
     Ok(())

@@ -1,6 +1,6 @@
-//! Tests of what only calls show of labels, sets of accesses and starts that are built. Worked scripts and journals, and
-//! the states that they lead to, are in .ci/check-rows, which the program answers, and in c/worked.c, which calls the
-//! library for C and has its allocations refused.
+//! Tests of what only calls show of labels, sets of accesses, trees and starts that are built. Worked scripts and
+//! journals, and the states that they lead to, are in .ci/check-rows, which the program answers, and in c/worked.c,
+//! which calls the library for C and has its allocations refused.
 #![tactic(auto)]
 
 #[cfg(test)]

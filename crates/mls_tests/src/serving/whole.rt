@@ -4,7 +4,8 @@ use super::streams::{Limits, Pieces, Sink, Waiting};
 use super::{Left, Setting, WIDE, Wanted, leaves, run};
 use crate::seen::{sees, sees_at};
 use mls_lines::Names;
-use mls_scripts::{SCRIPT_LIMIT, ServeFault};
+use mls_monitor::Feed;
+use mls_scripts::{SCRIPT_LIMIT, ScriptFeed, ServeFault};
 use std::alloc::{AllocError, Global};
 use std::cell::Cell;
 use std::process::Abort;
@@ -80,9 +81,18 @@ const SCRIPTS: [Case; 10] = [
     (b"ann get-read plans\nann get-read plans", b"yes\nyes\n", 2),
 ];
 
-/// Asserts the answers to the scripts above, in pieces of three sizes.
+/// Whether a feed that gave nothing yet has all of its script left.
+fn is_all_left(alloc: Global, names: &Names<Global>, script: &[u8]) -> bool {
+    let feed = ScriptFeed::new(alloc, names, script);
+    let is_all = feed.left() == script.len() as u64;
+    drop(feed);
+    is_all
+}
+
+/// Asserts the answers to the scripts above, in pieces of three sizes, and how much of them a feed has left at first.
 pub fn scripts_are_answered(rt: &impl Abort, alloc: Global, names: &Names<Global>) {
     for (script, answers, entries) in &SCRIPTS {
+        sees_at(rt, is_all_left(alloc, names, script), script.len());
         for most in &[1, 7, 65_536] {
             let is_right = is_answered(alloc, names, script, *most, answers, *entries);
             sees_at(rt, is_right, *most);

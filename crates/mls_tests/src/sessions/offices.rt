@@ -1,4 +1,5 @@
 //! Offices of one session, of two and of as many as there can be, on one thread.
+ghost use Rattle.std.specs.Prelude.{◌≡◌, false};
 ghost use Rattle.mls_sessions.specs.Sessions.{Ascending};
 
 use super::many::share_one_journal;
@@ -24,7 +25,8 @@ enum Test {
 
 /// Hands an office and its sessions on to a test.
 fn hand_on<R: Wait + Abort>(rt: &R, office: Office, sessions: Vec<Session>, test: Test)
-    requires { Ascending office 0 sessions.items }
+    requires sessions { Ascending office 0 sessions.items }
+    requires forgets { office.charter.lasts ≡ false }
 {
     match test {
         Test::OneTries(before) => over_one(rt, office, sessions, before),
@@ -91,6 +93,11 @@ fn an_office_goes_on_with_a_replayed_journal(rt: HostRuntime) {
 #[test]
 fn sessions_that_meet_know_the_same(rt: HostRuntime) {
     open(&rt, rt.alloc(), 0, 2, Test::Two(Deeds::AskAndMeet));
+}
+
+#[test]
+fn one_of_two_sessions_is_answered_at_once(rt: HostRuntime) {
+    open(&rt, rt.alloc(), 0, 2, Test::Two(Deeds::OneTries));
 }
 
 #[test]

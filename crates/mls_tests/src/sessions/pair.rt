@@ -1,6 +1,8 @@
 //! Two sessions of one office.
+ghost use Rattle.std.specs.Prelude.{◌≡◌, false};
 ghost use Rattle.mls_sessions.specs.Sessions.{IsOf, Ascending};
 
+use super::at_once::{forgets_first, held, is_let_read};
 use super::standard::{ANN, BOB, PLANS, get, level, release};
 use crate::seen::sees;
 use mls_requests::{Entry, Reply, Request};
@@ -15,6 +17,7 @@ use std::sync::Wait;
 pub enum Deeds {
     AskAndMeet,
     GiveUpAndOn,
+    OneTries,
 }
 
 /// Whether an answer is that a request was granted, by entry `number` of session `made_by`.
@@ -102,6 +105,22 @@ fn give_up_and_on<R: Wait + Abort>(
     both_know(rt, first, (3, 1), second, (3, 2));
 }
 
+/// The second session tries while the first is away from the gate, and is answered.
+fn one_tries(rt: &impl Abort, office: &Office, second: &mut Session)
+    requires { IsOf office.now second.old × (office.now.charter.lasts ≡ false) }
+    ensures { IsOf office.now second.new }
+{
+    sees(rt, is_let_read(office, second, 0, 1), "an entry");
+    let reads = held(office, second, Mode::Read);
+    sees(rt, reads == Some(true), "what is read");
+    let writes = held(office, second, Mode::Write);
+    sees(rt, writes == Some(false), "what is written");
+    sees(rt, knows(second, 1, 1), "what it made");
+    sees(rt, forgets_first(office, second), "what is forgotten");
+    sees(rt, is_let_read(office, second, 1, 1), "an entry");
+    sees(rt, knows(second, 2, 2), "what it made");
+}
+
 /// Has the two sessions do that.
 fn meet_over<R: Wait + Abort>(
     rt: &R,
@@ -110,12 +129,14 @@ fn meet_over<R: Wait + Abort>(
     second: &mut Session,
     deeds: Deeds,
 )
-    requires { IsOf office.now first × IsOf office.now second.old }
+    requires sessions { IsOf office.now first × IsOf office.now second.old }
+    requires forgets { office.now.charter.lasts ≡ false }
 {
     sees(rt, first.number() == 0 && second.number() == 1, "numbers");
     match deeds {
         Deeds::AskAndMeet => ask_and_meet(rt, office, &mut first, second),
         Deeds::GiveUpAndOn => give_up_and_on(rt, office, &mut first, second),
+        Deeds::OneTries => one_tries(rt, office, second),
     }
     drop(first);
 }
@@ -123,7 +144,8 @@ fn meet_over<R: Wait + Abort>(
 /// Has the two sessions of an office do that.
 #[tactic(auto, using(crate::proofs::Lists::ascending_last))]
 pub fn over_two<R: Wait + Abort>(rt: &R, office: Office, mut sessions: Vec<Session>, deeds: Deeds)
-    requires { Ascending office 0 sessions.items }
+    requires sessions { Ascending office 0 sessions.items }
+    requires forgets { office.charter.lasts ≡ false }
 {
     sees(rt, office.base() == 0, "the base");
     let Some(mut second) = sessions.pop() else {
