@@ -1,4 +1,5 @@
 pub mod Cuts
+pub mod Gathering
 pub mod Gets
 mod Joins
 pub mod Likes
