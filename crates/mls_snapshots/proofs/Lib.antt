@@ -1,4 +1,5 @@
 pub mod Cuts
+mod Gathered
 pub mod Gathering
 pub mod Gets
 mod Joins
@@ -17,4 +18,5 @@ pub mod SchemeTexts
 mod StartNames
 pub mod States
 pub mod SubjectTables
+mod TextRead
 pub mod Within

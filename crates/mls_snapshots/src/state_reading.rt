@@ -1,9 +1,9 @@
 //! States read from their text.
-ghost use Rattle.std.specs.Prelude.{◌≡◌, IfOk, IfErr, OnOk, string_bytes};
-ghost use Rattle.mls_snapshots.specs.Reading.{IsOfStart, IsOver, HasLabelsWithin};
-ghost use Rattle.mls_snapshots.specs.Renumbering.{HasSameSubjects};
+ghost use Rattle.std.specs.Prelude.{◌≡◌, IsTrue, IfOk, IfErr, OnOk};
+ghost use Rattle.mls_snapshots.specs.Reading.{IsOfStart, IsOver, IsTextOver, HasLabelsWithin};
 ghost use Rattle.mls_snapshots.specs.States.{state_text};
 ghost use Rattle.mls_state.specs.Properties.{IsSecure};
+ghost use Rattle.mls_state.specs.State.{State as StateView, is_subject};
 
 use crate::names::is_same_text;
 use crate::read_fault::ReadStateFault;
@@ -31,7 +31,12 @@ fn first_difference(one: &str, other: &str) -> u64 {
 }
 
 /// The state that the lines of a text say, if they say one; any other where they don't.
-fn read_lines(alloc: Global, names: &Names, text: &str) -> Result<State, ReadStateFault> {
+fn read_lines(alloc: Global, names: &Names, text: &str) -> Result<State, ReadStateFault>
+    ensures state { (start v : StateView) → IsTrue (is_subject start 0) → IsTextOver names.now start v text.now
+        → IfOk result (λ state. state ≡ v) }
+    ensures accepted { (start v : StateView) → IsTrue (is_subject start 0) → IsTextOver names.now start v text.now
+        → IfErr result (λ fault. fault ≡ ReadStateFault.Memory) }
+{
     let rows = StateRows::read(alloc, names, text)?;
     let rebuilt = rebuild(alloc, names, &rows);
     drop(rows);
