@@ -1,9 +1,9 @@
 -- The text of a state over a start: its rows are within what is read, and say all of that state.
-use Rattle.std.proofs.Common.{◌≡◌, ℕ, zero, suc, ◌<◌, ◌≤◌, true, List, [], ◌∷◌, ◌++◌, length, Option, Some, None, sym, ap, subst, ◌∙◌, arith}
+use Rattle.std.proofs.Common.{◌≡◌, ℕ, zero, suc, ◌<◌, ◌≤◌, true, List, [], ◌∷◌, ◌++◌, length, Option, Some, None, Result, Ok, Err, sym, ap, subst, ◌∙◌, arith}
 use Rattle.std.proofs.lemmas.Bool.{and_parts}
 use Rattle.std.proofs.lemmas.Bool.Decides.{nat_tests}
 use Rattle.std.proofs.lemmas.Str.{IsUtf8-from_ascii, IsAscii-append}
-use Rattle.std.specs.Prelude.{nat_lt, is_some, IfSome, IsTrue}
+use Rattle.std.specs.Prelude.{nat_lt, is_some, IfSome, IfErr, IsTrue}
 use Rattle.std.specs.FinMap as maps
 use Rattle.std.specs.List.{list_all}
 use Rattle.std.specs.Str.{IsAscii, IsUtf8}
@@ -111,3 +111,12 @@ module _ (names : Names) (start v : State) (text : List ℕ) (of : IsTextOver na
 
   pub all_said : (rows : StateRows) → Says (said_by rows) (rows_of v) → SaysAll v rows
   all_said = says_all v (length names.subjects) (counted names start of.named.tied of.named.few v of.over) of.named.few.subjects of.over.tree of.over.whole
+
+-- the text of bytes
+pub with_bytes : (names : Names) (start v : State) (text bytes : List ℕ) → text ≡ bytes → IsTextOver names start v bytes → IsTextOver names start v text
+with_bytes names start v text bytes same of = record { named = of.named; over = of.over; written = of.written ∙ sym same }
+
+-- what holds of a fault where a premise does
+pub err_when : {T E : Type 0} (r : Result T E) (P : Type 0) (Q : E → Type 0) → IfErr r (λ e. P → Q e) → P → IfErr r Q
+err_when (Ok x) P Q so is = tt
+err_when (Err e) P Q so is = so is

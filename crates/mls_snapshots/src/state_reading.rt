@@ -9,6 +9,7 @@ use crate::names::is_same_text;
 use crate::read_fault::ReadStateFault;
 use crate::rebuilding::rebuild;
 use crate::state_comparing::is_over;
+use crate::state_line::words_are_seen;
 use crate::state_rows::StateRows;
 use crate::state_writing::state_text;
 use mls_lines::Names;
@@ -70,7 +71,11 @@ fn compare_text(
 
 /// The state whose text this is.
 fn read_text(alloc: Global, names: &Names, text: &str) -> Result<State, ReadStateFault>
-    ensures { IfOk result (λ state. state_text names.now state ≡ text.now) }
+    ensures text { IfOk result (λ state. state_text names.now state ≡ text.now) }
+    ensures state { (start v : StateView) → IsTrue (is_subject start 0) → IsTextOver names.now start v text.now
+        → IfOk result (λ state. state ≡ v) }
+    ensures accepted { (start v : StateView) → IsTrue (is_subject start 0) → IsTextOver names.now start v text.now
+        → IfErr result (λ fault. fault ≡ ReadStateFault.Memory) }
 {
     let state = read_lines(alloc, names, text)?;
     match compare_text(alloc, names, &state, text) {
@@ -119,7 +124,11 @@ pub fn read_state(
     ensures within { IfOk result (λ begun. HasLabelsWithin begun) }
     ensures over { IfOk result (λ begun. IsOver start.now begun) }
     ensures secure { IfOk result (λ begun. IsSecure begun) }
+    ensures reads { (v : StateView) → IsTextOver names.now start.now v bytes.now → IsSecure v
+        → IfErr result (λ fault. fault ≡ ReadStateFault.Memory) }
 {
+    words_are_seen(names);
+    let _ = start.subject_count();
     let Ok(text) = str::from_utf8(bytes) else {
         return Err(ReadStateFault::Line(1));
     };
