@@ -1,6 +1,5 @@
 -- Lines that are read one by one, and what is said with each.
-use Rattle.std.proofs.Common.{◌≡◌, ℕ, zero, suc, ◌+◌, ◌<◌, ◌≤◌, Bool, true, false, List, [], ◌∷◌, ◌++◌, length, get_or, Option, Some, None, refl, sym, subst, ap, ◌∙◌, arith}
-use Rattle.std.specs.Prelude.{codes}
+use Rattle.std.proofs.Common.{◌≡◌, ℕ, zero, suc, ◌<◌, true, List, [], ◌∷◌, ◌++◌, length, get_or, Option, Some, None, refl, sym, ap, ◌∙◌, arith}
 use Rattle.std.specs.List.{list_all}
 use Rattle.std.proofs.lemmas.Bool.{and_parts}
 use Rattle.std.proofs.lemmas.Option.{same_Some}
@@ -8,7 +7,6 @@ use Rattle.mls_lines.specs.Labels.{is_label_byte}
 use Rattle.mls_lines.specs.Names.{Names}
 use Rattle.mls_state.specs.declared.table.Table.TheVariants.{Matrix, Accesses}
 use Rattle.mls_wording.specs.ReadBack.{HasNames}
-use Rattle.mls_snapshots.specs.declared.state_line.ObjectParts.{ObjectParts}
 use Rattle.mls_snapshots.specs.declared.state_line.StateLine.{StateLine}
 use Rattle.mls_snapshots.specs.Gathering.{Said, with_line, with_rows}
 use Rattle.mls_snapshots.specs.LineReading.{front, behind}

@@ -1,5 +1,5 @@
 -- The text of a state over a start: its rows are within what is read, and say all of that state.
-use Rattle.std.proofs.Common.{◌≡◌, ℕ, zero, suc, ◌<◌, ◌≤◌, true, List, [], ◌∷◌, ◌++◌, length, Option, Some, None, Result, Ok, Err, sym, ap, subst, ◌∙◌, arith}
+use Rattle.std.proofs.Common.{◌≡◌, ℕ, zero, suc, ◌<◌, ◌≤◌, true, List, [], ◌∷◌, length, Option, Some, None, Result, Ok, Err, sym, ap, subst, ◌∙◌, arith}
 use Rattle.std.proofs.lemmas.Bool.{and_parts}
 use Rattle.std.proofs.lemmas.Bool.Decides.{nat_tests}
 use Rattle.std.proofs.lemmas.Str.{IsUtf8-from_ascii, IsAscii-append}
@@ -12,8 +12,8 @@ use Rattle.mls_lines.specs.Labels.{is_label_byte}
 use Rattle.mls_lines.specs.Names.{Names}
 use Rattle.mls_lines.proofs.AsciiBytes.{label_is_ascii}
 use Rattle.mls_start_file.specs.Ties.{AreTied, HasFewNames}
-use Rattle.mls_state.specs.State.{State, is_subject, is_active}
-use Rattle.mls_tables.specs.declared.limits.TheConstants.{MAX_SUBJECTS, MAX_OBJECTS}
+use Rattle.mls_state.specs.State.{State, is_subject}
+use Rattle.mls_tables.specs.declared.limits.TheConstants.{MAX_OBJECTS}
 use Rattle.mls_wording.specs.ReadBack.{HasNames}
 use Rattle.mls_snapshots.specs.declared.state_rows.StateRows.{StateRows}
 use Rattle.mls_snapshots.specs.Gathering.{Says, said_by}

@@ -1,6 +1,5 @@
 -- What the rows of a text say, thing by thing.
-use Rattle.std.specs.Prelude.{◌≡◌, ◌≤◌, ℕ, List, [], ◌∷◌, ◌++◌, length, Option, Some, None, slice_index_or, slice_set}
-use Rattle.mls_lines.specs.Names.{Names}
+use Rattle.std.specs.Prelude.{◌≡◌, ℕ, List, [], ◌∷◌, ◌++◌, length, Option, Some, None, slice_index_or, slice_set}
 use Rattle.mls_state.specs.declared.subject.Subject.{Subject}
 use Rattle.mls_state.specs.declared.table.Table.TheVariants.{Matrix, Accesses}
 use Rattle.mls_tables.specs.Triples.{Triple}

@@ -1,6 +1,4 @@
-use Rattle.std.proofs.Common.{rules, ◌≡◌, None, Some, Ok, sym, ◌∙◌, ap}
-use Rattle.std.proofs.lemmas.Option.{same_Some}
-use Rattle.mls_state.specs.State.{State as StateView}
+use Rattle.std.proofs.Common.{rules, ◌≡◌, None, Some, sym, ◌∙◌}
 use Rattle.mls_snapshots.specs.declared.read_fault.ReadStateFault.TheVariants.{Memory}
 use Rattle.mls_snapshots.proofs.RowsOf.{rows_of}
 use Rattle.mls_snapshots.proofs.TextRead.{rows_within, rows_text, is_named, all_said}

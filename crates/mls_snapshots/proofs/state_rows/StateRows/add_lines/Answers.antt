@@ -1,4 +1,4 @@
-use Rattle.std.proofs.Common.{rules, ℕ, ◌<◌, ◌≡◌, length, ap, arith}
+use Rattle.std.proofs.Common.{rules, ◌<◌, ◌≡◌, length, ap, arith}
 use Rattle.std.proofs.lemmas.Bool.Decides.{nat_tests}
 use Rattle.mls_snapshots.specs.Gathering.{said_by}
 use Rattle.mls_snapshots.specs.LineReading.{front, behind}
