@@ -1,4 +1,6 @@
 pub mod Cuts
+mod Gathered
+pub mod Gathering
 pub mod Gets
 mod Joins
 pub mod Likes
@@ -16,4 +18,5 @@ pub mod SchemeTexts
 mod StartNames
 pub mod States
 pub mod SubjectTables
+mod TextRead
 pub mod Within

@@ -1,6 +1,6 @@
 -- What is written of a row is read as that row.
-use Rattle.std.proofs.Common.{◌≡◌, ◌≢◌, ℕ, zero, suc, ◌+◌, ◌<◌, ◌≤◌, ◌^◌, ◌⊎◌, inl, inr, Bool, true, false, cond, List, [], ◌∷◌, ◌++◌, length, get_or, Option, Some, None, Ok, refl, sym, subst, ap, ◌∙◌, arith}
-use Rattle.std.proofs.lemmas.Bool.{and_parts, both_ways}
+use Rattle.std.proofs.Common.{◌≡◌, ℕ, ◌<◌, inl, inr, Bool, true, false, List, [], ◌∷◌, Option, Some, None, Ok, refl, ap, ◌∙◌, arith}
+use Rattle.std.proofs.lemmas.Bool.{and_parts}
 use Rattle.std.proofs.lemmas.Bool.Decides.{nat_tests}
 use Rattle.std.proofs.lemmas.Fmt.{decimal_digit}
 use Rattle.std.proofs.lemmas.Slice.Eq.{bytes_eq-Decides}
@@ -17,13 +17,11 @@ use Rattle.mls_labels.specs.LabelText.{Spells, written}
 use Rattle.mls_labels.specs.Names.{is_name, is_name_byte}
 use Rattle.mls_labels.specs.Reading.{place_of, label_at}
 use Rattle.mls_labels.specs.Scheme.{Scheme, IsScheme}
-use Rattle.mls_lines.specs.Grammar.{IsNamed, IsNumber}
 use Rattle.mls_lines.specs.Labels.{is_label_byte}
 use Rattle.mls_lines.specs.Names.{Names}
 use Rattle.mls_requests.specs.ModeWords.{mode_word, read_mode}
-use Rattle.mls_state.specs.declared.table.Table.{Table}
 use Rattle.mls_state.specs.declared.table.Table.TheVariants.{Matrix, Accesses}
-use Rattle.mls_tables.specs.declared.limits.TheConstants.{MAX_SUBJECTS, MAX_OBJECTS}
+use Rattle.mls_tables.specs.declared.limits.TheConstants.{MAX_OBJECTS}
 use Rattle.mls_tables.specs.declared.mode.Mode.{Mode}
 use Rattle.mls_tables.specs.declared.mode.Mode.TheVariants.{Execute, Read, Append, Write}
 use Rattle.mls_tree.specs.declared.profile.Profile.{Profile}

@@ -46,32 +46,32 @@ tests_alike true b to back = sym (to refl)
 tests_alike false true to back = back refl
 tests_alike false false to back = refl
 
-from_some : {X : Type 0} (P : X → Type 0) (o : Option X) (x : X) → o ≡ Some x → IfSome o P → P x
+pub from_some : {X : Type 0} (P : X → Type 0) (o : Option X) (x : X) → o ≡ Some x → IfSome o P → P x
 from_some {X} P o x is holds = subst (λ (q : Option X). IfSome q P) is holds
 
 module _ (names : Names) (start : State) (tied : AreTied names start) (few : HasFewNames names) where
   -- the bounds of states over the start are those of the schemes
-  security_is : (v : State) → IsOver start v → v.security ≡ bounds_of names.security
+  pub security_is : (v : State) → IsOver start v → v.security ≡ bounds_of names.security
   security_is v over = over.start.security ∙ tied.security
 
-  integrity_is : (v : State) → IsOver start v → v.integrity ≡ bounds_of names.integrity
+  pub integrity_is : (v : State) → IsOver start v → v.integrity ≡ bounds_of names.integrity
   integrity_is v over = over.start.integrity ∙ tied.integrity
 
-  in_security : (v : State) → IsOver start v → (l : Label) → has_label v.security l ≡ true → IsOf names.security l
+  pub in_security : (v : State) → IsOver start v → (l : Label) → has_label v.security l ≡ true → IsOf names.security l
   in_security v over l has = ap (λ (b : Bounds). has_label b l) (sym (security_is v over)) ∙ has
 
-  in_integrity : (v : State) → IsOver start v → (l : Label) → has_label v.integrity l ≡ true → IsOf names.integrity l
+  pub in_integrity : (v : State) → IsOver start v → (l : Label) → has_label v.integrity l ≡ true → IsOf names.integrity l
   in_integrity v over l has = ap (λ (b : Bounds). has_label b l) (sym (integrity_is v over)) ∙ has
 
   -- their subjects are those of the start
-  known_few : (v : State) → IsOver start v → (s : ℕ) → is_subject v s ≡ true → s < MAX_SUBJECTS
+  pub known_few : (v : State) → IsOver start v → (s : ℕ) → is_subject v s ≡ true → s < MAX_SUBJECTS
   known_few v over s known =
       let same : nat_lt s (length names.subjects) ≡ true = sym (tied.known s) ∙ ap (λ m. maps.contains_key m s) (sym over.start.subjects.maximum) ∙ known in
       let below : s < length names.subjects = grind (arith, nat_tests, same) in
       let many : length names.subjects ≤ MAX_SUBJECTS = few.subjects in
       omega (arith, below, many)
 
-  active_few : (v : State) → IsOver start v → (o : ℕ) → is_active v o ≡ true → o < MAX_OBJECTS
+  pub active_few : (v : State) → IsOver start v → (o : ℕ) → is_active v o ≡ true → o < MAX_OBJECTS
   active_few v over o active = over.tree.objects.below o active
 
   -- rows of such a state fit
@@ -81,7 +81,7 @@ module _ (names : Names) (start : State) (tied : AreTied names start) (few : Has
       let below : q < 4096 = active_few v over q (over.tree.objects.children_active o q e).1 in
       omega (arith, below)
 
-  known_triple : (v : State) → IsOver start v → (table : Table) (s o : ℕ) (x : Mode) → set.contains (triples_of table v) (s, o, x) ≡ true → (is_subject v s ≡ true) × (is_active v o ≡ true)
+  pub known_triple : (v : State) → IsOver start v → (table : Table) (s o : ℕ) (x : Mode) → set.contains (triples_of table v) (s, o, x) ≡ true → (is_subject v s ≡ true) × (is_active v o ≡ true)
   known_triple v over Matrix s o x is = and_parts (is_subject v s) (is_active v o) (over.tree.matrix_known (s, o, x) is)
   known_triple v over Accesses s o x is = and_parts (is_subject v s) (is_active v o) (over.tree.accesses_known (s, o, x) is)
 

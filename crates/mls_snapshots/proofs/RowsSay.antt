@@ -31,11 +31,11 @@ abbrev pub Each : (Row → Type 0) → List Row → Type 0
 Each P [] = Unit {0}
 Each P (row ∷ rows) = P row × Each P rows
 
-each_append : (P : Row → Type 0) (rows others : List Row) → Each P rows → Each P others → Each P (rows ++ others)
+pub each_append : (P : Row → Type 0) (rows others : List Row) → Each P rows → Each P others → Each P (rows ++ others)
 each_append P [] others h k = k
 each_append P (row ∷ rows) others h k = (h.0, each_append P rows others h.1 k)
 
-each_flat : (P : Row → Type 0) (f : ℕ → List Row) → ((k : ℕ) → Each P (f k)) → (ks : List ℕ) → Each P (flat_map f ks)
+pub each_flat : (P : Row → Type 0) (f : ℕ → List Row) → ((k : ℕ) → Each P (f k)) → (ks : List ℕ) → Each P (flat_map f ks)
 each_flat P f h [] = tt
 each_flat P f h (k ∷ ks) = each_append P (f k) (flat_map f ks) (h k) (each_flat P f h ks)
 

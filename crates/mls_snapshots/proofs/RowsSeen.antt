@@ -17,7 +17,7 @@ use Rattle.mls_tree.specs.declared.profile.Profile.TheVariants.{One, Two}
 use Rattle.mls_wording.specs.ReadBack.{HasNames, IsOf}
 use Rattle.mls_wording.specs.Wording.{subject_text, object_text, security_text, integrity_text}
 use Rattle.mls_wording.proofs.Laws.{WrittenLaw, mode_token, decimal_seen, label_token, number_token}
-use Rattle.mls_snapshots.specs.Rows.{are_seen, Row, Kind, Next, Subject, Object, Triple, trust_tokens, parent_tokens, words_of, IsNamedSubject, IsWithin}
+use Rattle.mls_snapshots.specs.Rows.{are_seen, Row, Kind, Next, Subject, Object, Triple, trust_tokens, parent_tokens, words_of, IsWithin}
 
 digits_seen : (n : ℕ) → n < 2 ^ 16 → list_all is_label_byte (decimal n) ≡ true
 digits_seen n fits = decimal_seen n (omega (arith, fits))

@@ -36,7 +36,7 @@ same_labels m n count first second same =
     (λ s. by_count count s (map.get n s ≡ map.get m s) (same s)
     (λ above. unknown_get n s (second s ∙ above) ∙ sym (unknown_get m s (first s ∙ above))))
 
-untrusted : (t : FinSet nat_cmp) (s : ℕ) (known : Bool) → known ≡ false → (IsTrue (set.contains t s) → IsTrue known) → set.contains t s ≡ false
+pub untrusted : (t : FinSet nat_cmp) (s : ℕ) (known : Bool) → known ≡ false → (IsTrue (set.contains t s) → IsTrue known) → set.contains t s ≡ false
 untrusted t s known unknown within = from (set.contains t s) refl where
   from : (b : Bool) → set.contains t s ≡ b → set.contains t s ≡ false
   from false is = is

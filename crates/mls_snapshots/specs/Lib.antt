@@ -1,3 +1,4 @@
+pub mod Gathering
 pub mod LineReading
 pub mod Orders
 pub mod Reading

@@ -11,7 +11,6 @@ use Rattle.mls_labels.specs.Scheme.{Scheme}
 use Rattle.mls_lines.specs.Names.{Names}
 use Rattle.mls_requests.specs.ModeWords.{read_mode}
 use Rattle.mls_state.specs.declared.subject.Subject.{Subject}
-use Rattle.mls_state.specs.declared.table.Table.{Table}
 use Rattle.mls_state.specs.declared.table.Table.TheVariants.{Matrix, Accesses}
 use Rattle.mls_tables.specs.Triples.{Triple}
 use Rattle.mls_tables.specs.declared.limits.TheConstants.{MAX_OBJECTS}

@@ -1,10 +1,14 @@
 -- States that are read.
-use Rattle.std.specs.Prelude.{◌≡◌, ℕ, IsTrue, IfSome}
+use Rattle.std.specs.Prelude.{◌≡◌, ℕ, List, IsTrue, IfSome}
 use Rattle.std.specs.FinMap as map
 use Rattle.std.specs.FinSet as set
 use Rattle.mls_labels.specs.Label.{has_label}
+use Rattle.mls_lines.specs.Names.{Names}
+use Rattle.mls_start_file.specs.Ties.{AreTied, HasFewNames}
 use Rattle.mls_state.specs.Properties.{HasTree, HasWholeTables}
 use Rattle.mls_state.specs.State.{State}
+use Rattle.mls_wording.specs.ReadBack.{HasNames}
+use Rattle.mls_snapshots.specs.States.{state_text}
 
 -- A subject has the same maximum and integrity labels in two states, and is trusted in both or in neither. (own)
 pub record IsFixedSubject (v w : State) (s : ℕ) : Type 0 where
@@ -49,3 +53,16 @@ pub record IsOver (opening v : State) : Type 0 where
   pub tree : HasTree v
   pub whole : HasWholeTables v
   pub labels : HasLabelsWithin v
+
+-- Names are those of a start: they are NAMEs, each stands once, they go with the start, and there are no more than
+-- there may be. (own)
+pub record AreNamesOf (names : Names) (start : State) : Type 0 where
+  pub has : HasNames names
+  pub tied : AreTied names start
+  pub few : HasFewNames names
+
+-- A text is what is written of a state over a start, with the names of that start. (own)
+pub record IsTextOver (names : Names) (start v : State) (text : List ℕ) : Type 0 where
+  pub named : AreNamesOf names start
+  pub over : IsOver start v
+  pub written : state_text names v ≡ text

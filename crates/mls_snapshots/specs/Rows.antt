@@ -14,7 +14,6 @@ use Rattle.mls_tree.specs.declared.profile.Profile.{Profile}
 use Rattle.mls_wording.specs.ReadBack.{IsOf}
 use Rattle.mls_wording.specs.Wording.{subject_text, object_text, security_text, integrity_text}
 use Rattle.mls_snapshots.specs.States.{profile_number, word_of}
-use Rattle.mls_snapshots.specs.declared.state_line.ObjectParts.{ObjectParts}
 use Rattle.mls_snapshots.specs.declared.state_line.StateLine.{StateLine}
 use Rattle.mls_snapshots.specs.declared.state_line.StateLine.TheVariants as line
 

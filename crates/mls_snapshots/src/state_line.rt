@@ -1,8 +1,8 @@
 //! A line of a state's text.
-ghost use Rattle.std.specs.Prelude.{◌≡◌, Some};
+ghost use Rattle.std.specs.Prelude.{◌≡◌, Some, IsTrue};
 ghost use Rattle.mls_wording.specs.ReadBack.{HasNames};
 ghost use Rattle.mls_snapshots.specs.LineReading.{subject_in, parent_in, parts_in, triple_in, said_behind, said_in};
-ghost use Rattle.mls_snapshots.specs.Rows.{Row, IsWithin, row_line, said_of};
+ghost use Rattle.mls_snapshots.specs.Rows.{Row, IsWithin, are_seen, words_of, row_line, said_of};
 
 use crate::state_words::{cut, integrity, keyed, number, object, profile, security};
 use mls_labels::{a_text_is_read_as_it_is_spelled, a_written_label_is_spelled};
@@ -20,6 +20,7 @@ pub(crate) struct ObjectParts {
 }
 
 /// What a line of a state's text says.
+#[derive(Clone, Copy)]
 pub(crate) enum StateLine {
     Profile(Profile),
     Next(u16),
@@ -104,6 +105,16 @@ fn said(names: &Names, line: &str) -> Option<StateLine>
 {
     let (word, text) = cut(line, ' ');
     said_behind(names, word, text)
+}
+
+/// Each byte of a row's words is seen when printed. The function does nothing.
+pub(crate) fn words_are_seen(names: &Names)
+    ensures { (row : Row) → HasNames names.now → IsWithin names.now row → IsTrue (are_seen (words_of names.now row)) }
+{
+    // both schemes are sound, as their bounds tell
+    let _ = names.security().bounds();
+    let _ = names.integrity().bounds();
+    a_written_label_is_spelled();
 }
 
 /// What a line of a state's text says, with the names of a start. More than the lines of rows is read: what is read is

@@ -1,14 +1,15 @@
 //! States read from their text.
-ghost use Rattle.std.specs.Prelude.{◌≡◌, IfOk, IfErr, OnOk, string_bytes};
-ghost use Rattle.mls_snapshots.specs.Reading.{IsOfStart, IsOver, HasLabelsWithin};
-ghost use Rattle.mls_snapshots.specs.Renumbering.{HasSameSubjects};
+ghost use Rattle.std.specs.Prelude.{◌≡◌, IsTrue, IfOk, IfErr, OnOk};
+ghost use Rattle.mls_snapshots.specs.Reading.{IsOfStart, IsOver, IsTextOver, HasLabelsWithin};
 ghost use Rattle.mls_snapshots.specs.States.{state_text};
 ghost use Rattle.mls_state.specs.Properties.{IsSecure};
+ghost use Rattle.mls_state.specs.State.{State as StateView, is_subject};
 
 use crate::names::is_same_text;
 use crate::read_fault::ReadStateFault;
 use crate::rebuilding::rebuild;
 use crate::state_comparing::is_over;
+use crate::state_line::words_are_seen;
 use crate::state_rows::StateRows;
 use crate::state_writing::state_text;
 use mls_lines::Names;
@@ -31,7 +32,12 @@ fn first_difference(one: &str, other: &str) -> u64 {
 }
 
 /// The state that the lines of a text say, if they say one; any other where they don't.
-fn read_lines(alloc: Global, names: &Names, text: &str) -> Result<State, ReadStateFault> {
+fn read_lines(alloc: Global, names: &Names, text: &str) -> Result<State, ReadStateFault>
+    ensures state { (start v : StateView) → IsTrue (is_subject start 0) → IsTextOver names.now start v text.now
+        → IfOk result (λ state. state ≡ v) }
+    ensures accepted { (start v : StateView) → IsTrue (is_subject start 0) → IsTextOver names.now start v text.now
+        → IfErr result (λ fault. fault ≡ ReadStateFault.Memory) }
+{
     let rows = StateRows::read(alloc, names, text)?;
     let rebuilt = rebuild(alloc, names, &rows);
     drop(rows);
@@ -65,7 +71,11 @@ fn compare_text(
 
 /// The state whose text this is.
 fn read_text(alloc: Global, names: &Names, text: &str) -> Result<State, ReadStateFault>
-    ensures { IfOk result (λ state. state_text names.now state ≡ text.now) }
+    ensures text { IfOk result (λ state. state_text names.now state ≡ text.now) }
+    ensures state { (start v : StateView) → IsTrue (is_subject start 0) → IsTextOver names.now start v text.now
+        → IfOk result (λ state. state ≡ v) }
+    ensures accepted { (start v : StateView) → IsTrue (is_subject start 0) → IsTextOver names.now start v text.now
+        → IfErr result (λ fault. fault ≡ ReadStateFault.Memory) }
 {
     let state = read_lines(alloc, names, text)?;
     match compare_text(alloc, names, &state, text) {
@@ -114,7 +124,11 @@ pub fn read_state(
     ensures within { IfOk result (λ begun. HasLabelsWithin begun) }
     ensures over { IfOk result (λ begun. IsOver start.now begun) }
     ensures secure { IfOk result (λ begun. IsSecure begun) }
+    ensures reads { (v : StateView) → IsTextOver names.now start.now v bytes.now → IsSecure v
+        → IfErr result (λ fault. fault ≡ ReadStateFault.Memory) }
 {
+    words_are_seen(names);
+    let _ = start.subject_count();
     let Ok(text) = str::from_utf8(bytes) else {
         return Err(ReadStateFault::Line(1));
     };
