@@ -127,6 +127,7 @@ pub fn read_state(
     ensures reads { (v : StateView) → IsTextOver names.now start.now v bytes.now → IsSecure v
         → IfErr result (λ fault. fault ≡ ReadStateFault.Memory) }
 {
+    // the lines of rows are text, and the start has subject 0
     words_are_seen(names);
     let _ = start.subject_count();
     let Ok(text) = str::from_utf8(bytes) else {
