@@ -37,7 +37,7 @@ pub record HasFirst (r : Rows) (old new : Draft) : Type 0 where
 
 -- The last sections are appended, in this order: who held what, who may change what, what could come about, how many
 -- entries there are, the labels, and what was verified of a journal of so many entries. (own)
-pub record HasLast (many : ℕ) (found : Option Found) (old new : Draft) : Type 0 where
+pub record HasLast (r : Rows) (old new : Draft) : Type 0 where
   pub behind_held : Draft
   pub behind_powers : Draft
   pub behind_futures : Draft
