@@ -1,2 +1,6 @@
+mod Counting
+mod Cuts
 mod Granted
 mod InTurn
+mod Listed
+mod Shares

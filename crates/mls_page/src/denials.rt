@@ -6,9 +6,8 @@ use crate::bar::Colour;
 use crate::cell::{Cell, add_cells};
 use crate::moment::moment_cell;
 use crate::parts::{Part, add_parts};
-use crate::section::{
-    DENIALS, add_listed, add_paragraph, begin_appendix, end_line, heaviest, lighter, rest_of,
-};
+use crate::section::{DENIALS, add_listed, add_paragraph, end_line};
+use crate::shown::{begin_appendix, heaviest, lighter, rest_of};
 use crate::table::{begin_table, end_table};
 use crate::walked::Walked;
 use mls_lines::Names;

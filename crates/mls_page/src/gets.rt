@@ -1,5 +1,10 @@
 //! How many gets of permissions there are, in columns.
+ghost use Rattle.std.specs.Prelude.{◌≡◌};
+ghost use Rattle.mls_page.specs.Gets.{denied_of, gets_of, granted_of, number_where, titled};
+ghost use Rattle.mls_page.specs.Tables.{cell_of};
+
 use crate::cell::Cell;
+use crate::cutting::{Column, sum_of};
 use mls_spans::Usage;
 
 /// How many gets of permissions there are: a column that would have only zeros isn't there.
@@ -9,26 +14,63 @@ pub(crate) struct Gets {
     pub denied: u64,
 }
 
-/// How many gets of all permissions there are.
-pub(crate) fn gets_of(usages: &[Usage]) -> Gets {
-    let mut gets = Gets {
-        granted: 0,
-        denied: 0,
-    };
-    for usage in usages {
-        gets.granted = gets.granted.saturating_add(usage.uses.granted);
-        gets.denied = gets.denied.saturating_add(usage.uses.denied);
+/// The granted gets of permissions.
+struct Granted;
+
+impl Column<Usage> for Granted {
+    ghost number_of = { λ u. u.uses.granted };
+
+    fn of(row: &Usage) -> u64 {
+        row.uses.granted
     }
-    gets
+}
+
+/// The denied ones.
+struct Denied;
+
+impl Column<Usage> for Denied {
+    ghost number_of = { λ u. u.uses.denied };
+
+    fn of(row: &Usage) -> u64 {
+        row.uses.denied
+    }
+}
+
+/// How many gets of permissions were granted.
+pub(crate) fn granted_of(usages: &[Usage]) -> u64
+    ensures { result ≡ granted_of usages.now }
+{
+    sum_of::<Usage, Granted>(usages)
+}
+
+/// How many were denied.
+pub(crate) fn denied_of(usages: &[Usage]) -> u64
+    ensures { result ≡ denied_of usages.now }
+{
+    sum_of::<Usage, Denied>(usages)
+}
+
+/// How many gets of all permissions there are.
+pub(crate) fn gets_of(usages: &[Usage]) -> Gets
+    ensures { result ≡ gets_of usages.now }
+{
+    Gets {
+        granted: granted_of(usages),
+        denied: denied_of(usages),
+    }
 }
 
 /// The title of a column, where it has something but zeros.
-pub(crate) fn titled(title: &'static str, sum: u64) -> &'static str {
+pub(crate) fn titled(title: &'static str, sum: u64) -> &'static str
+    ensures { result.now ≡ titled title.now sum }
+{
     if sum == 0 { "" } else { title }
 }
 
 /// The cell of a number, where its column has something but zeros.
-pub(crate) fn number_where(sum: u64, number: u64) -> Cell<'static> {
+pub(crate) fn number_where(sum: u64, number: u64) -> Cell<'static>
+    ensures { cell_of result ≡ number_where sum number }
+{
     if sum == 0 {
         Cell::Nothing
     } else {

@@ -1,10 +1,18 @@
 //! Spans in which one access was held.
-ghost use Rattle.std.specs.Prelude.{◌≡◌, ◌<◌};
+ghost use Rattle.std.specs.Prelude.{◌≡◌, ◌<◌, map, IfOk};
+ghost use Rattle.mls_page.specs.Held.{
+  IsByAccess,
+  access_of,
+  first_state,
+  last_state,
+  length_of,
+  states_of,
+};
 ghost use Rattle.mls_spans.specs.Kept.{key_of};
 ghost use Rattle.mls_tables.specs.Mode.{mode_number};
 
-use mls_groups::{Group, Grouping, by_weight};
-use mls_spans::Span;
+use crate::cutting::Column;
+use mls_spans::{Ending, Span};
 use mls_tables::{Mode, ObjectId, SubjectId};
 use std::alloc::{AllocError, Global};
 
@@ -29,68 +37,81 @@ fn access_key(access: (SubjectId, ObjectId, Mode)) -> u64
     u64::from(s.number()) * 262_144 + u64::from(o.number()) * 4 + mode_key(x)
 }
 
-/// The keys of spans, by their accesses.
-pub(crate) fn access_keys(alloc: Global, spans: &[Span]) -> Result<Vec<u64>, AllocError> {
-    let mut keys = Vec::new(alloc);
-    for span in spans {
-        keys.push(access_key(span.access))?;
+/// Spans by their accesses.
+pub(crate) struct ByAccess;
+
+impl Column<Span> for ByAccess {
+    ghost number_of = { access_of };
+
+    fn of(row: &Span) -> u64 {
+        access_key(row.access)
     }
-    Ok(keys)
+}
+
+/// Spans in the order of their accesses.
+///
+/// # Errors
+/// `AllocError` where an allocation failed.
+pub(crate) fn sorted_spans(alloc: Global, spans: &[Span]) -> Result<Vec<Span>, AllocError>
+    ensures { IfOk result (λ sorted. IsByAccess spans.now sorted.items) }
+{
+    let mut sorted = Vec::from_slice(alloc, spans)?;
+    sorted.sort_by_key(|span| access_key(span.access))?;
+    Ok(sorted)
 }
 
 /// The first state of a span, counted from the one before entry 0.
-pub(crate) fn first_state(span: &Span) -> u64 {
+pub(crate) fn first_state(span: &Span) -> u64
+    ensures { result ≡ first_state span.now.made }
+{
     match span.made {
         Some(number) => number.saturating_add(1),
         None => 0,
     }
 }
 
-/// How many states a span has, in a journal of so many entries.
-pub(crate) fn length_of(span: &Span, entries: u64) -> u64 {
-    let last = match span.ended {
+/// Its last state, in a journal of so many entries.
+fn last_state(entries: u64, ended: Option<Ending>) -> u64
+    ensures { result ≡ last_state entries ended }
+{
+    match ended {
         Some(ending) => ending.number,
         None => entries,
-    };
-    last.saturating_add(1).saturating_sub(first_state(span))
-}
-
-/// In how many states the access of a group was held.
-fn weight_of(spans: &[Span], members: &[(u64, usize)], entries: u64) -> u64 {
-    let mut weight = 0u64;
-    for (_, place) in members {
-        if let Some(span) = spans.get(*place) {
-            weight = weight.saturating_add(length_of(span, entries));
-        }
     }
-    weight
 }
 
-/// The places of groups, by in how many states each access was held.
-pub(crate) fn in_order(
+/// How many states a span has, in a journal of so many entries.
+pub(crate) fn length_of(entries: u64, span: &Span) -> u64
+    ensures { result ≡ length_of entries span.now }
+{
+    last_state(entries, span.ended)
+        .saturating_add(1)
+        .saturating_sub(first_state(span))
+}
+
+/// In how many states the access of some spans was held.
+#[tactic(auto, using(crate::proofs::Counting::sum_next))]
+fn states_of(entries: u64, spans: &[Span]) -> u64
+    ensures { result ≡ states_of entries spans.now }
+{
+    let mut states = 0u64;
+    for span in spans {
+        states = states.saturating_add(length_of(entries, span));
+    }
+    states
+}
+
+/// The same of each access.
+pub(crate) fn all_states(
     alloc: Global,
-    spans: &[Span],
-    grouping: &Grouping,
     entries: u64,
-) -> Result<Vec<usize>, AllocError> {
-    let mut weights = Vec::new(alloc);
-    for group in &grouping.groups {
-        let members = grouping.members_of(group);
-        weights.push(weight_of(spans, members, entries))?;
+    runs: &[&[Span]],
+) -> Result<Vec<u64>, AllocError>
+    ensures { IfOk result (λ states. states.items ≡ map (states_of entries) (map (λ run. run.now) runs.now)) }
+{
+    let mut states = Vec::new(alloc);
+    for run in runs {
+        states.push(states_of(entries, run))?;
     }
-    let places = by_weight(alloc, &weights);
-    drop(weights);
-    places
-}
-
-/// The first span of a group, and the last.
-pub(crate) fn ends_of<'a>(
-    spans: &'a [Span],
-    grouping: &Grouping,
-    group: &Group,
-) -> Option<(&'a Span, &'a Span)> {
-    let members = grouping.members_of(group);
-    let (_, first) = *members.first()?;
-    let (_, last) = *members.last()?;
-    Some((spans.get(first)?, spans.get(last)?))
+    Ok(states)
 }

@@ -7,9 +7,8 @@ use crate::cell::{Cell, add_cells};
 use crate::drawing::Drawing;
 use crate::lattice::{Lattice, Node};
 use crate::parts::{Part, add_parts};
-use crate::section::{
-    LATTICE, add_listed, add_paragraph, begin_appendix, end_line, heaviest, lighter, rest_of,
-};
+use crate::section::{LATTICE, add_listed, add_paragraph, end_line};
+use crate::shown::{begin_appendix, heaviest, lighter, rest_of};
 use crate::table::{begin_table, end_table};
 use crate::weight::in_order;
 use mls_labels::SecLabel;

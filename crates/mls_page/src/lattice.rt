@@ -1,4 +1,6 @@
 //! The labels of a state, and which of them covers which.
+ghost use Rattle.std.specs.Prelude.{length};
+
 use crate::weight::Weighed;
 use mls_labels::SecLabel;
 use mls_review::{Cover, Holder, SHOWN, covering_pairs, distinct_labels, holders};
@@ -41,6 +43,8 @@ impl Node {
 }
 
 impl Weighed for Node {
+    ghost weight_of = { λ node. length node.holders.items };
+
     /// How many have the label.
     fn weight(&self) -> u64 {
         self.holders.len() as u64

@@ -1,191 +1,204 @@
 //! What subjects may change.
-ghost use Rattle.std.specs.Prelude.{codes, OnOk};
-ghost use Rattle.mls_page.specs.Sections.{Lists};
+ghost use Rattle.std.specs.Prelude.{◌≡◌, codes, length, map, IfOk, OnOk};
+ghost use Rattle.mls_groups.specs.Weights.{IsByWeight};
+ghost use Rattle.mls_markup.specs.Drafts.{added};
+ghost use Rattle.mls_markup.specs.Trees.{all_of};
+ghost use Rattle.mls_page.specs.Powers.{
+  HasPowers,
+  ShowsRuns,
+  kind_items,
+  kind_of,
+  power_row,
+  power_table,
+  power_tables,
+  powers,
+};
+ghost use Rattle.mls_page.specs.Runs.{runs_by};
+ghost use Rattle.mls_page.specs.Shown.{appendix, lighter, shown_at};
 
 use crate::cell::{Cell, add_cells};
+use crate::changes::{ByKind, ByMaker, kind_items, maker_of};
+use crate::cutting::cut;
 use crate::parts::{Part, add_parts};
-use crate::runs::{Run, Whole, runs_of, wholes_of};
-use crate::section::{
-    POWERS, add_listed, add_paragraph, begin_appendix, end_line, heaviest, lighter, rest_of,
-};
+use crate::section::{POWERS, add_paragraph, begin_listed, end_line};
+use crate::shown::{begin_appendix, heaviest, lighter, rest_of};
 use crate::table::{begin_table, end_table};
-use crate::weight::in_order;
-use mls_labels::SecLabel;
+use mls_groups::by_weight;
 use mls_lines::Names;
 use mls_markup::{Page, Tag};
-use mls_review::{Change, push_change};
+use mls_review::Change;
 use std::alloc::{AllocError, Global};
-
-/// How many changes of one kind are told of a subject, at most.
-const NAMED: usize = 3;
-
-/// How many labels are told that a change may be to, at most.
-const LABELS: usize = 3;
 
 const TITLES: [&str; 2] = ["Subject", "May"];
 
-/// The changes that a run has.
-fn changes_of<'a>(changes: &'a [Change], run: &Run) -> &'a [Change] {
-    let end = run.begin.saturating_add(run.count);
-    changes.get(run.begin..end).unwrap_or(&[])
-}
-
-/// Appends a change, as `powers` tells it.
-fn add_change(page: &mut Page, names: &Names, change: &Change) -> Result<(), AllocError> {
-    let mut text = String::new(page.alloc());
-    push_change(&mut text, names, change)?;
-    let done = page.text(&text);
-    drop(text);
-    done
-}
-
-/// Appends a change to one of many labels: the first of them, and how many more there are.
-fn add_cut(
-    page: &mut Page,
-    names: &Names,
-    change: &Change,
-    shown: &[SecLabel],
-    more: u64,
-) -> Result<(), AllocError> {
-    let Change::Labels(subject, relabeling, _) = change else {
-        return Ok(());
-    };
-    let shown = Vec::from_slice(page.alloc(), shown)?;
-    let front = Change::Labels(*subject, *relabeling, shown);
-    let done = add_change(page, names, &front);
-    drop(front);
-    done?;
-    let rest = Part::Text(" more");
-    add_parts(page, &[Part::Text(" and "), Part::Number(more), rest])
-}
-
-/// What a subject may change.
-fn power_item(page: &mut Page, names: &Names, change: &Change) -> Result<(), AllocError> {
-    page.open(Tag::Item)?;
-    match change {
-        Change::Labels(_, _, labels) if labels.len() > LABELS => {
-            let shown = labels.get(..LABELS).unwrap_or(&[]);
-            add_cut(
-                page,
-                names,
-                change,
-                shown,
-                labels.len().saturating_sub(LABELS) as u64,
-            )?;
-        }
-        Change::Labels(..) | Change::Over(..) => add_change(page, names, change)?,
-    }
-    page.close()
-}
-
-/// The changes of one kind: the first of them, and how many more there are.
-fn run_items(page: &mut Page, names: &Names, changes: &[Change]) -> Result<(), AllocError> {
-    for change in changes.iter().take(NAMED) {
-        power_item(page, names, change)?;
-    }
-    let more = changes.len().saturating_sub(NAMED);
-    if more == 0 {
-        return Ok(());
-    }
-    let parts = [
-        Part::Begin(Tag::Item),
-        Part::Text("and "),
-        Part::Number(more as u64),
-        Part::Text(" more of this kind"),
-        Part::End,
-    ];
-    add_parts(page, &parts)
-}
-
-/// The row of a subject.
-fn power_row(
-    page: &mut Page,
-    names: &Names,
-    changes: &[Change],
-    runs: &[Run],
-    whole: &Whole,
-) -> Result<(), AllocError> {
-    page.open(Tag::TableRow)?;
-    add_cells(page, &[Cell::Subject(names, whole.subject)])?;
-    page.open(Tag::TableCell)?;
-    page.open(Tag::Items)?;
+/// The changes of some kinds.
+fn all_kinds(page: &mut Page, names: &Names, runs: &[&[Change]]) -> Result<(), AllocError>
+    ensures { OnOk result
+        (page.new ≡ added page.old (all_of (kind_items names.now) (map (λ run. run.now) runs.now))) }
+{
     for run in runs {
-        if run.subject == whole.subject {
-            run_items(page, names, changes_of(changes, run))?;
-        }
-    }
-    add_parts(page, &[Part::End, Part::End, Part::End, Part::Line])
-}
-
-/// The table of subjects, in this order.
-fn power_table(
-    page: &mut Page,
-    names: &Names,
-    changes: &[Change],
-    runs: &[Run],
-    wholes: &[Whole],
-    places: &[usize],
-) -> Result<(), AllocError> {
-    begin_table(page, "After the last entry", &TITLES)?;
-    for place in places {
-        if let Some(whole) = wholes.get(*place) {
-            power_row(page, names, changes, runs, whole)?;
-        }
-    }
-    end_table(page)
-}
-
-/// The tables of subjects.
-fn power_tables(
-    page: &mut Page,
-    names: &Names,
-    changes: &[Change],
-    runs: &[Run],
-    wholes: &[Whole],
-    places: &[usize],
-) -> Result<(), AllocError> {
-    power_table(page, names, changes, runs, wholes, heaviest(places))?;
-    let rest = rest_of(places.len());
-    if rest > 0 {
-        begin_appendix(page, &POWERS, rest)?;
-        power_table(page, names, changes, runs, wholes, lighter(places))?;
-        end_line(page)?;
+        kind_items(page, names, run)?;
     }
     Ok(())
 }
 
-/// What subjects may change, of which there are these runs.
-fn add_wholes(
-    page: &mut Page,
-    names: &Names,
-    changes: &[Change],
-    runs: &[Run],
-    wholes: &[Whole],
-) -> Result<(), AllocError> {
-    let places = in_order(page.alloc(), wholes)?;
-    let done = power_tables(page, names, changes, runs, wholes, &places);
-    drop(places);
-    done
-}
-
-/// What subjects may change; where there is nothing, that there is none.
-fn add_changes(page: &mut Page, names: &Names, changes: &[Change]) -> Result<(), AllocError> {
-    if changes.is_empty() {
-        return add_paragraph(page, "No subject may change anything.");
-    }
-    let runs = runs_of(page.alloc(), changes)?;
-    let wholes = wholes_of(page.alloc(), &runs)?;
-    let done = add_wholes(page, names, changes, &runs, &wholes);
-    drop(wholes);
+/// The changes of a subject, kind by kind.
+fn by_kind(page: &mut Page, names: &Names, changes: &[Change]) -> Result<(), AllocError>
+    ensures { OnOk result
+        (page.new ≡ added page.old (all_of (kind_items names.now) (runs_by kind_of changes.now))) }
+{
+    let runs = cut::<Change, ByKind>(page.alloc(), changes)?;
+    let done = all_kinds(page, names, &runs);
     drop(runs);
     done
 }
 
-/// A sheet with what subjects may change.
-fn powers_sheet(alloc: Global, names: &Names, changes: &[Change]) -> Result<Page, AllocError> {
-    let mut sheet = Page::sheet(alloc);
-    add_changes(&mut sheet, names, changes)?;
-    Ok(sheet)
+/// The row of a subject.
+#[tactic(auto, unfolding(crate::specs::Powers::power_row, crate::specs::Tables::row))]
+fn power_row(page: &mut Page, names: &Names, changes: &[Change]) -> Result<(), AllocError>
+    ensures { OnOk result (page.new ≡ added page.old (power_row names.now changes.now)) }
+{
+    page.open(Tag::TableRow)?;
+    add_cells(page, &[Cell::Subject(names, maker_of(changes))])?;
+    page.open(Tag::TableCell)?;
+    page.open(Tag::Items)?;
+    by_kind(page, names, changes)?;
+    add_parts(page, &[Part::End, Part::End, Part::End, Part::Line])
+}
+
+/// The row of the subject at a place.
+fn power_at(
+    page: &mut Page,
+    names: &Names,
+    runs: &[&[Change]],
+    place: usize,
+) -> Result<(), AllocError>
+    ensures { OnOk result (page.new
+        ≡ added page.old (shown_at (power_row names.now) (map (λ run. run.now) runs.now) place)) }
+{
+    match runs.get(place) {
+        Some(run) => power_row(page, names, run),
+        None => Ok(()),
+    }
+}
+
+/// The rows of the subjects at some places.
+fn power_rows(
+    page: &mut Page,
+    names: &Names,
+    runs: &[&[Change]],
+    places: &[usize],
+) -> Result<(), AllocError>
+    ensures { OnOk result (page.new ≡ added page.old
+        (all_of (shown_at (power_row names.now) (map (λ run. run.now) runs.now)) places.now)) }
+{
+    for place in places {
+        power_at(page, names, runs, *place)?;
+    }
+    Ok(())
+}
+
+/// The table of subjects, in this order.
+#[tactic(auto, unfolding(crate::specs::Powers::power_table, crate::specs::Tables::table))]
+fn power_table(
+    page: &mut Page,
+    names: &Names,
+    runs: &[&[Change]],
+    places: &[usize],
+) -> Result<(), AllocError>
+    ensures { OnOk result
+        (page.new ≡ added page.old (power_table names.now (map (λ run. run.now) runs.now) places.now)) }
+{
+    begin_table(page, "After the last entry", &TITLES)?;
+    power_rows(page, names, runs, places)?;
+    end_table(page)
+}
+
+/// The appendix of so many subjects that the first table doesn't have.
+#[tactic(auto, unfolding(crate::specs::Shown::folded))]
+fn power_appendix(
+    page: &mut Page,
+    names: &Names,
+    runs: &[&[Change]],
+    places: &[usize],
+    rest: usize,
+) -> Result<(), AllocError>
+    ensures { OnOk result (page.new ≡ added page.old (appendix (codes "mls powers --journal J START") rest
+        (power_table names.now (map (λ run. run.now) runs.now) (lighter places.now)))) }
+{
+    if rest == 0 {
+        return Ok(());
+    }
+    begin_appendix(page, &POWERS, rest)?;
+    power_table(page, names, runs, lighter(places))?;
+    end_line(page)
+}
+
+/// The tables of subjects; without one, that there is none.
+fn power_tables(
+    page: &mut Page,
+    names: &Names,
+    runs: &[&[Change]],
+    places: &[usize],
+) -> Result<(), AllocError>
+    ensures { OnOk result
+        (page.new ≡ added page.old (power_tables names.now (map (λ run. run.now) runs.now) places.now)) }
+{
+    if runs.is_empty() {
+        return add_paragraph(page, "No subject may change anything.");
+    }
+    power_table(page, names, runs, heaviest(places))?;
+    power_appendix(page, names, runs, places, rest_of(places.len()))
+}
+
+/// The section, with subjects in this order.
+#[tactic(auto, unfolding(crate::specs::Powers::powers, crate::specs::Sections::listed))]
+fn powers_section(
+    page: &mut Page,
+    names: &Names,
+    runs: &[&[Change]],
+    places: &[usize],
+) -> Result<(), AllocError>
+    ensures { OnOk result
+        (page.new ≡ added page.old (powers names.now (map (λ run. run.now) runs.now) places.now)) }
+{
+    begin_listed(page, &POWERS)?;
+    power_tables(page, names, runs, places)?;
+    end_line(page)
+}
+
+/// How many changes runs have.
+fn lengths_of(alloc: Global, runs: &[&[Change]]) -> Result<Vec<u64>, AllocError>
+    ensures { IfOk result
+        (λ lengths. lengths.items ≡ map (λ run. length run) (map (λ run. run.now) runs.now)) }
+{
+    let mut lengths = Vec::new(alloc);
+    for run in runs {
+        lengths.push(run.len() as u64)?;
+    }
+    Ok(lengths)
+}
+
+/// The places of runs, the longest first.
+fn longest_first(alloc: Global, runs: &[&[Change]]) -> Result<Vec<usize>, AllocError>
+    ensures { IfOk result (λ places.
+        IsByWeight (map (λ run. length run) (map (λ run. run.now) runs.now)) places.items) }
+{
+    let lengths = lengths_of(alloc, runs)?;
+    let places = by_weight(alloc, &lengths);
+    drop(lengths);
+    places
+}
+
+/// The section, with the changes of each subject: those that may change most first.
+fn add_runs(page: &mut Page, names: &Names, runs: &[&[Change]]) -> Result<(), AllocError>
+    ensures { OnOk result (ShowsRuns names.now (map (λ run. run.now) runs.now) page.old page.new) }
+{
+    let places = longest_first(page.alloc(), runs)?;
+    let done = powers_section(page, names, runs, &places);
+    drop(places);
+    done?;
+    Ok(())
 }
 
 /// Appends what subjects may change, those that may change most first.
@@ -197,9 +210,11 @@ pub(crate) fn add_powers(
     names: &Names,
     changes: &[Change],
 ) -> Result<(), AllocError>
-    ensures { OnOk result (Lists (codes "powers") (codes "Powers")
-        (codes "mls powers --journal J START") page.old page.new) }
+    ensures { OnOk result (HasPowers names.now changes.now page.old page.new) }
 {
-    let sheet = powers_sheet(page.alloc(), names, changes)?;
-    add_listed(page, &POWERS, sheet)
+    let runs = cut::<Change, ByMaker>(page.alloc(), changes)?;
+    let done = add_runs(page, names, &runs);
+    drop(runs);
+    done?;
+    Ok(())
 }

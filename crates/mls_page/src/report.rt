@@ -77,8 +77,7 @@ fn add_about(page: &mut Page, part: Option<(u64, u64)>) -> Result<(), AllocError
 
 /// Appends the sections that matter most.
 fn add_first(page: &mut Page, rows: &Rows<'_>) -> Result<(), AllocError>
-    ensures { OnOk result
-        (HasFirst rows.now.names.now rows.now.short rows.now.found rows.now.trusting.now page.old page.new) }
+    ensures { OnOk result (HasFirst rows.now page.old page.new) }
 {
     let names = rows.names;
     add_short(
@@ -107,7 +106,7 @@ fn add_first(page: &mut Page, rows: &Rows<'_>) -> Result<(), AllocError>
 
 /// Appends the other sections.
 fn add_last(page: &mut Page, rows: &Rows<'_>) -> Result<(), AllocError>
-    ensures { OnOk result (HasLast rows.now.many rows.now.found page.old page.new) }
+    ensures { OnOk result (HasLast rows.now page.old page.new) }
 {
     let names = rows.names;
     add_spans(page, names, rows.marks, rows.spans, rows.many)?;

@@ -156,59 +156,6 @@ pub(crate) fn add_paragraph(page: &mut Page, text: &str) -> Result<(), AllocErro
     page.line()
 }
 
-/// How many of so many rows the table that is printed doesn't have.
-pub(crate) fn rest_of(count: usize) -> usize {
-    count.saturating_sub(SHOWN)
-}
-
-/// Tells how many more rows there are than the table that is printed has, and what lists them all.
-fn add_more(page: &mut Page, command: &str, rest: u64) -> Result<(), AllocError> {
-    let parts = [
-        Part::BeginAs(Tag::Paragraph, "more"),
-        Part::Number(rest),
-        Part::Text(" more, each with less: "),
-        Part::Leaf(Tag::Code, command),
-        Part::Text(" lists all."),
-        Part::End,
-        Part::Line,
-    ];
-    add_parts(page, &parts)
-}
-
-/// Begins an appendix, which is called so.
-pub(crate) fn begin_folded(page: &mut Page, text: &str, count: u64) -> Result<(), AllocError> {
-    let parts = [
-        Part::BeginAs(Tag::Details, "appendix"),
-        Part::Begin(Tag::Summary),
-        Part::Text(text),
-        Part::Number(count),
-        Part::End,
-        Part::Line,
-    ];
-    add_parts(page, &parts)
-}
-
-/// Begins the appendix of the rows that are more than the table has that is printed.
-pub(crate) fn begin_appendix(
-    page: &mut Page,
-    section: &Section,
-    rest: usize,
-) -> Result<(), AllocError> {
-    add_more(page, section.command, rest as u64)?;
-    begin_folded(page, "The next ", rest.min(LISTED) as u64)
-}
-
-/// The places that the table that is printed has, of those in the order of their weights.
-pub(crate) fn heaviest(places: &[usize]) -> &[usize] {
-    places.get(..SHOWN).unwrap_or(places)
-}
-
-/// Those that the appendix has.
-pub(crate) fn lighter(places: &[usize]) -> &[usize] {
-    let rest = places.get(SHOWN..).unwrap_or(&[]);
-    rest.get(..LISTED).unwrap_or(rest)
-}
-
 /// Appends a section, of which a sheet has what is under its heading.
 ///
 /// # Errors

@@ -1,4 +1,19 @@
 //! How many requests of a subject were granted, denied, or undefined.
+ghost use Rattle.std.specs.Prelude.{◌≡◌, map, max, IfOk};
+ghost use Rattle.mls_page.specs.Counts.{
+  asker,
+  asker_of,
+  greatest_of,
+  if_denied,
+  if_granted,
+  if_undefined,
+  requests_of,
+  share_of,
+  shares,
+  sums_of,
+};
+
+use crate::cutting::{Column, cut, sum_of};
 use crate::weight::Weighed;
 use mls_listings::ReplyCount;
 use mls_requests::ReplyWord;
@@ -14,7 +29,7 @@ pub(crate) struct Share {
     pub undefined: u64,
 }
 
-/// Sums of shares, or their greatest numbers.
+/// Sums of shares.
 #[derive(Clone, Copy)]
 pub(crate) struct Sums {
     pub granted: u64,
@@ -23,35 +38,19 @@ pub(crate) struct Sums {
 }
 
 impl Share {
-    /// The share of a subject of which nothing is counted yet.
-    fn new(subject: SubjectId) -> Share {
-        Share {
-            subject,
-            granted: 0,
-            denied: 0,
-            undefined: 0,
-        }
-    }
-
-    /// Counts so many more replies of a first word.
-    fn count(&mut self, word: ReplyWord, entries: u64) {
-        match word {
-            ReplyWord::Yes | ReplyWord::Created => {
-                self.granted = self.granted.saturating_add(entries);
-            }
-            ReplyWord::No => self.denied = self.denied.saturating_add(entries),
-            ReplyWord::Undefined => self.undefined = self.undefined.saturating_add(entries),
-        }
-    }
-
     /// The greatest of its numbers.
-    fn greatest(&self) -> u64 {
+    fn greatest(&self) -> u64
+        ensures { result ≡ max (max self.now.granted self.now.denied) self.now.undefined }
+    {
         self.granted.max(self.denied).max(self.undefined)
     }
 }
 
 impl Weighed for Share {
+    ghost weight_of = { requests_of };
+
     /// How many requests there are.
+    #[tactic(auto, using(crate::proofs::Counting::capped_more))]
     fn weight(&self) -> u64 {
         self.granted
             .saturating_add(self.denied)
@@ -59,45 +58,173 @@ impl Weighed for Share {
     }
 }
 
+/// Counts by their subjects.
+struct Asker;
+
+impl Column<ReplyCount> for Asker {
+    ghost number_of = { asker };
+
+    fn of(row: &ReplyCount) -> u64 {
+        u64::from(row.subject.number())
+    }
+}
+
+/// Whose the counts of a run are.
+fn asker_of(rows: &[ReplyCount]) -> SubjectId
+    ensures { result ≡ asker_of rows.now }
+{
+    match rows.first() {
+        Some(row) => row.subject,
+        None => SubjectId::new(0),
+    }
+}
+
+/// How many of so many replies of a first word grant.
+fn if_granted(word: ReplyWord, count: u64) -> u64
+    ensures { result ≡ if_granted word count }
+{
+    match word {
+        ReplyWord::Yes | ReplyWord::Created => count,
+        ReplyWord::No | ReplyWord::Undefined => 0,
+    }
+}
+
+/// How many of them deny.
+fn if_denied(word: ReplyWord, count: u64) -> u64
+    ensures { result ≡ if_denied word count }
+{
+    match word {
+        ReplyWord::No => count,
+        ReplyWord::Yes | ReplyWord::Created | ReplyWord::Undefined => 0,
+    }
+}
+
+/// How many of them are undefined.
+fn if_undefined(word: ReplyWord, count: u64) -> u64
+    ensures { result ≡ if_undefined word count }
+{
+    match word {
+        ReplyWord::Undefined => count,
+        ReplyWord::Yes | ReplyWord::Created | ReplyWord::No => 0,
+    }
+}
+
+/// What replies grant.
+struct Granted;
+
+impl Column<ReplyCount> for Granted {
+    ghost number_of = { λ r. if_granted r.word r.entries };
+
+    fn of(row: &ReplyCount) -> u64 {
+        if_granted(row.word, row.entries)
+    }
+}
+
+/// What they deny.
+struct Denied;
+
+impl Column<ReplyCount> for Denied {
+    ghost number_of = { λ r. if_denied r.word r.entries };
+
+    fn of(row: &ReplyCount) -> u64 {
+        if_denied(row.word, row.entries)
+    }
+}
+
+/// What is undefined.
+struct Undefined;
+
+impl Column<ReplyCount> for Undefined {
+    ghost number_of = { λ r. if_undefined r.word r.entries };
+
+    fn of(row: &ReplyCount) -> u64 {
+        if_undefined(row.word, row.entries)
+    }
+}
+
+/// The share of the counts of a subject.
+fn share_of(rows: &[ReplyCount]) -> Share
+    ensures { result ≡ share_of rows.now }
+{
+    Share {
+        subject: asker_of(rows),
+        granted: sum_of::<ReplyCount, Granted>(rows),
+        denied: sum_of::<ReplyCount, Denied>(rows),
+        undefined: sum_of::<ReplyCount, Undefined>(rows),
+    }
+}
+
+/// The shares of runs.
+fn shares_in(alloc: Global, runs: &[&[ReplyCount]]) -> Result<Vec<Share>, AllocError>
+    ensures { IfOk result (λ found. found.items ≡ map share_of (map (λ run. run.now) runs.now)) }
+{
+    let mut found = Vec::new(alloc);
+    for run in runs {
+        found.push(share_of(run))?;
+    }
+    Ok(found)
+}
+
+/// The shares of the subjects of a summary, in its order: the counts of a subject stand together.
+///
+/// # Errors
+/// `AllocError` where an allocation failed.
+pub(crate) fn shares_of(alloc: Global, replies: &[ReplyCount]) -> Result<Vec<Share>, AllocError>
+    ensures { IfOk result (λ found. found.items ≡ shares replies.now) }
+{
+    let runs = cut::<ReplyCount, Asker>(alloc, replies)?;
+    let found = shares_in(alloc, &runs);
+    drop(runs);
+    found
+}
+
 /// The greatest number of some shares.
-pub(crate) fn greatest_of(shares: &[Share]) -> u64 {
+pub(crate) fn greatest_of(shares: &[Share]) -> u64
+    ensures { result ≡ greatest_of shares.now }
+{
     shares.iter().fold(0, |most, it| it.greatest().max(most))
 }
 
+/// What shares have of granted requests.
+struct GrantedSum;
+
+impl Column<Share> for GrantedSum {
+    ghost number_of = { λ s. s.granted };
+
+    fn of(row: &Share) -> u64 {
+        row.granted
+    }
+}
+
+/// What they have of denied ones.
+struct DeniedSum;
+
+impl Column<Share> for DeniedSum {
+    ghost number_of = { λ s. s.denied };
+
+    fn of(row: &Share) -> u64 {
+        row.denied
+    }
+}
+
+/// What they have of undefined ones.
+struct UndefinedSum;
+
+impl Column<Share> for UndefinedSum {
+    ghost number_of = { λ s. s.undefined };
+
+    fn of(row: &Share) -> u64 {
+        row.undefined
+    }
+}
+
 /// The sums of some shares.
-pub(crate) fn sums_of(shares: &[Share]) -> Sums {
-    let mut sums = Sums {
-        granted: 0,
-        denied: 0,
-        undefined: 0,
-    };
-    for share in shares {
-        sums.granted = sums.granted.saturating_add(share.granted);
-        sums.denied = sums.denied.saturating_add(share.denied);
-        sums.undefined = sums.undefined.saturating_add(share.undefined);
+pub(crate) fn sums_of(shares: &[Share]) -> Sums
+    ensures { result ≡ sums_of shares.now }
+{
+    Sums {
+        granted: sum_of::<Share, GrantedSum>(shares),
+        denied: sum_of::<Share, DeniedSum>(shares),
+        undefined: sum_of::<Share, UndefinedSum>(shares),
     }
-    sums
-}
-
-/// Counts a row of a summary. The rows of a subject stand together.
-fn add(shares: &mut Vec<Share>, row: &ReplyCount) -> Result<(), AllocError> {
-    if let Some(share) = shares.last_mut() {
-        if share.subject == row.subject {
-            share.count(row.word, row.entries);
-            return Ok(());
-        }
-    }
-    let mut share = Share::new(row.subject);
-    share.count(row.word, row.entries);
-    shares.push(share)?;
-    Ok(())
-}
-
-/// The shares of the subjects of a summary, in its order.
-pub(crate) fn shares_of(alloc: Global, replies: &[ReplyCount]) -> Result<Vec<Share>, AllocError> {
-    let mut shares = Vec::new(alloc);
-    for row in replies {
-        add(&mut shares, row)?;
-    }
-    Ok(shares)
 }

@@ -23,6 +23,8 @@ pub struct Trusting {
 }
 
 impl Weighed for Trusting {
+    ghost weight_of = { λ t. t.count };
+
     /// How often it was.
     fn weight(&self) -> u64 {
         self.count

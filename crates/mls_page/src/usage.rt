@@ -1,6 +1,11 @@
 //! How the permissions of a subject were used.
+ghost use Rattle.std.specs.Prelude.{◌≡◌, map, IfOk};
+ghost use Rattle.mls_page.specs.Usage.{holder, holder_of, last_of, later, total_of, totals};
+
+use crate::cutting::{Column, cut};
+use crate::gets::{denied_of, granted_of};
 use crate::weight::Weighed;
-use mls_spans::Usage;
+use mls_spans::{Usage, count_unused};
 use mls_tables::SubjectId;
 use std::alloc::{AllocError, Global};
 
@@ -17,64 +22,100 @@ pub(crate) struct Total {
     pub last: Option<u64>,
 }
 
-/// The later of two entries.
-fn later(a: Option<u64>, b: Option<u64>) -> Option<u64> {
-    match (a, b) {
-        (Some(a), Some(b)) => Some(a.max(b)),
-        (None, other) | (other, None) => other,
-    }
-}
-
-impl Total {
-    /// The total of a subject of which nothing is counted yet.
-    fn new(subject: SubjectId) -> Total {
-        Total {
-            subject,
-            permissions: 0,
-            unused: 0,
-            granted: 0,
-            denied: 0,
-            last: None,
-        }
-    }
-
-    /// Counts a permission more.
-    fn count(&mut self, usage: &Usage) {
-        self.permissions = self.permissions.saturating_add(1);
-        self.unused = self.unused.saturating_add(u64::from(usage.is_unused()));
-        self.granted = self.granted.saturating_add(usage.uses.granted);
-        self.denied = self.denied.saturating_add(usage.uses.denied);
-        self.last = later(self.last, usage.uses.last);
-    }
-}
-
 impl Weighed for Total {
+    ghost weight_of = { λ t. t.unused };
+
     /// How many permissions were never granted.
     fn weight(&self) -> u64 {
         self.unused
     }
 }
 
-/// Counts a permission in the total of its subject. The permissions of a subject stand together.
-fn add(totals: &mut Vec<Total>, usage: &Usage) -> Result<(), AllocError> {
+/// Whose a permission is.
+fn holder(usage: &Usage) -> SubjectId
+    ensures { result ≡ holder usage.now }
+{
     let (s, _, _) = usage.access;
-    if let Some(total) = totals.last_mut() {
-        if total.subject == s {
-            total.count(usage);
-            return Ok(());
-        }
-    }
-    let mut total = Total::new(s);
-    total.count(usage);
-    totals.push(total)?;
-    Ok(())
+    s
 }
 
-/// The totals of permissions, by subject.
-pub(crate) fn totals(alloc: Global, usages: &[Usage]) -> Result<Vec<Total>, AllocError> {
-    let mut found = Vec::new(alloc);
+/// Permissions by their subjects.
+struct ByHolder;
+
+impl Column<Usage> for ByHolder {
+    ghost number_of = { holder };
+
+    fn of(row: &Usage) -> u64 {
+        u64::from(holder(row).number())
+    }
+}
+
+/// Whose the permissions of a run are.
+fn holder_of(usages: &[Usage]) -> SubjectId
+    ensures { result ≡ holder_of usages.now }
+{
+    match usages.first() {
+        Some(usage) => holder(usage),
+        None => SubjectId::new(0),
+    }
+}
+
+/// The later of two entries.
+fn later(a: Option<u64>, b: Option<u64>) -> Option<u64>
+    ensures { result ≡ later a b }
+{
+    match (a, b) {
+        (Some(a), Some(b)) => Some(a.max(b)),
+        (None, other) | (other, None) => other,
+    }
+}
+
+/// The last entry that got one of some permissions, or was denied one.
+#[tactic(auto, using(crate::proofs::Counting::fold_next))]
+fn last_of(usages: &[Usage]) -> Option<u64>
+    ensures { result ≡ last_of usages.now }
+{
+    let mut last = None;
     for usage in usages {
-        add(&mut found, usage)?;
+        last = later(last, usage.uses.last);
+    }
+    last
+}
+
+/// How the permissions of a run were used.
+fn total_of(usages: &[Usage]) -> Total
+    ensures { result ≡ total_of usages.now }
+{
+    Total {
+        subject: holder_of(usages),
+        permissions: usages.len() as u64,
+        unused: count_unused(usages),
+        granted: granted_of(usages),
+        denied: denied_of(usages),
+        last: last_of(usages),
+    }
+}
+
+/// The totals of runs.
+fn totals_of(alloc: Global, runs: &[&[Usage]]) -> Result<Vec<Total>, AllocError>
+    ensures { IfOk result (λ found. found.items ≡ map total_of (map (λ run. run.now) runs.now)) }
+{
+    let mut found = Vec::new(alloc);
+    for run in runs {
+        found.push(total_of(run))?;
     }
     Ok(found)
+}
+
+/// The totals of permissions, by subject: the permissions of a subject stand together.
+///
+/// # Errors
+/// `AllocError` where an allocation failed.
+pub(crate) fn totals(alloc: Global, usages: &[Usage]) -> Result<Vec<Total>, AllocError>
+    ensures { IfOk result (λ found. found.items ≡ totals usages.now) }
+{
+    let runs = cut::<Usage, ByHolder>(alloc, usages)?;
+    let found = totals_of(alloc, &runs);
+    drop(runs);
+    found
 }

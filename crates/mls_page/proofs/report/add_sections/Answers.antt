@@ -9,7 +9,7 @@ returns c =
     record {
       middle = c.add_first.new.page;
       first_sections =
-          subst (λ (d : Draft). HasFirst r.names.now r.short r.found r.trusting.now d c.add_first.new.page)
+          subst (λ (d : Draft). HasFirst r d c.add_first.new.page)
           c.in_ok-add_about.ensures c.in_ok-add_first.ensures;
       last_sections = c.in_ok-add_last.ensures;
     }
