@@ -1,5 +1,5 @@
 -- The state that rows say: how it comes about, one object and one triple after the other.
-use Rattle.std.proofs.Common.{◌≡◌, All, nat_lt, ℕ, zero, suc, ◌-◌, ◌⊎◌, inl, inr, ◌+◌, ◌<◌, ◌≤◌, Bool, true, false, ◌||◌, List, [], ◌∷◌, length, get_or, drop, Option, Some, None, is_some, IsTrue, refl, sym, ap, subst, ◌∙◌, arith, nat_eq}
+use Rattle.std.proofs.Common.{◌≡◌, All, nat_lt, ℕ, zero, suc, ◌⊎◌, inl, inr, ◌+◌, ◌<◌, ◌≤◌, Bool, true, false, ◌||◌, List, [], ◌∷◌, length, get_or, drop, Option, Some, None, is_some, IsTrue, refl, sym, ap, subst, ◌∙◌, arith, nat_eq}
 use Rattle.std.specs.Prelude.{max}
 use Rattle.std.proofs.lemmas.Bool.Decides.{nat_tests}
 use Rattle.std.proofs.lemmas.Bool.{or_left, or_right, or_cases, and_parts, cases_lt}
@@ -125,36 +125,54 @@ reached v tree o active =
     let below = (is_inferior-Reaches v.parent (is_active v) tree.objects o 0).1 (active, tree.objects.reaches_root o active) in
     (and_parts (trees.is_active v.parent o) (reaches_within v.parent MAX_OBJECTS o 0) below).1
 
--- rows say of an object the labels and the parent, and the parent reaches the root within so many steps
-abbrev pub Above : State → List (Option ObjectParts) → ℕ → ℕ → Type 0
-Above v objects n o =
-    (p : ℕ) × (labels : ObjectLabels) × (get_or objects o None ≡ Some (record { labels = labels; parent = Some p }))
-    × (reaches_within v.parent n p 0 ≡ true) × (o < MAX_OBJECTS)
+-- an object that reaches the root within a step more is the root, or its parent does within so many
+abbrev Up : State → ℕ → ℕ → Type 0
+Up v n o = (p : ℕ) × (map.get v.parent o ≡ Some p) × (reaches_within v.parent n p 0 ≡ true)
 
-module _ (v : State) (objects : List (Option ObjectParts)) (said : AreObjectsOf v objects) where
-  step : (n o : ℕ) (e : Option ℕ) → map.get v.parent o ≡ e → holds_of (λ p. reaches_within v.parent n p 0) e ≡ true → Above v objects n o
-  step n o None is holds = cc
-  step n o (Some p) is holds =
-      let active = (said.tree.objects.children_active o p is).0 in
-      let label = there (map.get v.object_label o) active in
-      let own = there (map.get v.object_integrity o) (said.whole.object_integrity o ∙ active) in (
-        p,
-        record { security = label.0; integrity = own.0 },
-        said.said o ∙ (λ i. parts_of (label.1 i) (own.1 i) (is i)),
-        holds,
-        said.tree.objects.below o active,
-      )
+up_by : (v : State) (n o : ℕ) (e : Option ℕ) → map.get v.parent o ≡ e → holds_of (λ p. reaches_within v.parent n p 0) e ≡ true → Up v n o
+up_by v n o None is holds = cc
+up_by v n o (Some p) is holds = (p, is, holds)
 
-  pub above : (n o : ℕ) → reaches_within v.parent (suc n) o 0 ≡ true → (o ≡ 0) ⊎ Above v objects n o
-  unfolding reaches_within
-  above n o reach = from (or_cases (nat_eq o 0) (holds_of (λ p. reaches_within v.parent n p 0) (map.get v.parent o)) reach) where
-    from : (nat_eq o 0 ≡ true) ⊎ (holds_of (λ p. reaches_within v.parent n p 0) (map.get v.parent o) ≡ true) → (o ≡ 0) ⊎ Above v objects n o
-    from (inl root) = let is : o ≡ 0 = grind (arith, nat_tests, root) in inl is
-    from (inr holds) = inr (step n o (map.get v.parent o) refl holds)
+up : (v : State) (n o : ℕ) → reaches_within v.parent (suc n) o 0 ≡ true → (o ≡ 0) ⊎ Up v n o
+unfolding reaches_within
+up v n o reach = from (or_cases (nat_eq o 0) (holds_of (λ p. reaches_within v.parent n p 0) (map.get v.parent o)) reach) where
+  from : (nat_eq o 0 ≡ true) ⊎ (holds_of (λ p. reaches_within v.parent n p 0) (map.get v.parent o) ≡ true) → (o ≡ 0) ⊎ Up v n o
+  from (inl root) = let is : o ≡ 0 = grind (arith, nat_tests, root) in inl is
+  from (inr holds) = inr (up_by v n o (map.get v.parent o) refl holds)
 
-  pub at_root : (o : ℕ) → reaches_within v.parent 0 o 0 ≡ true → o ≡ 0
-  unfolding reaches_within
-  at_root o reach = grind (arith, nat_tests, reach)
+-- without a step only the root is reached
+pub at_root : (v u : State) → is_active u 0 ≡ true → (o : ℕ) → reaches_within v.parent 0 o 0 ≡ true → is_active u o ≡ true
+unfolding reaches_within
+at_root v u root o reach = let is : o ≡ 0 = grind (arith, nat_tests, reach) in subst (λ q. is_active u q ≡ true) (sym is) root
+
+-- where each object is there whose parent was, all are there that reach the root within a step more than those that were
+pub step_up : (v u w : State) (n : ℕ) → is_active w 0 ≡ true
+    → ((o p : ℕ) → map.get v.parent o ≡ Some p → is_active u p ≡ true → is_active w o ≡ true)
+    → ((o : ℕ) → reaches_within v.parent n o 0 ≡ true → is_active u o ≡ true)
+    → (o : ℕ) → reaches_within v.parent (suc n) o 0 ≡ true → is_active w o ≡ true
+step_up v u w n root each before o reach = from (up v n o reach) where
+  from : (o ≡ 0) ⊎ Up v n o → is_active w o ≡ true
+  from (inl is) = subst (λ q. is_active w q ≡ true) (sym is) root
+  from (inr more) = each o more.0 more.1 (before more.0 more.2)
+
+-- where each object is there whose parent is, all are there that reach the root
+pub closed : (v u : State) → is_active u 0 ≡ true
+    → ((o p : ℕ) → map.get v.parent o ≡ Some p → is_active u p ≡ true → is_active u o ≡ true)
+    → (n o : ℕ) → reaches_within v.parent n o 0 ≡ true → is_active u o ≡ true
+closed v u root each zero = at_root v u root
+closed v u root each (suc n) = step_up v u u n root each (closed v u root each n)
+
+-- rows say of an object with a parent its labels and that parent
+pub said_below : (v : State) (objects : List (Option ObjectParts)) → AreObjectsOf v objects → (o p : ℕ) → map.get v.parent o ≡ Some p
+    → (labels : ObjectLabels) × (get_or objects o None ≡ Some (record { labels = labels; parent = Some p })) × (o < MAX_OBJECTS)
+said_below v objects said o p is =
+    let active = (said.tree.objects.children_active o p is).0 in
+    let label = there (map.get v.object_label o) active in
+    let own = there (map.get v.object_integrity o) (said.whole.object_integrity o ∙ active) in (
+      record { security = label.0; integrity = own.0 },
+      said.said o ∙ (λ i. parts_of (label.1 i) (own.1 i) (is i)),
+      said.tree.objects.below o active,
+    )
 
 -- labels and parents that are alike where all is there
 parts_alike : (l i m j : Option Label) (p q : Option ℕ) → parts_of l i p ≡ parts_of m j q → is_some l ≡ true → is_some i ≡ true
@@ -354,24 +372,14 @@ pub triples_left : (b : TripleSet) (ts : List Triple) (k : ℕ) (t : Triple) →
     → with_triples (set.insert b t) (drop (k + 1) ts) ≡ with_triples b (drop k ts)
 triples_left b ts k t within at = ap (with_triples b) (sym (drop_more ts k t within ∙ ap (λ x. x ∷ drop (k + 1) ts) (sym at)))
 
--- an object that isn't there yet, and reaches the root within so many steps, has a parent that does within one less
-module _ (v u : State) (objects : List (Option ObjectParts)) (said : AreObjectsOf v objects) (part : IsPart v u) where
-  pub waits : (n o : ℕ) → (n ≡ 0 → ⊥) → reaches_within v.parent n o 0 ≡ true → is_active u o ≡ false → Above v objects (n - 1) o
-  waits zero o some reach free = absurd (some refl)
-  waits (suc n) o some reach free = from (above v objects said n o reach) where
-    from : (o ≡ 0) ⊎ Above v objects n o → Above v objects (suc n - 1) o
-    from (inl root) = absurd (let no : false ≡ true = sym free ∙ subst (λ q. is_active u q ≡ true) (sym root) part.root in cc)
-    from (inr up) = let one : suc n - 1 ≡ n = omega arith in subst (λ k. Above v objects k o) (sym one) up
-
-  -- without a step only the root is reached, which is there
-  pub arrived : (n o : ℕ) → n ≡ 0 → reaches_within v.parent n o 0 ≡ true → is_active u o ≡ true
-  arrived n o none reach =
-      let root : o ≡ 0 = at_root v objects said o (subst (λ k. reaches_within v.parent k o 0 ≡ true) none reach) in
-      subst (λ q. is_active u q ≡ true) (sym root) part.root
-
 pub same_parent : (x : ObjectParts) (labels : ObjectLabels) (p q : ℕ) → Some x ≡ Some (record { labels = labels; parent = Some p }) → x.parent ≡ Some q → q ≡ p
 same_parent x labels p q is at =
     same_Some q p (sym at ∙ ap (λ (y : ObjectParts). y.parent) (same_Some x (record { labels = labels; parent = Some p }) is))
+
+pub no_parent_said : (x : ObjectParts) (labels : ObjectLabels) (p : ℕ) → Some x ≡ Some (record { labels = labels; parent = Some p }) → x.parent ≡ None → ⊥
+no_parent_said x labels p is at =
+    let some : x.parent ≡ Some p = ap (λ (y : ObjectParts). y.parent) (same_Some x (record { labels = labels; parent = Some p }) is) in
+    absurd (let no : is_some {T = ℕ} None ≡ true = ap is_some (sym at ∙ some) in let never : false ≡ true = no in cc)
 
 -- a statement at each number below one more
 pub one_more : (P : ℕ → Type 0) (n : ℕ) → ((o : ℕ) → o < n → P o) → P n → (o : ℕ) → o < n + 1 → P o

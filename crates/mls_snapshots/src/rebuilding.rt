@@ -1,11 +1,12 @@
 //! States of rows.
-ghost use Rattle.std.specs.Prelude.{◌≡◌, ◌<◌, ℕ, None, IsTrue, IsSome, IfSome, IfOk, OnOk, All, slice_index_or};
+ghost use Rattle.std.specs.Prelude.{◌≡◌, ◌<◌, ℕ, Some, None, false, IsTrue, IsSome, IfSome, IfOk, OnOk, All};
+ghost use Rattle.std.specs.Prelude.{slice_index_or};
+ghost use Rattle.std.specs.FinMap as map;
 ghost use Rattle.std.specs.FinSet as set;
 ghost use Rattle.mls_tables.specs.declared.limits.TheConstants.{MAX_OBJECTS};
 ghost use Rattle.mls_state.specs.First.{with_triples};
 ghost use Rattle.mls_state.specs.Properties.{HasTree, HasWholeTables, is_known};
 ghost use Rattle.mls_state.specs.State.{State as StateView, is_active};
-ghost use Rattle.mls_tree.specs.Tree.{reaches_within};
 ghost use Rattle.mls_snapshots.specs.Rebuilding.{IsNamed, AreObjectsOf, IsPart, IsBelow};
 ghost use Rattle.mls_snapshots.specs.Saying.{SaysAll};
 
@@ -49,45 +50,67 @@ fn add_below(
     Ok(())
 }
 
-/// Adds an object below its parent, and first its parent, where that isn't there yet: so many steps up at most.
-fn place(
+/// Adds an object that rows say below its parent, where that is active and the object isn't. Returns whether it did.
+fn add_said(
     state: &mut State,
     objects: &[Option<ObjectParts>],
     o: ObjectId,
-    steps: u16,
-) -> Result<(), AllocError>
+) -> Result<bool, AllocError>
     ensures part { OnOk result ((v : StateView) → AreObjectsOf v objects.now
         → IsPart v state.old → IsPart v state.new) }
     ensures kept { OnOk result ((q : ℕ) → IsTrue (is_active state.old q) → IsTrue (is_active state.new q)) }
-    ensures there { OnOk result ((v : StateView) → AreObjectsOf v objects.now → IsPart v state.old
-        → IsTrue (reaches_within v.parent steps o 0) → IsTrue (is_active state.new o)) }
+    ensures there { OnOk result ((v : StateView) → AreObjectsOf v objects.now
+        → (p : ℕ) → map.get v.parent o ≡ Some p → IsTrue (is_active state.old p) → IsTrue (is_active state.new o)) }
+    ensures same { IfOk result (λ added. added ≡ false → state.new ≡ state.old) }
 {
     if state.is_active(o) {
-        return Ok(());
-    }
-    if steps == 0 {
-        return Ok(());
+        return Ok(false);
     }
     let Some(parts) = said_of(objects, o) else {
-        return Ok(());
+        return Ok(false);
     };
     let Some(parent) = parts.parent else {
-        return Ok(());
+        return Ok(false);
     };
-    place(state, objects, parent, steps - 1)?;
+    if !state.is_active(parent) {
+        return Ok(false);
+    }
     add_below(state, o, parent, &parts.labels)?;
-    Ok(())
+    Ok(true)
 }
 
-/// Adds each object that rows say, below its parent.
+/// Adds each object that rows say below its parent, where that is active. Returns whether one was added.
+fn add_each(state: &mut State, objects: &[Option<ObjectParts>]) -> Result<bool, AllocError>
+    ensures part { OnOk result ((v : StateView) → AreObjectsOf v objects.now
+        → IsPart v state.old → IsPart v state.new) }
+    ensures kept { OnOk result ((q : ℕ) → IsTrue (is_active state.old q) → IsTrue (is_active state.new q)) }
+    ensures there { OnOk result ((v : StateView) → AreObjectsOf v objects.now
+        → (o p : ℕ) → map.get v.parent o ≡ Some p → IsTrue (is_active state.old p) → IsTrue (is_active state.new o)) }
+    ensures same { IfOk result (λ added. added ≡ false → state.new ≡ state.old) }
+{
+    let mut is_any = false;
+    for n in 0..MAX_OBJECTS {
+        let added = add_said(state, objects, ObjectId::new(n))?;
+        if added {
+            is_any = true;
+        }
+    }
+    Ok(is_any)
+}
+
+/// Adds all objects that rows say. A parent may have a greater number than its child, so rows are gone through again as
+/// long as one is added: a row of text may say any parent, and no way up is walked by calls.
 fn place_all(state: &mut State, objects: &[Option<ObjectParts>]) -> Result<(), AllocError>
     ensures part { OnOk result ((v : StateView) → AreObjectsOf v objects.now
         → IsPart v state.old → IsPart v state.new) }
     ensures all { OnOk result ((v : StateView) → AreObjectsOf v objects.now → IsPart v state.old
         → (o : ℕ) → IsTrue (is_active v o) → IsTrue (is_active state.new o)) }
 {
-    for n in 0..MAX_OBJECTS {
-        place(state, objects, ObjectId::new(n), MAX_OBJECTS)?;
+    for _n in 0..MAX_OBJECTS {
+        let added = add_each(state, objects)?;
+        if !added {
+            return Ok(());
+        }
     }
     Ok(())
 }
