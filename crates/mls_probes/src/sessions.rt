@@ -6,7 +6,7 @@ use crate::keeper::{FEEDS, Keeper};
 use crate::monitors::open_monitor;
 use crate::verdict::show_run;
 use mls_monitor::Monitor;
-use mls_sessions::{RunDone, RunFault, Stage, run_sessions};
+use mls_sessions::{Backoff, RunDone, RunFault, Stage, run_sessions};
 use std::alloc::{AllocError, Global};
 use std::io;
 use std::sync::Wait;
@@ -47,7 +47,7 @@ fn run_over<R: Threads + Wait + Sync>(
 ) -> io::Result<bool>
     requires { AllAt (λ f. f.stage) Stage.Ready feeds.items }
 {
-    match run_sessions(threads, rt.alloc(), monitor, feeds) {
+    match run_sessions(threads, rt.alloc(), monitor, feeds, Backoff::standard()) {
         Ok(run) => {
             let shown = show_done(rt, &run);
             drop(run);

@@ -3,7 +3,7 @@ use crate::alone::by_calls;
 use crate::turns::{Job, make_feeds, take_turns};
 use mls_monitor::{Monitor, Start};
 use mls_runs::standard_start;
-use mls_sessions::run_sessions;
+use mls_sessions::{Backoff, run_sessions};
 use std::alloc::{AllocError, Global};
 use std::sync::{Mutex, Wait};
 use std::thread::Threads;
@@ -29,7 +29,7 @@ fn by_gate<R: Threads + Wait + Sync>(
 ) -> Result<usize, AllocError> {
     let monitor = open(alloc)?;
     let feeds = make_feeds(alloc, threads, job)?;
-    match run_sessions(rt, alloc, monitor, feeds) {
+    match run_sessions(rt, alloc, monitor, feeds, Backoff::standard()) {
         Ok(run) => {
             let count = run.monitor.entries().len();
             drop(run);

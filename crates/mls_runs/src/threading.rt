@@ -16,7 +16,7 @@ use mls_lines::Names;
 use mls_monitor::{Monitor, Start};
 use mls_replay::{CommandFault, MAX_SCRIPTS, RunText};
 use mls_scripts::{SCRIPT_LIMIT, ScriptFeed};
-use mls_sessions::{RunDone, RunFaultKind, run_sessions};
+use mls_sessions::{Backoff, RunDone, RunFaultKind, run_sessions};
 use mls_start_file::read_start;
 use std::alloc::Global;
 use std::sync::Wait;
@@ -77,7 +77,7 @@ fn run_feeds<R: Threads + Wait + Sync>(
         (option_map (λ text. string_bytes text) run.journal)) }
     ensures fault { IfErr result IsRunFault }
 {
-    match run_sessions(rt, alloc, monitor, feeds) {
+    match run_sessions(rt, alloc, monitor, feeds, Backoff::standard()) {
         Ok(run) => finish(alloc, run, journal),
         Err(fault) => {
             let kind = fault.kind;

@@ -2,7 +2,8 @@
 
 use crate::limits::{LOOKS, NAPS, RACES};
 
-/// What a session that waits does before it sleeps until it is woken. It may do none of it: then it sleeps at once.
+/// What a session that waits does before it sleeps until it is woken. It may do none of it: then it sleeps at once. No
+/// clause depends on it.
 #[derive(Clone, Copy)]
 pub struct Backoff {
     /// How often it looks at the held gate for each ask of its turn, each time before it naps or sleeps.
@@ -14,8 +15,8 @@ pub struct Backoff {
 }
 
 impl Backoff {
-    /// As sessions back off, unless a test says otherwise.
-    pub(crate) fn standard() -> Backoff {
+    /// As the sessions of an office back off, unless a run is given another way.
+    pub fn standard() -> Backoff {
         Backoff {
             looks: LOOKS,
             races: RACES,

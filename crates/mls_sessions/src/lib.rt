@@ -29,13 +29,12 @@ mod run;
 mod run_fault;
 mod session;
 mod steps;
-#[cfg(test)]
-mod tests;
 mod touch;
 mod try_fault;
 mod turn;
 mod waiting;
 
+pub use backoff::Backoff;
 pub use consulting::Decision;
 pub use limits::MAX_SESSIONS;
 pub use mls_monitor::{Answer, Feed, Stage};

@@ -54,7 +54,7 @@ impl Model for Office {
 
 impl Office {
     /// An office for so many sessions of a monitor, which isn't put in yet, and its first seat. Its journal lasts or
-    /// not.
+    /// not, and its sessions back off so.
     ///
     /// # Errors
     /// `AllocError` where an allocation failed.
@@ -63,6 +63,7 @@ impl Office {
         monitor: &Monitor,
         n: u16,
         lasts: bool,
+        backoff: Backoff,
     ) -> Result<(Office, GateSeat), AllocError>
         requires { IsTrue (is_count n) }
         ensures charter { IfOk result (λ r. r.0.charter ≡ charter_of monitor.now n r.0.charter.cells lasts) }
@@ -73,7 +74,7 @@ impl Office {
         let (table, seat) = vacant_table(alloc, &charter, cells)?;
         let office = Office {
             table,
-            lobby: Lobby::new(Backoff::standard(), n),
+            lobby: Lobby::new(backoff, n),
             cells,
             count: u32::from(n),
             base: monitor.next_number(),

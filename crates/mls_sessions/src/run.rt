@@ -12,6 +12,7 @@ ghost use Rattle.mls_monitor.specs.Feeds.{AllFed};
 
 use crate::asked::Asked;
 use crate::attend::{Back, attend_unless};
+use crate::backoff::Backoff;
 use crate::limits::MAX_SESSIONS;
 use crate::office::Office;
 use crate::office_fault::OfficeFaultKind;
@@ -108,7 +109,7 @@ fn make_room<F>(alloc: Global, n: usize) -> Result<(Vec<Session>, Vec<F>), Alloc
 
 /// Asks all feeds in the office that was opened for them, and closes it.
 #[tactic(auto, using(crate::proofs::RunSteps::run_of_feeds))]
-pub(crate) fn run_open<R: Threads + Wait + Sync, F: Feed + Send + Drop>(
+fn run_open<R: Threads + Wait + Sync, F: Feed + Send + Drop>(
     rt: &R,
     alloc: Global,
     opened: (Office, Vec<Session>),
@@ -165,7 +166,7 @@ fn ended<F: Feed>(left: (Monitor, Vec<F>, Asked)) -> Result<RunDone<F>, RunFault
 }
 
 /// Opens the monitor to as many sessions as there are feeds, asks for what each feed gives in a thread of its own, and
-/// closes: feed k is asked as session k. It waits for the threads.
+/// closes: feed k is asked as session k. It waits for the threads. Sessions that come too late at the gate back off so.
 ///
 /// # Errors
 /// `BadCount` where there isn't one feed, to [`MAX_SESSIONS`] feeds; the monitor and the feeds are then as they were
@@ -177,6 +178,7 @@ pub fn run_sessions<R: Threads + Wait + Sync, F: Feed + Send + Drop>(
     alloc: Global,
     monitor: Monitor,
     feeds: Vec<F>,
+    backoff: Backoff,
 ) -> Result<RunDone<F>, RunFault<F>>
     requires { AllAt F.stands_at Stage.Ready feeds.items }
     ensures done { IfOk result (λ run. AllAt F.stands_at Stage.Done run.feeds.items) }
@@ -214,7 +216,7 @@ pub fn run_sessions<R: Threads + Wait + Sync, F: Feed + Send + Drop>(
             feeds,
         });
     };
-    match Office::open_as(alloc, monitor, n, true) {
+    match Office::open_as(alloc, monitor, n, true, backoff) {
         Ok(opened) => ended(run_open(rt, alloc, opened, feeds, back, fed)),
         Err(fault) => Err(RunFault {
             kind: RunFaultKind::Memory,

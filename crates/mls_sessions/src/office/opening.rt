@@ -8,6 +8,7 @@ ghost use Rattle.mls_sessions.specs.declared.gate_table.View.TheVariants.{Starti
 ghost use Rattle.mls_sessions.specs.Rule.{begun, base};
 ghost use Rattle.mls_sessions.specs.Sessions.{is_count, newcomers, Ascending};
 
+use crate::backoff::Backoff;
 use crate::gate_table::GateSeat;
 use crate::limits::MAX_SESSIONS;
 use crate::office::Office;
@@ -45,11 +46,11 @@ impl Office {
             (λ fault. fault.kind ≡ (if is_count n then OfficeFaultKind.Memory else OfficeFaultKind.BadCount)) }
         ensures monitor { IfErr result (λ fault. fault.monitor ≡ monitor) }
     {
-        Office::open_as(alloc, monitor, n, false)
+        Office::open_as(alloc, monitor, n, false, Backoff::standard())
     }
 
     /// As [`open`](Office::open), with an office whose journal lasts, or not: whether its sessions have no entry
-    /// forgotten.
+    /// forgotten. Its sessions back off so.
     ///
     /// # Errors
     /// As those of [`open`](Office::open).
@@ -59,6 +60,7 @@ impl Office {
         monitor: Monitor,
         n: u16,
         lasts: bool,
+        backoff: Backoff,
     ) -> Result<(Office, Vec<Session>), OfficeFault>
         ensures many { OnOk result (IsTrue (is_count n)) }
         ensures start { IfOk result (λ r. begun r.0.charter ≡ monitor.start) }
@@ -73,7 +75,7 @@ impl Office {
             (λ fault. fault.kind ≡ (if is_count n then OfficeFaultKind.Memory else OfficeFaultKind.BadCount)) }
         ensures monitor { IfErr result (λ fault. fault.monitor ≡ monitor) }
     {
-        let (office, seat, sessions) = match Office::prepare(alloc, &monitor, n, lasts) {
+        let (office, seat, sessions) = match Office::prepare(alloc, &monitor, n, lasts, backoff) {
             Ok(prepared) => prepared,
             Err(kind) => return Err(OfficeFault { kind, monitor }),
         };
@@ -107,7 +109,8 @@ impl Office {
             (λ fault. fault.kind ≡ (if is_count n then OfficeFaultKind.Memory else OfficeFaultKind.BadCount)) }
         ensures monitor { IfErr result (λ fault. fault.monitor ≡ monitor) }
     {
-        let (office, seat, sessions) = match Office::prepare(alloc, &monitor, n, false) {
+        let backoff = Backoff::standard();
+        let (office, seat, sessions) = match Office::prepare(alloc, &monitor, n, false, backoff) {
             Ok(prepared) => prepared,
             Err(kind) => return Err(OfficeFault { kind, monitor }),
         };
@@ -124,7 +127,7 @@ impl Office {
     }
 
     /// An office for `n` sessions of a monitor, which isn't put in yet, its first seat, and room for the sessions. Its
-    /// journal lasts or not.
+    /// journal lasts or not, and its sessions back off so.
     ///
     /// # Errors
     /// As those of [`open`](Office::open).
@@ -133,6 +136,7 @@ impl Office {
         monitor: &Monitor,
         n: u16,
         lasts: bool,
+        backoff: Backoff,
     ) -> Result<(Office, GateSeat, Vec<Session>), OfficeFaultKind>
         ensures many { OnOk result (IsTrue (is_count n)) }
         ensures charter { IfOk result (λ r. r.0.charter ≡ charter_of monitor.now n r.0.charter.cells lasts) }
@@ -147,7 +151,7 @@ impl Office {
         let Ok(sessions) = Vec::with_capacity(alloc, n as usize) else {
             return Err(OfficeFaultKind::Memory);
         };
-        match Office::vacant(alloc, monitor, n, lasts) {
+        match Office::vacant(alloc, monitor, n, lasts, backoff) {
             Ok((office, seat)) => Ok((office, seat, sessions)),
             Err(_) => Err(OfficeFaultKind::Memory),
         }

@@ -1,4 +1,0 @@
-//! What needs private functions.
-mod busy;
-mod looks;
-mod small;
