@@ -1,13 +1,13 @@
 -- Handles of sessions, one after the other: those that sessions are handed out into, and those that they are taken from.
-use Rattle.std.proofs.Common.{◌≡◌, ℕ, suc, zero, ◌+◌, ◌-◌, ◌<◌, ◌≤◌, Bool, true, false, ◌&&◌, not, List, [], ◌∷◌, ◌++◌, length, map, take, drop, get_or, set, refl, sym, ap, subst, ◌∙◌, arith, append-nil}
-use Rattle.std.proofs.lemmas.List.{append_assoc, drop_more, length_push, map-set, drop_all, length-map, length-take-le, map_more, take_all, take_more}
+use Rattle.std.proofs.Common.{◌≡◌, ℕ, suc, zero, ◌+◌, ◌-◌, ◌<◌, ◌≤◌, true, false, ◌&&◌, not, List, [], ◌∷◌, ◌++◌, length, map, take, drop, get_or, set, refl, sym, ap, subst, ◌∙◌, arith}
+use Rattle.std.proofs.lemmas.List.{append_assoc, drop_more, length_push, map-set, length-map, length-take-le, map_more, take_more}
 use Rattle.std.proofs.Math.ListN.{get_or-map}
 use Rattle.std.proofs.Math.Seq.{set-append_seam, get_or-append_seam}
 use Rattle.std.proofs.lemmas.Bool.Decides.{nat_tests}
 use Rattle.std.specs.Prelude.{Option, Some, None, IsSomeAnd, is_some, nat_lt}
 use Rattle.mls_sessions.specs.Sessions.{Office, Session, newcomers, number_of}
-use Rattle.mls_c.specs.Offices.{Place, Seats, NumbersBelow}
-use Rattle.mls_c.specs.SessionHandles.{SessionHandle, handle_of, handles_of, AreOfOffice, AreSessionsOf, are_closed, are_open, are_numbered, newcomer, handed_to, handed_out, session_before, sessions_of, shut}
+use Rattle.mls_c.specs.Offices.{Place, NumbersBelow}
+use Rattle.mls_c.specs.SessionHandles.{SessionHandle, handle_of, handles_of, AreSessionsOf, are_closed, are_open, newcomer, handed_to, handed_out, session_before, sessions_of, shut}
 use Rattle.mls_c.specs.declared.session_handle.MlsSession.{MlsSession}
 
 -- the last of two equal lists
@@ -71,12 +71,6 @@ one_handed o serial n k old now s p is within place office session serial_is num
     ∙ ap (λ m. (handed_out o serial k ++ handed_to o serial k ∷ []) ++ drop m (handles_of old)) (let e : k + 1 ≡ n = omega arith in e)
     ∙ ap (λ m. handed_out o serial m ++ drop n (handles_of old)) (sym is)
 
--- all handles got their sessions
-pub all_handed : (o : Office) (serial n : ℕ) (old now : List MlsSession) → n ≡ length old → handles_of now ≡ handed_out o serial n ++ drop n (handles_of old) → handles_of now ≡ handed_out o serial n
-all_handed o serial n old now all is =
-    let end : length (handles_of old) ≤ n = simp length-map (omega arith) in
-    is ∙ ap (λ t. handed_out o serial n ++ t) (drop_all n (handles_of old) end) ∙ append-nil (handed_out o serial n)
-
 -- the flag of a handle
 is_shut : (s : MlsSession) → s.held ≡ 0 → is_some s.place.value ≡ false
 is_shut s zero_is = s.told ∙ ap (nat_lt 0) zero_is
@@ -135,16 +129,6 @@ module _ (old now : List MlsSession) (k : ℕ) (x : MlsSession) (within : k < le
       ∙ ap (λ h. (front ++ h ∷ []) ++ drop (k + 1) (handles_of old)) (handle ∙ ap shut handle_there)
       ∙ ap (λ t. t ++ drop (k + 1) (handles_of old)) (sym (map_more shut (handles_of old) k (handle_of x) room))
 
--- all handles are shut, and all sessions are at home
-pub all_shut : (old now : List MlsSession) (k : ℕ) → length old ≤ k → handles_of now ≡ map shut (take k (handles_of old)) ++ drop k (handles_of old) → handles_of now ≡ map shut (handles_of old)
-all_shut old now k end so_far =
-    let past : length (handles_of old) ≤ k = simp length-map end in
-    so_far ∙ ap (λ t. map shut (take k (handles_of old)) ++ t) (drop_all k (handles_of old) past) ∙ append-nil (map shut (take k (handles_of old)))
-    ∙ ap (map shut) (take_all k (handles_of old) past)
-
-pub all_home : (old : List MlsSession) (k : ℕ) (home : List Session) → length old ≤ k → home ≡ sessions_of (take k (handles_of old)) → home ≡ sessions_of (handles_of old)
-all_home old k home end so_far = let past : length (handles_of old) ≤ k = simp length-map end in so_far ∙ ap sessions_of (take_all k (handles_of old) past)
-
 -- the session of a place, of those with the numbers from i on
 session_at_place : (o : Office) (i k : ℕ) (hs : List SessionHandle) (d : SessionHandle) → k < length hs → AreSessionsOf o i hs
     → IsSomeAnd (get_or hs k d).place (λ p. (p.office ≡ o) × (number_of p.session.view ≡ i + k))
@@ -194,10 +178,6 @@ one_home old now k x p home within is so_far held at_home =
     ap (λ t. t ++ p.session ∷ []) at_home
     ∙ sym (sessions_more (take k hs) h p (sym (ap (λ (y : SessionHandle). y.place) there) ∙ held))
     ∙ ap sessions_of (sym (take_more hs k (handle_of x) room))
-
-below_more : (n m : ℕ) (xs : List Session) → n ≤ m → NumbersBelow n xs → NumbersBelow m xs
-below_more n m [] le below = tt
-below_more n m (x ∷ xs) le below = let lt = below.0 in (let so : number_of x.view < m = omega arith in so, below_more n m xs le below.1)
 
 before_below : (n : ℕ) (place : Option Place) (ss : List Session) → ((p : Place) → place ≡ Some p → number_of p.session.view < n) → NumbersBelow n ss → NumbersBelow n (session_before place ss)
 before_below n None ss lt below = below

@@ -26,6 +26,10 @@ handle_of s = record { place = s.place.value; serial = s.serial; number = s.numb
 abbrev pub handles_of : List MlsSession → List SessionHandle
 handles_of sessions = map handle_of sessions
 
+-- A handle keeps the serial and the number that it was opened with. (own)
+abbrev pub KeepsSeat : MlsSession → MlsSession → Type 0
+KeepsSeat old new = (new.serial ≡ old.serial) × (new.number ≡ old.number)
+
 -- No handle is open. (own)
 abbrev pub are_closed : List SessionHandle → Bool
 are_closed [] = true

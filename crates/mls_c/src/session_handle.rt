@@ -59,6 +59,8 @@ impl MlsSession {
 pub extern "C" fn mls_session_drop(s: &mut MlsSession, alloc: Global)
     ensures closed { s.new.place.value ≡ None }
     ensures flag { s.new.held ≡ 0 }
+    ensures serial { s.new.serial ≡ s.old.serial }
+    ensures number { s.new.number ≡ s.old.number }
 {
     drop(s.take(alloc));
 }
