@@ -20,6 +20,8 @@ static mls_labels no_row;
 
 static uint16_t no_reply;
 
+static mls_session no_session;
+
 static char *room(char *at, size_t cap) { return at || cap ? at : &nowhere; }
 
 int mls_open_bytes(mls_monitor *m, const uint8_t *start, size_t len, mls_fault *fault);
@@ -36,10 +38,8 @@ int mls_decide_label_pairs(mls_monitor *m, uint16_t subject, uint8_t mode, const
 int mls_explain_rows(mls_monitor *m, const mls_request *request, mls_condition *rows, size_t cap, size_t *count, mls_remedy *remedy);
 int mls_state_start_bytes(mls_monitor *m, char *buf, size_t cap, size_t *len, uint16_t *numbers, size_t count);
 int mls_state_text_bytes(mls_monitor *m, char *buf, size_t cap, size_t *len);
-int mls_office_open_monitor(mls_office *office, mls_monitor *m, uint16_t count);
-int mls_office_close_monitor(mls_office *office, mls_monitor *m);
-int mls_office_hand_out(mls_office *office, mls_session *session);
-int mls_office_take_back(mls_office *office, mls_session *session);
+int mls_office_open_sessions(mls_office *office, mls_monitor *m, mls_session *sessions, size_t count, uint64_t serial);
+int mls_office_close_sessions(mls_office *office, mls_session *sessions, size_t count, mls_monitor *m);
 int mls_session_meet_other(mls_session *s, mls_session *other);
 int mls_session_decide_label_pairs(mls_session *s, uint16_t subject, uint8_t mode, const mls_labels *pairs, size_t n, uint16_t *replies, size_t count);
 int mls_session_explain_rows(mls_session *s, const mls_request *request, mls_condition *rows, size_t cap, size_t *count, mls_remedy *remedy);
@@ -102,60 +102,21 @@ int mls_state_text(mls_monitor *m, char *buf, size_t cap, size_t *len) {
     return mls_state_text_bytes(m, room(buf, cap), cap, len);
 }
 
-/* The serial of the office that was opened last. Each has its own, from 1 on, and none is used again. A session notes that
+/* The serial of the last opening of an office. Each has its own, from 1 on, and none is used again. A session notes that
  * of its office, and no address: a session that outlives its office has it still, when another office has the address. */
 static uint64_t last_serial;
 
 static uint64_t new_serial(void) { return __atomic_add_fetch(&last_serial, 1, __ATOMIC_RELAXED); }
 
-/* Gives the sessions with the numbers from n on back, ascending, and closes the office. All are of the office, with their
- * numbers, and those below n are at home: so each has a number above those at home, and none of them is refused, and then
- * none is out. It needs no memory. */
-static int shut(mls_office *office, mls_session *sessions, uint16_t n, mls_monitor *m) {
-    int status = MLS_OK;
-    for (; n < office->count && status == MLS_OK; n++) status = mls_office_take_back(office, &sessions[n]);
-    return status ? status : mls_office_close_monitor(office, m);
-}
-
+/* (too many sessions are refused as none are, and not looked at) */
 int mls_office_open(mls_office *office, mls_monitor *m, mls_session *sessions, uint16_t count) {
-    uint16_t n;
-    int status;
-    if (count <= MLS_SESSIONS) {
-        for (n = 0; n < count; n++) {
-            if (sessions[n].held) return MLS_EOPEN;
-        }
-    }
-    status = mls_office_open_monitor(office, m, count);
-    if (status) return status;
-    office->count = count;
-    /* (the last of those that aren't handed out is handed out first) */
-    for (n = count; n > 0; n--) {
-        status = mls_office_hand_out(office, &sessions[n - 1]);
-        if (status) {
-            int undone = shut(office, sessions, n, m);
-            return undone ? undone : status;
-        }
-    }
-    /* (noted last: a refused opening leaves what a session that was dropped has of its office) */
-    office->serial = new_serial();
-    for (n = 0; n < count; n++) {
-        sessions[n].office = office->serial;
-        sessions[n].number = n;
-    }
-    return MLS_OK;
+    size_t n = count <= MLS_SESSIONS ? count : 0;
+    return mls_office_open_sessions(office, m, n ? sessions : &no_session, n, new_serial());
 }
 
 int mls_office_close(mls_office *office, mls_session *sessions, mls_monitor *m) {
-    uint16_t n;
-    if (m->held) return MLS_EOPEN;
-    if (!office->held) return MLS_ECLOSED;
-    for (n = 0; n < office->count; n++) {
-        if (sessions[n].office != office->serial || sessions[n].number != n) return MLS_EINVAL;
-    }
-    for (n = 0; n < office->count; n++) {
-        if (!sessions[n].held) return MLS_EBUSY;
-    }
-    return shut(office, sessions, 0, m);
+    size_t n = office->held ? office->count : 0;
+    return mls_office_close_sessions(office, n ? sessions : &no_session, n, m);
 }
 
 /* (sessions of one office have its serial, and no other session has) */

@@ -1725,40 +1725,58 @@ static void dropped_offices(void) {
     }
 }
 
-/* Calls of the library that c/mls.c alone makes. */
-int mls_office_open_monitor(mls_office *office, mls_t *m, uint16_t count);
-int mls_office_close_monitor(mls_office *office, mls_t *m);
-int mls_office_hand_out(mls_office *office, mls_session *session);
-int mls_office_take_back(mls_office *office, mls_session *session);
+/* Handles that hold the sessions of their places, with the office's serial and their numbers. */
+static int are_seated(const mls_office *office, const mls_session *s, uint16_t count) {
+    uint16_t n;
+    for (n = 0; n < count; n++) {
+        if (s[n].held != 1 || s[n].office != office->serial || s[n].number != n) return 0;
+    }
+    return office->held == 1 && office->count == count;
+}
 
-/* Sessions are handed out from the last on, and taken back if their number is above those at home, without memory. */
+/* Sessions are handed out into the handles of their places, and taken back without memory. A closing that is refused
+ * moves none of them. */
 static void seats_of_an_office(void) {
+    static mls_session all[MLS_SESSIONS];
     mls_t m = MLS_INIT;
     mls_office office = MLS_OFFICE_INIT;
-    mls_session s[3] = {MLS_SESSION_INIT, MLS_SESSION_INIT, MLS_SESSION_INIT}, none = MLS_SESSION_INIT;
+    mls_session s[3] = {MLS_SESSION_INIT, MLS_SESSION_INIT, MLS_SESSION_INIT}, given[3], none = MLS_SESSION_INIT;
+    uint64_t first;
     long before = live;
     open_standard(&m);
-    CHECK(mls_office_open_monitor(&office, &m, 3) == MLS_OK && mls_office_hand_out(&office, &s[2]) == MLS_OK);
-    CHECK(mls_office_hand_out(&office, &s[2]) == MLS_EOPEN && mls_office_hand_out(&office, &s[1]) == MLS_OK);
+    CHECK(mls_office_open(&office, &m, s, 3) == MLS_OK && are_seated(&office, s, 3));
     left = 0;
-    CHECK(mls_office_take_back(&office, &none) == MLS_ECLOSED && mls_office_hand_out(&office, &none) == MLS_ENOMEM && !none.held);
-    CHECK(mls_office_take_back(&office, &s[2]) == MLS_OK && !s[2].held);
-    /* the first and the last are at home */
-    CHECK(mls_office_take_back(&office, &s[1]) == MLS_EINVAL && s[1].held == 1);
+    /* two that are turned, also after one that is closed */
+    given[0] = s[0], given[1] = s[2], given[2] = s[1];
+    CHECK(mls_office_close(&office, given, &m) == MLS_EINVAL);
+    none.office = office.serial;
+    given[0] = none;
+    CHECK(mls_office_close(&office, given, &m) == MLS_EINVAL);
+    /* the last is closed */
+    none.number = 2;
+    given[0] = s[0], given[1] = s[1], given[2] = none;
+    CHECK(mls_office_close(&office, given, &m) == MLS_EBUSY && given[0].held == 1 && given[1].held == 1 && !m.held);
+    CHECK(are_seated(&office, s, 3) && mls_office_close(&office, s, &m) == MLS_OK && !office.held && m.held == 1);
+    CHECK(!s[0].held && !s[1].held && !s[2].held && s[1].office == office.serial && s[1].number == 1);
     left = -1;
-    CHECK(mls_office_hand_out(&office, &s[2]) == MLS_OK);
+    /* each opening has a serial of its own, and a dropped session stays out */
+    first = office.serial;
+    CHECK(mls_office_open(&office, &m, s, 2) == MLS_OK && are_seated(&office, s, 2) && office.serial != first);
+    CHECK(s[2].office == first && mls_office_close(&office, &s[1], &m) == MLS_EINVAL);
+    mls_session_drop(&s[1]);
     left = 0;
-    CHECK(mls_office_take_back(&office, &s[1]) == MLS_OK && mls_office_close_monitor(&office, &m) == MLS_EBUSY);
-    left = -1;
-    CHECK(mls_office_hand_out(&office, &s[1]) == MLS_OK && mls_office_hand_out(&office, &s[0]) == MLS_OK);
-    CHECK(mls_office_hand_out(&office, &none) == MLS_EBUSY && !none.held);
-    left = 0;
-    CHECK(mls_office_take_back(&office, &s[1]) == MLS_OK && mls_office_take_back(&office, &s[0]) == MLS_EINVAL && s[0].held == 1);
-    CHECK(mls_office_take_back(&office, &s[2]) == MLS_OK && mls_office_close_monitor(&office, &m) == MLS_EBUSY && !m.held);
+    CHECK(mls_office_close(&office, s, &m) == MLS_EBUSY && s[0].held == 1 && office.held == 1 && !m.held);
     left = -1;
     mls_office_drop(&office);
     CHECK(entered(&s[0], request(MLS_GET, ANN, MLS_READ, PLANS), 0) == MLS_YES);
     mls_session_drop(&s[0]);
+    /* as many as there may be */
+    open_standard(&m);
+    CHECK(mls_office_open(&office, &m, all, MLS_SESSIONS) == MLS_OK && are_seated(&office, all, MLS_SESSIONS));
+    left = 0;
+    CHECK(mls_office_close(&office, all, &m) == MLS_OK && !all[0].held && !all[MLS_SESSIONS - 1].held);
+    left = -1;
+    mls_close(&m);
     CHECK(live == before);
 }
 

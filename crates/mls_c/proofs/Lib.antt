@@ -5,6 +5,7 @@ pub mod HallBoxes
 pub mod HallPointers
 pub mod LabelAccesses
 pub mod NewNumbers
+pub mod OfficeCalls
 pub mod Offices
 pub mod Openings
 pub mod PlaceBoxes
@@ -14,6 +15,7 @@ pub mod ReadBack
 pub mod ReadConditions
 pub mod Resumings
 pub mod Rows
+pub mod SessionHandles
 pub mod ShortLabels
 pub mod StateOpenings
 pub mod Utf8

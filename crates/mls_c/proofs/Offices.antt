@@ -1,49 +1,22 @@
--- Lists of sessions at home, and what opening and closing tell.
-use Rattle.std.proofs.Common.{◌≡◌, ℕ, suc, zero, ◌+◌, ◌-◌, ◌<◌, ◌≤◌, Bool, List, [], ◌∷◌, ◌++◌, length, drop, refl, sym, ap, subst, ◌∙◌, arith, eq-eqb, append-nil, ⊎_elim, true≢false}
+-- Lists of sessions at home, sessions that made nothing, and what opening and closing tell.
+use Rattle.std.proofs.Common.{◌≡◌, ℕ, suc, zero, ◌+◌, ◌<◌, ◌≤◌, Bool, List, [], ◌∷◌, ◌++◌, length, drop, refl, sym, ap, subst, ◌∙◌, arith, eq-eqb, append-nil, ⊎_elim}
 use Rattle.std.proofs.lemmas.List.{length_push}
 use Rattle.std.proofs.Math.Nat.{eq-or-lt_of_le}
 use Rattle.std.proofs.Math.Seq.{drop-append_seam}
-use Rattle.std.specs.Prelude.{Option, Some, None, IsSomeAnd, is_some, unwrap_or, slice_get, if◌then◌else◌}
+use Rattle.std.specs.Prelude.{Option, Some, None, IsSomeAnd, if◌then◌else◌}
 use mathlib.Core.List.{cons≢nil}
 use Rattle.mls_requests.specs.declared.entry.Entry.{Entry}
 use Rattle.mls_requests.specs.declared.request.Request.{Request}
-use Rattle.mls_monitor.specs.Journal.{Monitor}
 use Rattle.mls_monitor.specs.Entries.{of_session, AllBelow}
-use Rattle.mls_turns.specs.Journals.{Journal, journal, journal_of}
-use Rattle.mls_sessions.specs.Rule.{begun, base, news}
+use Rattle.mls_turns.specs.Journals.{Journal, journal}
+use Rattle.mls_sessions.specs.Rule.{base, news}
 use Rattle.mls_sessions.specs.Sessions.{Office, Session, Ascending, IsOf, HasAll, Leaves, Submits, newcomers, number_of}
-use Rattle.mls_c.specs.Opened.{Opened, with_journal}
+use Rattle.mls_c.specs.Opened.{Opened}
 use Rattle.mls_c.specs.Answers.{answer_of}
 use Rattle.mls_c.specs.declared.answer.Answer.{Answer}
 use Rattle.mls_c.specs.Offices.{Place, Hall, Seats, NumbersBelow, MakesEntry, HasMonitor, OpensOffice, ClosesOffice, opened_of}
 use Rattle.mls_sessions.proofs.Laws.{at_most}
 pub use Rattle.mls_sessions.proofs.Laws.{ascending_last}
-
-same_some : (s t : Session) → Some s ≡ Some t → t ≡ s
-same_some s t is = sym (ap (λ (o : Option Session). unwrap_or o s) is)
-
--- a number above that of the last is above those of all, as they ascend
-above_all : (o : Office) (k i n : ℕ) (ss : List Session) (s : Session) → Ascending o k ss → i + 1 ≡ length ss → Some s ≡ slice_get ss i → number_of s.view < n
-    → NumbersBelow n ss
-above_all o k i n [] s a many is lt = tt
-above_all o k zero n (x ∷ []) s a many is lt = (subst (λ (t : Session). number_of t.view < n) (sym (same_some s x is)) lt, tt)
-above_all o k zero n (x ∷ y ∷ ss) s a many is lt = absurd (omega arith)
-above_all o k (suc i) n (x ∷ []) s a many is lt = absurd (omega arith)
-above_all o k (suc i) n (x ∷ y ∷ ss) s a many is lt =
-    let rest = above_all o (number_of x.view + 1) i n (y ∷ ss) s a.2 (omega arith) is lt in let high = a.2.1 in let below = rest.0 in let low : number_of x.view < n = omega arith in (low, rest)
-
-pub below_by_last : (o : Office) (n : ℕ) (ss : List Session) (s : Session) → Ascending o 0 ss → Some s ≡ slice_get ss (length ss - 1) → number_of s.view < n → NumbersBelow n ss
-below_by_last o n [] s a is lt = tt
-below_by_last o n (x ∷ ss) s a is lt = above_all o 0 (length (x ∷ ss) - 1) n (x ∷ ss) s a (omega arith) is lt
-
-one_below : (i n : ℕ) (ss : List Session) (s : Session) → NumbersBelow n ss → Some s ≡ slice_get ss i → number_of s.view < n
-one_below i n [] s b is = absurd (true≢false (ap (λ (o : Option Session). is_some o) is))
-one_below zero n (x ∷ ss) s b is = subst (λ (t : Session). number_of t.view < n) (same_some s x is) b.0
-one_below (suc i) n (x ∷ ss) s b is = one_below i n ss s b.1 is
-
--- and where it is above all, it is above that of the last
-pub last_below : (n : ℕ) (ss : List Session) (s : Session) → NumbersBelow n ss → Some s ≡ slice_get ss (length ss - 1) → number_of s.view < n
-last_below n ss s b is = one_below (length ss - 1) n ss s b is
 
 -- one with a number above those of the others may come last
 pub one_more : (o : Office) (k n : ℕ) (xs : List Session) (s : Session) → Ascending o k xs → NumbersBelow n xs → n ≤ number_of s.view → k ≤ number_of s.view → IsOf o s → Ascending o k (xs ++ s ∷ [])
@@ -60,9 +33,34 @@ pub makes_entry : (p q : Place) (request : Option Request) (r : Request) (e : En
     → MakesEntry (Some p) request (Some q) answer
 makes_entry p q request r e answer is same number made told = subst (λ (x : Option Request). MakesEntry (Some p) x (Some q) answer) (sym is) ((same, number), (e, made, told))
 
--- an open monitor with the journal that it had is as it was
-pub restored : (o now : Opened) (m : Monitor) (j : Journal) → j ≡ journal_of m → m.start ≡ o.start → m.entries ≡ o.entries → m.forgotten ≡ o.forgotten → now ≡ with_journal o.names j → now ≡ o
-restored o now m j same start entries forgotten is = is ∙ ap (with_journal o.names) same ∙ (λ k. record { names = o.names; start = start k; entries = entries k; forgotten = forgotten k })
+-- sessions that made nothing leave the journal as it was
+has_back : (o : Office) (j : Journal) (xs ys : List Session) → HasAll o j (xs ++ ys) → HasAll o j ys
+has_back o j [] ys all = all
+has_back o j (x ∷ xs) ys all = has_back o j xs ys all.2
+
+has_front : (o : Office) (j : Journal) (xs ys : List Session) → HasAll o j (xs ++ ys) → HasAll o j xs
+has_front o j [] ys all = tt
+has_front o j (x ∷ xs) ys all = (all.0, all.1, has_front o j xs ys all.2)
+
+none_left : (n : ℕ) (es : List Entry) → AllBelow n es → ((k : ℕ) → k < n → of_session k es ≡ []) → es ≡ []
+none_left n [] b none = refl
+none_left n (e ∷ es) b none = absurd (cons≢nil (sym (ap (λ (x : Bool). if x then e ∷ of_session e.session es else of_session e.session es) (eq-eqb e.session e.session refl)) ∙ none e.session b.0))
+
+none_of : (o : Office) (j : Journal) (k m : ℕ) → HasAll o j (newcomers o (suc m)) → k ≡ m → of_session k (news o.charter j) ≡ []
+none_of o j k m all is = subst (λ (n : ℕ). of_session n (news o.charter j) ≡ []) (sym is) (has_back o j (newcomers o m) _ all).1
+
+own_none : (o : Office) (j : Journal) (n k : ℕ) → k < n → HasAll o j (newcomers o n) → of_session k (news o.charter j) ≡ []
+own_none o j zero k lt all = absurd (omega arith)
+own_none o j (suc m) k lt all = let le : k ≤ m = omega arith in
+    ⊎_elim (λ (is : k ≡ m). none_of o j k m all is) (λ (low : k < m). own_none o j m k low (has_front o j (newcomers o m) _ all)) (eq-or-lt_of_le le)
+
+no_news : (o : Office) (n : ℕ) (j : Journal) → o.charter.count ≡ n → Leaves o (newcomers o n) j → news o.charter j ≡ []
+no_news o n j is left = none_left o.charter.count (news o.charter j) left.below (λ k lt. own_none o j n k (subst (λ (c : ℕ). k < c) is lt) left.all)
+
+pub same_entries : (o : Office) (n : ℕ) (j : Journal) → o.charter.count ≡ n → Leaves o (newcomers o n) j → j.entries ≡ base o.charter
+same_entries o n j is left = let p = left.begins in
+    let rest : p.0 ≡ [] = sym (drop-append_seam (base o.charter) p.0) ∙ ap (λ (es : List Entry). drop (length (base o.charter)) es) p.1 ∙ no_news o n j is left in
+    sym p.1 ∙ ap (λ (es : List Entry). base o.charter ++ es) rest ∙ append-nil (base o.charter)
 
 -- an office is opened with a monitor
 pub opens_office : (old : Option Opened) (n : ℕ) (new : Option Hall) (v : Opened) (h : Hall) → old ≡ Some v → new ≡ Some h → h.opened.names ≡ v.names → IsSomeAnd h.seats (HasMonitor v n) → OpensOffice old n new

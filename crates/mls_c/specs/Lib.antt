@@ -14,6 +14,7 @@ pub mod Opened
 pub mod Requests
 pub mod Resumed
 pub mod Seen
+pub mod SessionHandles
 pub mod StateStart
 pub mod StateText
 pub mod Texts

@@ -115,17 +115,24 @@ MakesEntry old request new answer = IsSomeAnd old (λ p. IsSomeAnd request (λ r
     × (answer ≡ answer_of e.number e.reply)))))
 
 -- What opening an office returns: that its handle is open already, or the monitor's is closed, or there can't be so
--- many sessions; else it is open, or there is no memory. (own)
-abbrev pub OfficeStatus : Option Hall → Option Opened → ℕ → ℤ → Type 0
-OfficeStatus (Some h) v n status = status ≡ EOPEN
-OfficeStatus None None n status = status ≡ ECLOSED
-OfficeStatus None (Some v) n status =
-    (is_count n ≡ true → (status ≡ OK) ⊎ (status ≡ ENOMEM)) × (is_count n ≡ false → status ≡ EINVAL)
+-- many sessions; else how that ends. (own)
+abbrev pub OfficeStatus : (ℤ → Type 0) → Option Hall → Option Opened → ℕ → ℤ → Type 0
+OfficeStatus Ends (Some h) v n status = status ≡ EOPEN
+OfficeStatus Ends None None n status = status ≡ ECLOSED
+OfficeStatus Ends None (Some v) n status = (is_count n ≡ true → Ends status) × (is_count n ≡ false → status ≡ EINVAL)
 
--- An office with a monitor's start and journal, and with so many sessions that are all at home. (own)
+-- It is open, or there is no memory. (own)
+abbrev pub IsTried : ℤ → Type 0
+IsTried status = (status ≡ OK) ⊎ (status ≡ ENOMEM)
+
+-- An office with a monitor's start and journal, and with so many sessions. (own)
+abbrev pub HasJournal : Opened → ℕ → Seats → Type 0
+HasJournal v n t = (begun t.office.charter ≡ v.start) × (base t.office.charter ≡ v.entries)
+    × (t.office.charter.forgotten ≡ v.forgotten) × (t.office.charter.count ≡ n)
+
+-- The same, and its sessions are all at home. (own)
 abbrev pub HasMonitor : Opened → ℕ → Seats → Type 0
-HasMonitor v n t = (begun t.office.charter ≡ v.start) × (base t.office.charter ≡ v.entries)
-    × (t.office.charter.forgotten ≡ v.forgotten) × (t.office.charter.count ≡ n) × (t.home ≡ newcomers t.office n)
+HasMonitor v n t = HasJournal v n t × (t.home ≡ newcomers t.office n)
 
 -- The monitor of a handle went into an office. (own)
 abbrev pub OpensOffice : Option Opened → ℕ → Option Hall → Type 0
@@ -142,35 +149,6 @@ abbrev pub opened_of : Option Hall → Option Opened
 opened_of None = None
 opened_of (Some h) = Some h.opened
 
--- What handing out a session returns: that the office's handle is closed, or that of the session open; else one is
--- handed out, or none is at home, or there is no memory. (own)
-abbrev pub HandStatus : Option Seats → Option Place → ℤ → Type 0
-HandStatus None p status = status ≡ ECLOSED
-HandStatus (Some t) (Some p) status = status ≡ EOPEN
-HandStatus (Some t) None status = (status ≡ OK) ⊎ ((status ≡ EBUSY) × (t.home ≡ [])) ⊎ (status ≡ ENOMEM)
-
--- The last of the sessions at home was handed out. (own)
-abbrev pub HandsOut : Option Seats → Option Seats → Option Place → Type 0
-HandsOut old new handed = IsSomeAnd old (λ t. IsSomeAnd new (λ u. IsSomeAnd handed (λ p.
-    (u.office ≡ t.office) × (p.office ≡ t.office) × (t.home ≡ u.home ++ p.session ∷ []))))
-
--- A session's handle is of the office of this handle, where both are open. (own)
-abbrev pub IsOfOffice : Option Hall → Option Place → Type 0
-IsOfOffice hall place = (t : Seats) (p : Place) → seats_of hall ≡ Some t → place ≡ Some p → p.office ≡ t.office
-
--- What giving a session back returns: that a handle is closed; else it is at home if its number is above those of the
--- sessions at home, and is refused if not. (own)
-abbrev pub ReturnStatus : Option Seats → Option Place → ℤ → Type 0
-ReturnStatus None p status = status ≡ ECLOSED
-ReturnStatus (Some t) None status = status ≡ ECLOSED
-ReturnStatus (Some t) (Some p) status = ((status ≡ OK) × NumbersBelow (number_of p.session.view) t.home)
-    ⊎ ((status ≡ EINVAL) × (NumbersBelow (number_of p.session.view) t.home → ⊥))
-
--- A session was given back, and is the last of those at home. (own)
-abbrev pub TakesBack : Option Seats → Option Place → Option Seats → Type 0
-TakesBack old given new = IsSomeAnd old (λ t. IsSomeAnd given (λ p. IsSomeAnd new (λ u.
-    (u.office ≡ t.office) × (u.home ≡ t.home ++ p.session ∷ []))))
-
 -- What closing an office returns: that the monitor's handle is open already, or the office's is closed; else it is
 -- closed, or sessions are out. (own)
 abbrev pub CloseStatus : Option Opened → Option Seats → ℤ → Type 0
@@ -182,7 +160,3 @@ CloseStatus None (Some t) status = (status ≡ OK) ⊎ (status ≡ EBUSY)
 abbrev pub ClosesOffice : Option Hall → Option Opened → Type 0
 ClosesOffice old new = IsSomeAnd old (λ h. IsSomeAnd h.seats (λ t. IsSomeAnd new (λ v.
     (v.names ≡ h.opened.names) × Leaves t.office t.home (journal v.start v.forgotten v.entries))))
-
--- Sessions of the office are out. (own)
-abbrev pub AreOut : Option Seats → Type 0
-AreOut old = IsSomeAnd old (λ t. length t.home < t.office.charter.count)

@@ -23,6 +23,7 @@ mod label_text;
 mod lines;
 mod names;
 mod object_info;
+mod office_closing;
 mod office_handle;
 mod office_opening;
 mod opened;
@@ -38,6 +39,7 @@ mod session_batch;
 mod session_counting;
 mod session_explaining;
 mod session_handle;
+mod session_handles;
 mod session_infos;
 mod session_labels;
 mod session_lines;
@@ -73,10 +75,9 @@ pub use label_text::{mls_read_label_bytes, mls_write_label_bytes};
 pub use lines::mls_entry_bytes;
 pub use names::{mls_object_bytes, mls_subject_bytes};
 pub use object_info::{ObjectInfo, mls_next_child, mls_object_name_bytes, mls_read_object};
+pub use office_closing::mls_office_close_sessions;
 pub use office_handle::{MlsOffice, mls_office_drop};
-pub use office_opening::{
-    mls_office_close_monitor, mls_office_hand_out, mls_office_open_monitor, mls_office_take_back,
-};
+pub use office_opening::mls_office_open_sessions;
 pub use opened::Opened;
 pub use opening::mls_open_bytes;
 pub use pair_info::{PairInfo, mls_read_pair};

@@ -15,6 +15,10 @@ pub struct MlsOffice {
     pub held: u32,
     /// The office.
     pub hall: KeptHall,
+    /// The serial of the office that was opened last in this handle: no other office has it.
+    pub serial: u64,
+    /// How many sessions that office has.
+    pub count: u16,
     pub ghost told: { ToldHall held hall.value },
 }
 
@@ -25,6 +29,8 @@ impl MlsOffice {
         ensures none { IfNone result (self.old.hall.value ≡ None) }
         ensures closed { self.new.hall.value ≡ None }
         ensures flag { self.new.held ≡ 0 }
+        ensures serial { self.new.serial ≡ self.old.serial }
+        ensures count { self.new.count ≡ self.old.count }
     {
         if self.held == 0 {
             return None;
@@ -38,6 +44,8 @@ impl MlsOffice {
     pub(crate) fn put(&mut self, hall: Box<Hall, Global>)
         ensures value { self.new.hall.value ≡ Some hall.value }
         ensures flag { self.new.held ≡ 1 }
+        ensures serial { self.new.serial ≡ self.old.serial }
+        ensures count { self.new.count ≡ self.old.count }
     {
         self.hall = KeptHall::of(hall);
         self.held = 1;

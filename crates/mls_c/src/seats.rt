@@ -1,6 +1,5 @@
 //! An office with those of its sessions that are at home.
-ghost use Rattle.std.specs.Prelude.{◌≡◌, ◌<◌, ◌∷◌, [], ◌++◌, length, IfOk, IfErr, OnOk, OnErr, IsErr, IsTrue};
-ghost use Rattle.std.specs.Bool.{Decides};
+ghost use Rattle.std.specs.Prelude.{◌≡◌, ◌<◌, ◌∷◌, [], ◌++◌, length, nat_eq, IfOk, IfErr, OnErr, IsErr, IsTrue};
 ghost use Rattle.mls_turns.specs.Journals.{journal_of};
 ghost use Rattle.mls_sessions.specs.Rule.{begun, base};
 ghost use Rattle.mls_sessions.specs.Sessions.{Leaves, is_count, newcomers, number_of};
@@ -9,7 +8,7 @@ ghost use Rattle.mls_c.specs.Offices.{NumbersBelow};
 use crate::place::Place;
 use mls_monitor::Monitor;
 use mls_sessions::{Office, OfficeFault, Session};
-use std::alloc::Global;
+use std::alloc::{AllocError, Global};
 use std::marker::Model;
 use std::sync::Arc;
 
@@ -39,15 +38,6 @@ impl Model for Seats {
         × ((arc_value t.office).charter.lasts ≡ false) };
 }
 
-/// Why a session isn't handed out.
-#[derive(Clone, Copy)]
-pub enum HandFault {
-    /// None is at home.
-    NoneLeft,
-    /// An allocation failed.
-    Memory,
-}
-
 impl Seats {
     /// Opens a monitor to so many sessions, which are all at home.
     ///
@@ -70,64 +60,50 @@ impl Seats {
         })
     }
 
+    /// Whether no session is at home.
+    pub(crate) fn is_empty(&self) -> bool
+        ensures { result ≡ nat_eq (length self.now.home) 0 }
+    {
+        self.home.is_empty()
+    }
+
     /// Hands out the last of the sessions at home.
     ///
     /// # Errors
-    /// `NoneLeft` where none is at home, `Memory` where an allocation failed; all is then as before.
+    /// `AllocError` where an allocation failed; all is then as before.
     #[tactic(auto, using(crate::proofs::Offices::ascending_last))]
-    pub(crate) fn hand_out(&mut self, alloc: Global) -> Result<Box<Place, Global>, HandFault>
+    pub(crate) fn hand_out(&mut self, alloc: Global) -> Result<Box<Place, Global>, AllocError>
+        requires { 0 < length self.old.home }
         ensures office { self.new.office ≡ self.old.office }
         ensures ok { IfOk result (λ p. (p.value.office ≡ self.old.office)
             × (self.old.home ≡ self.new.home ++ p.value.session ∷ [])) }
-        ensures none { IfErr result (λ fault. fault ≡ HandFault.NoneLeft → self.old.home ≡ []) }
         ensures err { OnErr result (self.new ≡ self.old) }
     {
         let Ok(office) = Arc::try_clone(&self.office) else {
-            return Err(HandFault::Memory);
+            return Err(AllocError);
         };
         let Some(session) = self.home.pop() else {
-            return Err(HandFault::NoneLeft);
+            unreachable!()
         };
         match Box::new(alloc, Place::of(office, session)) {
             Ok(place) => Ok(place),
             Err(refused) => {
                 self.home.push_reserved(refused.value.into_session());
-                Err(HandFault::Memory)
+                Err(AllocError)
             }
         }
     }
 
-    /// Whether a number is above those of the sessions at home.
-    #[tactic(auto, using(crate::proofs::Offices::below_by_last, crate::proofs::Offices::last_below))]
-    fn is_above(&self, number: u32) -> bool
-        ensures { Decides result (NumbersBelow number self.now.home) }
-    {
-        match self.home.last() {
-            Some(last) => last.number() < number,
-            None => true,
-        }
-    }
-
-    /// Takes a session of the office back. It needs no memory.
-    ///
-    /// # Errors
-    /// The session as it was handed in, where its number isn't above those at home; all is then as before.
+    /// Takes a session of the office back, whose number is above those at home. It needs no memory.
     #[tactic(auto, using(crate::proofs::Offices::one_more))]
-    pub(crate) fn take_back(&mut self, place: Box<Place, Global>) -> Result<(), Box<Place, Global>>
-        requires { place.value.office ≡ self.old.office }
+    pub(crate) fn take_back(&mut self, place: Box<Place, Global>)
+        requires office { place.value.office ≡ self.old.office }
+        requires above { NumbersBelow (number_of place.value.session.view) self.old.home }
         ensures office { self.new.office ≡ self.old.office }
-        ensures above { OnOk result (NumbersBelow (number_of place.value.session.view) self.old.home) }
-        ensures order { OnErr result (NumbersBelow (number_of place.value.session.view) self.old.home → ⊥) }
-        ensures ok { OnOk result (self.new.home ≡ self.old.home ++ place.value.session ∷ []) }
-        ensures err { OnErr result (self.new ≡ self.old) }
-        ensures given { IfErr result (λ same. same.value ≡ place.value) }
+        ensures back { self.new.home ≡ self.old.home ++ place.value.session ∷ [] }
     {
-        if !self.is_above(place.number()) {
-            return Err(place);
-        }
         self.home
             .push_reserved(Box::into_inner(place).into_session());
-        Ok(())
     }
 
     /// Closes the office, and gives the monitor back, with the journal of all sessions.

@@ -3,6 +3,7 @@ ghost use Rattle.std.specs.Prelude.{◌≡◌, ◌≢◌, ℕ, Some, pos};
 ghost use Rattle.mls_c.specs.Seen.{Reaches};
 ghost use Rattle.mls_c.specs.Requests.{mode_at, request_of};
 ghost use Rattle.mls_c.specs.Offices.{CheckStatus, DecideStatus, SessionStatus, IsAlone, Checks, Decides, MakesEntry};
+ghost use Rattle.mls_c.specs.SessionHandles.{KeepsSeat};
 ghost use Rattle.mls_c.specs.declared.status.TheConstants.{OK, EBUSY};
 
 use crate::answer::Answer;
@@ -47,6 +48,7 @@ pub extern "C" fn mls_session_check(
     ensures same { result ≢ OK → s.new.place.value ≡ s.old.place.value }
     ensures silent { result ≢ OK → held.new ≡ pos 0 }
     ensures alone { IsAlone s.old.place.value → result ≢ EBUSY }
+    ensures seat { KeepsSeat s.old s.new }
 {
     *held = 0;
     if s.held == 0 {
@@ -100,6 +102,7 @@ pub extern "C" fn mls_session_decide(
     ensures same { result ≢ OK → s.new.place.value ≡ s.old.place.value }
     ensures silent { result ≢ OK → answer.new ≡ answer.old }
     ensures alone { IsAlone s.old.place.value → result ≢ EBUSY }
+    ensures seat { KeepsSeat s.old s.new }
 {
     if s.held == 0 {
         return ECLOSED;
@@ -146,6 +149,7 @@ pub extern "C" fn mls_session_submit(
     ensures same { result ≢ OK → s.new.place.value ≡ s.old.place.value }
     ensures silent { result ≢ OK → answer.new ≡ answer.old }
     ensures alone { IsAlone s.old.place.value → result ≢ EBUSY }
+    ensures seat { KeepsSeat s.old s.new }
 {
     if s.held == 0 {
         return ECLOSED;

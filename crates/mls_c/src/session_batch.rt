@@ -4,6 +4,7 @@ ghost use Rattle.mls_requests.specs.declared.reply.Reply.TheVariants.{Undefined}
 ghost use Rattle.mls_c.specs.Answers.{number_of_reply};
 ghost use Rattle.mls_c.specs.Batches.{AreLabelReplies, pairs_status};
 ghost use Rattle.mls_c.specs.Seen.{LookStatus, InSeen, state_at};
+ghost use Rattle.mls_c.specs.SessionHandles.{KeepsSeat};
 ghost use Rattle.mls_c.specs.declared.status.TheConstants.{OK, EINVAL};
 
 use crate::batch::{LabelPair, decide_pairs};
@@ -79,6 +80,7 @@ pub extern "C" fn mls_session_decide_label_pairs(
     ensures refused { result ≡ EINVAL
         → replies.new ≡ replicate (length replies.old) (number_of_reply Undefined) }
     ensures silent { result ≢ OK → result ≢ EINVAL → replies.new ≡ replies.old }
+    ensures seat { KeepsSeat s.old s.new }
 {
     if s.held == 0 {
         return ECLOSED;

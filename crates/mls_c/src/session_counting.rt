@@ -4,6 +4,7 @@ ghost use Rattle.mls_state.specs.State.{is_subject, is_active};
 ghost use Rattle.mls_c.specs.Infos.{AreCounts, child_above, pair_info, there_status};
 ghost use Rattle.mls_c.specs.Seen.{LookStatus, InSeen, state_at};
 ghost use Rattle.mls_c.specs.Texts.{found_status};
+ghost use Rattle.mls_c.specs.SessionHandles.{KeepsSeat};
 ghost use Rattle.mls_c.specs.declared.status.TheConstants.{OK};
 
 use crate::counts::Counts;
@@ -78,6 +79,7 @@ pub extern "C" fn mls_session_read_pair(
         s.new.place.value result }
     ensures copied { result ≡ OK → InSeen s.new.place.value (λ j. info.new ≡ pair_info (state_at j) subject object) }
     ensures silent { result ≢ OK → info.new ≡ info.old }
+    ensures seat { KeepsSeat s.old s.new }
 {
     if s.held == 0 {
         return ECLOSED;
@@ -126,6 +128,7 @@ pub extern "C" fn mls_session_count(s: &mut MlsSession, counts: &mut Counts) -> 
     ensures told { result ≡ OK
         → InSeen s.new.place.value (λ j. AreCounts (state_at j) (length j.entries) counts.new) }
     ensures silent { result ≢ OK → counts.new ≡ counts.old }
+    ensures seat { KeepsSeat s.old s.new }
 {
     if s.held == 0 {
         return ECLOSED;
@@ -194,6 +197,7 @@ pub extern "C" fn mls_session_next_child(
     ensures found { result ≡ OK
         → InSeen s.new.place.value (λ j. child_above (state_at j) object above ≡ Some child.new) }
     ensures silent { result ≢ OK → child.new ≡ child.old }
+    ensures seat { KeepsSeat s.old s.new }
 {
     if s.held == 0 {
         return ECLOSED;

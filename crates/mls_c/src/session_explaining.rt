@@ -3,6 +3,7 @@ ghost use Rattle.std.specs.Prelude.{◌≡◌, ◌≢◌, ◌⊎◌, ◌++◌, l
 ghost use Rattle.mls_c.specs.Conditions.{numbers_of_condition, numbers_of_remedy};
 ghost use Rattle.mls_c.specs.Seen.{ExplainLook, InSeen, ExplainsAt, CountsAt};
 ghost use Rattle.mls_c.specs.Requests.{request_of};
+ghost use Rattle.mls_c.specs.SessionHandles.{KeepsSeat};
 ghost use Rattle.mls_c.specs.declared.status.TheConstants.{OK, ERANGE};
 
 use crate::condition_numbers::ConditionNumbers;
@@ -129,6 +130,7 @@ pub extern "C" fn mls_session_explain_rows(
         → InSeen s.new.place.value (CountsAt (request_of asked.now) count.new) }
     ensures silent { result ≢ OK → result ≢ ERANGE → count.new ≡ count.old }
     ensures remedy { result ≢ OK → level.new ≡ level.old }
+    ensures seat { KeepsSeat s.old s.new }
 {
     if s.held == 0 {
         return ECLOSED;

@@ -15,6 +15,10 @@ pub struct MlsSession {
     pub held: u32,
     /// The session.
     pub place: KeptPlace,
+    /// The serial of the office that it was opened with last. It stays when the handle is closed.
+    pub serial: u64,
+    /// The session's number in that office.
+    pub number: u16,
     pub ghost told: { ToldPlace held place.value },
 }
 
@@ -25,6 +29,8 @@ impl MlsSession {
         ensures none { IfNone result (self.old.place.value ≡ None) }
         ensures closed { self.new.place.value ≡ None }
         ensures flag { self.new.held ≡ 0 }
+        ensures serial { self.new.serial ≡ self.old.serial }
+        ensures number { self.new.number ≡ self.old.number }
     {
         if self.held == 0 {
             return None;
@@ -34,13 +40,17 @@ impl MlsSession {
         Some(place.into_box(alloc))
     }
 
-    /// Puts a session into the handle.
-    pub(crate) fn put(&mut self, place: Box<Place, Global>)
+    /// Puts a session into the handle, with the serial of its office and its number there.
+    pub(crate) fn put(&mut self, place: Box<Place, Global>, serial: u64, number: u16)
         ensures value { self.new.place.value ≡ Some place.value }
         ensures flag { self.new.held ≡ 1 }
+        ensures serial { self.new.serial ≡ serial }
+        ensures number { self.new.number ≡ number }
     {
         self.place = KeptPlace::of(place);
         self.held = 1;
+        self.serial = serial;
+        self.number = number;
     }
 }
 
@@ -49,6 +59,8 @@ impl MlsSession {
 pub extern "C" fn mls_session_drop(s: &mut MlsSession, alloc: Global)
     ensures closed { s.new.place.value ≡ None }
     ensures flag { s.new.held ≡ 0 }
+    ensures serial { s.new.serial ≡ s.old.serial }
+    ensures number { s.new.number ≡ s.old.number }
 {
     drop(s.take(alloc));
 }

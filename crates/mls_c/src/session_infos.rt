@@ -3,6 +3,7 @@ ghost use Rattle.std.specs.Prelude.{◌≡◌, ◌≢◌, Some};
 ghost use Rattle.mls_state.specs.State.{is_subject, is_active};
 ghost use Rattle.mls_c.specs.Infos.{IsSubjectInfo, IsObjectInfo, there_status};
 ghost use Rattle.mls_c.specs.Seen.{LookStatus, InSeen, state_at};
+ghost use Rattle.mls_c.specs.SessionHandles.{KeepsSeat};
 ghost use Rattle.mls_c.specs.declared.status.TheConstants.{OK};
 
 use crate::object_info::{ObjectInfo, copy_object};
@@ -69,6 +70,7 @@ pub extern "C" fn mls_session_read_subject(
         (λ j status. status ≡ there_status (is_subject (state_at j) subject)) s.new.place.value result }
     ensures copied { result ≡ OK → InSeen s.new.place.value (λ j. IsSubjectInfo (state_at j) subject info.new) }
     ensures silent { result ≢ OK → info.new ≡ info.old }
+    ensures seat { KeepsSeat s.old s.new }
 {
     if s.held == 0 {
         return ECLOSED;
@@ -132,6 +134,7 @@ pub extern "C" fn mls_session_read_object(
         (λ j status. status ≡ there_status (is_active (state_at j) object)) s.new.place.value result }
     ensures copied { result ≡ OK → InSeen s.new.place.value (λ j. IsObjectInfo (state_at j) object info.new) }
     ensures silent { result ≢ OK → info.new ≡ info.old }
+    ensures seat { KeepsSeat s.old s.new }
 {
     if s.held == 0 {
         return ECLOSED;

@@ -2,6 +2,7 @@
 ghost use Rattle.std.specs.Prelude.{◌≡◌, ◌≢◌, Some};
 ghost use Rattle.mls_c.specs.LabelAsking.{IsLabelReply, access_of, access_status};
 ghost use Rattle.mls_c.specs.Seen.{LookStatus, InSeen, state_at};
+ghost use Rattle.mls_c.specs.SessionHandles.{KeepsSeat};
 ghost use Rattle.mls_c.specs.declared.status.TheConstants.{OK};
 
 use crate::label::LabelNumbers;
@@ -96,6 +97,7 @@ pub extern "C" fn mls_session_decide_label(
     ensures answered { result ≡ OK → InSeen s.new.place.value
         (λ j. IsLabelReply (state_at j) (access_of subject mode security.now integrity.now) reply.new) }
     ensures silent { result ≢ OK → reply.new ≡ reply.old }
+    ensures seat { KeepsSeat s.old s.new }
 {
     if s.held == 0 {
         return ECLOSED;

@@ -2,6 +2,7 @@
 ghost use Rattle.std.specs.Prelude.{◌≡◌, ◌≢◌, Some};
 ghost use Rattle.mls_c.specs.Seen.{LookStatus, SeeStatus, Reaches, AreOfOneOffice, MeetsIn, meet_status};
 ghost use Rattle.mls_c.specs.Seen.{CountsIn, changes_status, Done, ForgetsIn};
+ghost use Rattle.mls_c.specs.SessionHandles.{KeepsSeat};
 ghost use Rattle.mls_c.specs.declared.status.TheConstants.{OK};
 
 use crate::place::Place;
@@ -26,6 +27,7 @@ fn see_place(place: &mut Place, n: u64) -> i32
 pub extern "C" fn mls_session_see(s: &mut MlsSession, n: u64) -> i32
     ensures status { LookStatus s.old.place.value (SeeStatus n) s.new.place.value result }
     ensures seen { result ≡ OK → Reaches n s.new.place.value }
+    ensures seat { KeepsSeat s.old s.new }
 {
     if s.held == 0 {
         return ECLOSED;
@@ -51,6 +53,7 @@ fn forget_through(place: &mut Place, n: u64) -> i32
 pub extern "C" fn mls_session_forget(s: &mut MlsSession, n: u64) -> i32
     ensures status { LookStatus s.old.place.value Done s.new.place.value result }
     ensures forgets { result ≡ OK → ForgetsIn n s.old.place.value s.new.place.value }
+    ensures seat { KeepsSeat s.old s.new }
 {
     if s.held == 0 {
         return ECLOSED;
@@ -66,6 +69,7 @@ pub extern "C" fn mls_session_changes(s: &mut MlsSession, count: &mut u64) -> i3
     ensures counts { result ≡ OK → CountsIn s.old.place.value count.new s.new.place.value }
     ensures same { result ≢ OK → s.new.place.value ≡ s.old.place.value }
     ensures silent { result ≢ OK → count.new ≡ count.old }
+    ensures seat { KeepsSeat s.old s.new }
 {
     if s.held == 0 {
         return ECLOSED;
@@ -85,6 +89,8 @@ pub extern "C" fn mls_session_meet_other(s: &mut MlsSession, other: &mut MlsSess
         → MeetsIn s.old.place.value other.old.place.value s.new.place.value other.new.place.value }
     ensures same { result ≢ OK → s.new.place.value ≡ s.old.place.value }
     ensures other { result ≢ OK → other.new.place.value ≡ other.old.place.value }
+    ensures seat { KeepsSeat s.old s.new }
+    ensures other_seat { KeepsSeat other.old other.new }
 {
     if s.held == 0 || other.held == 0 {
         return ECLOSED;
