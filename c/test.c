@@ -1255,7 +1255,8 @@ static void refused_states(void) {
     refused_part("object plans", "object #1", 1, 7);
     refused_part("object plans", "object plan", 1, 7);
     refused_part("hi parent root\n", "hi\n", 1, ANYWHERE);
-    refused_part("hi parent root\n", "hi parent memo\n", 1, 7);
+    /* (a parent may have a greater number than its child: this one is a state, and isn't compatible) */
+    refused_part("hi parent root\n", "hi parent memo\n", 3, 0);
     refused_part("hi parent root\n", "hi parent plans\n", 1, 7);
     refused_part("permit ann read plans", "permit ann reads plans", 1, 10);
     refused_part("permit ann read plans", "permit zoe read plans", 1, 10);
@@ -1940,7 +1941,7 @@ static void refused_turns(void) {
     for (count = 1; count <= 3; count += 2) {
         long k = 0, opened = 0, asked_for = 0, before = live;
         while (turns_with_refusals(count, k, &opened, &asked_for) && k < 1000) k++;
-        CHECK(k < 1000 && opened >= 3 && asked_for >= 2 && live == before);
+        CHECK(k < 1000 && opened >= 3 && asked_for >= count && live == before);
     }
 }
 

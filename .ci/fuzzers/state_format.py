@@ -94,12 +94,11 @@ class Read:
         return int(told[1] == "access"), subject, thing, MODES.index(told[3])
 
     def require_tree(self):
-        """Below the root stand all objects, and the next number is that of the profile. Where numbers aren't used again
-        a parent was there before its child."""
+        """Below the root stand all objects, and the next number is that of the profile."""
         require(self.subjects and 0 in self.objects)
         for number, (_, _, parent) in self.objects.items():
             require((parent is None) == (number == 0))
-            require(parent is None or parent in self.objects and (self.profile == 2 or parent < number))
+            require(parent is None or parent in self.objects)
             seen = set()
             while number:
                 require(number not in seen)
