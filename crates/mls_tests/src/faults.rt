@@ -65,9 +65,9 @@ fn reads(rt: &impl Abort, alloc: Global, fault: impl Display + Drop, wanted: &st
 fn faults_without_memory_have_their_texts(rt: HostRuntime) {
     reads(&rt, rt.alloc(), LoadFault::Memory, "out of memory");
     reads(&rt, rt.alloc(), OfficeFaultKind::Memory, "out of memory");
-    let (memory, thread) = (CommandFault::Memory, CommandFault::Thread);
-    reads(&rt, rt.alloc(), memory, "out of memory");
+    reads(&rt, rt.alloc(), CommandFault::Memory, "out of memory");
+    let thread = CommandFault::Thread;
     reads(&rt, rt.alloc(), thread, "a thread couldn't be started");
-    let are_one = status(memory) == 1 && status(thread) == 1;
+    let are_one = status(CommandFault::Memory) == 1 && status(CommandFault::Thread) == 1;
     sees(&rt, are_one, "the status");
 }

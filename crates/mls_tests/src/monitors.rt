@@ -12,11 +12,10 @@ use std::test::Fail;
 
 /// Three requests, and their replies.
 fn three() -> [(Request, Reply); 3] {
-    let read = get(ANN, Mode::Read, PLANS);
     [
         (get(ANN, Mode::Read, MEMO), Reply::No(Reason::Integrity)),
-        (read, Reply::Yes),
-        (read, Reply::Yes),
+        (get(ANN, Mode::Read, PLANS), Reply::Yes),
+        (get(ANN, Mode::Read, PLANS), Reply::Yes),
     ]
 }
 
@@ -46,9 +45,9 @@ fn has_six(rt: &impl Abort, monitor: &mut Monitor) {
     let is_taken = monitor.entries() == six_entries().as_slice();
     sees(rt, is_taken, "the journal");
     sees(rt, !monitor.check(BOB, MEMO, Mode::Read), "what is read");
-    let read = get(BOB, Mode::Read, MEMO);
-    let denied = Entry::new(6, 0, read, Reply::No(Reason::Star));
-    sees(rt, monitor.submit(0, read) == Ok(denied), "the level");
+    let denied = Entry::new(6, 0, get(BOB, Mode::Read, MEMO), Reply::No(Reason::Star));
+    let answer = monitor.submit(0, get(BOB, Mode::Read, MEMO));
+    sees(rt, answer == Ok(denied), "the level");
 }
 
 /// Asserts what the standard start counts.
