@@ -83,7 +83,8 @@ OpeningStatus handles n hall v status =
     (are_closed handles ≡ false → status ≡ EOPEN)
     × (are_closed handles ≡ true → OfficeStatus IsTriedWith hall v n status)
 
--- An open monitor has the names, the start and the entries that it had, and at least so much of them is forgotten. (own)
+-- An open monitor has the names, the start and the entries that it had, and at least so much of them is forgotten.
+-- (own)
 abbrev pub IsAsBefore : Opened → Opened → Type 0
 IsAsBefore v w = (w.names ≡ v.names) × (w.start ≡ v.start) × (w.entries ≡ v.entries) × (v.forgotten ≤ w.forgotten)
 
@@ -131,8 +132,8 @@ abbrev pub gives_all : ℕ → ℕ → Option Seats → List SessionHandle → B
 gives_all serial count None handles = false
 gives_all serial count (Some t) handles = are_numbered serial count 0 handles && are_all_out t handles
 
--- What giving sessions back returns: that the office is closed, or one of the handles isn't that of the office's session
--- of its place, or one isn't open; else how that ends. (own)
+-- What giving sessions back returns: that the office is closed, or one of the handles isn't that of the office's
+-- session of its place, or one isn't open; else how that ends. (own)
 abbrev pub GivingStatus : (ℤ → Type 0) → ℕ → ℕ → Option Seats → List SessionHandle → ℤ → Type 0
 GivingStatus Ends serial count None handles status = status ≡ ECLOSED
 GivingStatus Ends serial count (Some t) handles status =
@@ -159,7 +160,8 @@ abbrev pub TakesAllBack : Option Seats → List SessionHandle → Option Seats �
 TakesAllBack old handles new = IsSomeAnd old (λ t. IsSomeAnd new (λ u.
     (u.office ≡ t.office) × (u.home ≡ sessions_of handles)))
 
--- The closing was refused before a session was moved: it isn't done, and is not busy where all sessions are given. (own)
+-- The closing was refused before a session was moved: it isn't done, and is not busy where all sessions are given.
+-- (own)
 abbrev pub IsRefused : MlsOffice → List MlsSession → ℤ → Type 0
 IsRefused office sessions status = (status ≢ OK)
     × (status ≡ EBUSY → gives_all office.serial office.count (seats_of office.hall.value) (handles_of sessions) ≡ false)
@@ -169,8 +171,8 @@ abbrev pub IsLeft : MlsOffice → List MlsSession → ℤ → Type 0
 IsLeft office sessions status = (status ≡ EBUSY)
     × (gives_all office.serial office.count (seats_of office.hall.value) (handles_of sessions) ≡ true)
 
--- The monitor came back out of an office, with the names that it had, and with what the sessions of these handles leave.
--- (own)
+-- The monitor came back out of an office, with the names that it had, and with what the sessions of these handles
+-- leave. (own)
 abbrev pub ClosesWith : Option Hall → List SessionHandle → Option Opened → Type 0
 ClosesWith old handles new = IsSomeAnd old (λ h. IsSomeAnd h.seats (λ t. IsSomeAnd new (λ v.
     (v.names ≡ h.opened.names) × Leaves t.office (sessions_of handles) (journal v.start v.forgotten v.entries))))

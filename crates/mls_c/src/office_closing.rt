@@ -111,12 +111,12 @@ pub(crate) fn close_monitor(office: &mut MlsOffice, alloc: Global, m: &mut Mls) 
     }
 }
 
-/// Closes an office with the handles of its sessions, in order, and gives the monitor's handle its monitor back, with the
-/// journal of all sessions. It doesn't allocate. The caller has to know that each handle with the office's serial is of
-/// the office: c/mls.c gives each opening a serial of its own.
+/// Closes an office with the handles of its sessions, in order, and gives the monitor's handle its monitor back, with
+/// the journal of all sessions. It doesn't allocate. The caller has to know that each handle with the office's serial
+/// is of the office: c/mls.c gives each opening a serial of its own.
 ///
-/// `EBUSY` says that a handle is closed. No run is known to return it where none is: the office then has its sessions at
-/// home, and can only be dropped.
+/// `EBUSY` says that a handle is closed. No run is known to return it where none is: the office then has its sessions
+/// at home, and can only be dropped.
 #[unsafe(no_mangle)]
 pub extern "C" fn mls_office_close_sessions(
     office: &mut MlsOffice,

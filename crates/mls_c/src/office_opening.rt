@@ -51,8 +51,8 @@ fn open_monitor(office: &mut MlsOffice, alloc: Global, m: &mut Mls, count: usize
     }
 }
 
-/// Hands the sessions with the numbers below `n` out into the handles of their places, the last first. They are put into
-/// the handles once there is memory for all.
+/// Hands the sessions with the numbers below `n` out into the handles of their places, the last first. They are put
+/// into the handles once there is memory for all.
 ///
 /// # Errors
 /// `AllocError` where an allocation failed; all is then as before.
@@ -140,9 +140,9 @@ fn hand_out_all(
 /// Opens the monitor of a handle to as many sessions as there are handles, 1 to 64 and all closed. Each handle gets the
 /// session of its place, the serial, which no other opening has, and its number.
 ///
-/// Where there is no memory, nothing is opened. At least so much of the journal is then forgotten as was, and only tests
-/// say that no more is. `EBUSY`, which no run is known to return, says that the office is open, with its sessions at
-/// home: it can only be dropped.
+/// Where there is no memory, nothing is opened. At least so much of the journal is then forgotten as was, and only
+/// tests say that no more is. `EBUSY`, which no run is known to return, says that the office is open, with its sessions
+/// at home: it can only be dropped.
 #[unsafe(no_mangle)]
 pub extern "C" fn mls_office_open_sessions(
     office: &mut MlsOffice,
