@@ -140,7 +140,7 @@ ACCESSES = [
     "/accesses/0/modes/0: no such mode", "/accesses/0/object: no such object", "/accesses/0/modes/0: discretionary",
     "/accesses/0/modes/1: discretionary",
 ]
-STANDARD_ACCESSES = ["star", "discretionary", "integrity"]
+STANDARD_ACCESSES = ["star", "discretionary", "integrity", "integrity", "discretionary"]
 
 PROFILES = [*times(18, "/profile: not 1 or 2"), "/: line 1, column 12", "/: line 1, column 12"]
 
