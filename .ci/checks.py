@@ -23,7 +23,7 @@ from rooms import TOP, draw, listed, minutes, processors
 FILES, PROGRAM, PROOF, MINUTES = range(4)
 # About how many seconds of a processor it takes, over a trial where that is enough: those that take longest begin.
 Check = collections.namedtuple("Check", "name words needs seconds")
-CHECKS = [Check("library", (".ci/check-c", ), PROOF, 900), Check("refusals", (".ci/check-refusals", ), MINUTES, 150),
+CHECKS = [Check("library", (".ci/check-c", ), PROOF, 900), Check("refusals", (".ci/check-refusals", ), MINUTES, 400),
           Check("fuzzers", (".ci/fuzz", "--short"), PROGRAM, 200),
           Check("service", (".ci/check-durable", "lines", "marks"), PROGRAM, 190),
           Check("segments", (".ci/check-durable", "segments"), PROGRAM, 180),
