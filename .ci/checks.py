@@ -31,7 +31,6 @@ CHECKS = [Check("library", (".ci/check-c", ), PROOF, 900), Check("refusals", (".
           Check("questions", (".ci/check-questions", "rows"), PROGRAM, 160),
           Check("worlds", (".ci/check-questions", "worlds"), PROGRAM, 150),
           Check("rows", (".ci/check-rows", ), PROGRAM, 90), Check("runs", (".ci/check-runs", ), PROGRAM, 80),
-          Check("memory", (".ci/check-memory", ), PROGRAM, 60),
           Check("starts", (".ci/check-starts", ), PROGRAM, 60), Check("program", (".ci/check-program", ), PROGRAM, 50),
           Check("scripts", (".ci/check-scripts", ), PROGRAM, 40),
           Check("versions", (".ci/check-versions", ), PROGRAM, 20),

@@ -55,6 +55,15 @@ pub fn open_monitor(rt: &HostRuntime, file: &[u8]) -> Option<Monitor> {
     }
 }
 
+/// The same, again where memory ran out.
+pub fn monitor_again(rt: &HostRuntime, file: &[u8]) -> io::Result<Option<Monitor>> {
+    if let Some(monitor) = open_monitor(rt, file) {
+        return Ok(Some(monitor));
+    }
+    println!(rt; "a monitor: out of memory")?;
+    Ok(open_monitor(rt, file))
+}
+
 /// Prints what stands in a monitor: the length of its journal, the next object, and whether the first subject writes
 /// the root.
 pub fn show_monitor(rt: &impl Print, monitor: &Monitor) -> io::Result<()> {

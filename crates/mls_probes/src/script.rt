@@ -1,13 +1,14 @@
 //! A script that is fed: each call of its feed with what it gives, and what it comes to.
 ghost use Rattle.std.specs.Prelude.{◌≤◌, ◌<◌, length};
 
+use crate::calls::show_run;
 use crate::monitors::request;
 use mls_monitor::{Entry, Monitor};
 use mls_requests::{Ask, Reply};
-use mls_runs::{MAX_SCRIPTS, Names, RunText, ScriptFeed, done_text, make_feeds, read_start};
+use mls_runs::{MAX_SCRIPTS, Names, ScriptFeed, done_text, make_feeds, read_start};
 use mls_sessions::{Answer, Feed};
 use mls_tables::ObjectId;
-use std::{io, str};
+use std::io;
 
 /// Five asks; a line that asks nothing; an ask that binds a variable; two asks; one that binds a variable, and one that
 /// names it; and a line that asks nothing.
@@ -89,16 +90,6 @@ fn play(rt: &impl Print, feed: &mut ScriptFeed<'_>) -> io::Result<()> {
         asked = asked.wrapping_add(given);
     }
     Ok(())
-}
-
-/// Prints what a run printed, and its journal.
-fn show_run(rt: &impl Print, run: &RunText) -> io::Result<()> {
-    let output = str::from_utf8(&run.output).unwrap_or("no text");
-    print!(rt; "{output}")?;
-    match &run.journal {
-        Some(text) => print!(rt; "{text}"),
-        None => println!(rt; "no journal"),
-    }
 }
 
 /// Prints what feeds come to over a monitor, and returns whether it was out of memory.

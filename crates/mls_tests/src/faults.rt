@@ -1,13 +1,9 @@
-//! The lines of faults that no file has: a label of a file is within its bounds, and a cell names what is there. And
-//! the texts of faults that the program tells in words of its own.
+//! The lines of faults that no file has: a label of a file is within its bounds, and a cell names what is there.
 use crate::seen::sees;
 use mls_replay::{CommandFault, status, write_fault};
-use mls_sessions::OfficeFaultKind;
 use mls_start::StartFault;
 use mls_start_file::LoadFault;
 use std::alloc::Global;
-use std::fmt::Display;
-use std::process::Abort;
 
 /// Faults of a start in the file `s.json`, and their lines.
 const LINES: [(StartFault, &str); 2] = [
@@ -46,28 +42,4 @@ fn faults_that_no_file_has_have_their_lines(rt: HostRuntime) {
         let is_right = is_told(rt.alloc(), fault, line);
         sees(&rt, is_right && status(fault) == 1, line);
     }
-}
-
-/// Asserts what the text of a fault is.
-fn reads(rt: &impl Abort, alloc: Global, fault: impl Display + Drop, wanted: &str) {
-    let is_right = match format!(in alloc; "{fault}") {
-        Ok(text) => {
-            let is_right = text.as_str() == wanted;
-            drop(text);
-            is_right
-        }
-        Err(_) => false,
-    };
-    sees(rt, is_right, wanted);
-}
-
-#[test]
-fn faults_without_memory_have_their_texts(rt: HostRuntime) {
-    reads(&rt, rt.alloc(), LoadFault::Memory, "out of memory");
-    reads(&rt, rt.alloc(), OfficeFaultKind::Memory, "out of memory");
-    reads(&rt, rt.alloc(), CommandFault::Memory, "out of memory");
-    let thread = CommandFault::Thread;
-    reads(&rt, rt.alloc(), thread, "a thread couldn't be started");
-    let are_one = status(CommandFault::Memory) == 1 && status(CommandFault::Thread) == 1;
-    sees(&rt, are_one, "the status");
 }
